@@ -1,0 +1,4 @@
+pub mod Tells
+pub mod Chain
+pub mod Passed
+pub mod Endings

@@ -1,0 +1,51 @@
+-- From "done" to the facts: a call that is done has passed each of its checks. Assumes nothing.
+use mathlib.Core.Bool.{Bool, true, false, cond, not}
+use mathlib.Core.List.{List, [], _∷_}
+use mathlib.Core.Path.{_≡_, refl, sym, ap, subst, _∙_}
+use Prim.Native.Nat.{ℕ, _+_, _*_, _/_, _%_, _≤_}
+use native.Mathlib.Nat.{div-add-mod}
+use native.Mathlib.Omega.{arith}
+use borrow.Author.Tests.{ltb-false, eqb-true, not-false}
+use lib.Dec.{T, ltb, eqb}
+use Rattle.answers.specs.declared.err.Refusal.{Refusal}
+use Rattle.answers.specs.Answers.{answerOf, done}
+use Rattle.answers.specs.Checks.{Check, firstOf}
+
+passed : (b : Bool) (x y : Refusal) → done x ≡ false → done (cond b x y) ≡ true → (b ≡ false) × (done y ≡ true)
+passed true x y p q = let z : true ≡ false = sym q ∙ p in absurd (subst T z tt)
+passed false x y p q = (refl, q)
+
+-- each check of the list refuses with what no done call says
+abbrev pub Refusing : List Check → Type 0
+Refusing [] = Unit {0}
+Refusing (p ∷ rest) = (done (p .1) ≡ false) × Refusing rest
+
+-- each check of the list lets by
+abbrev pub Passing : List Check → Type 0
+Passing [] = Unit {0}
+Passing (p ∷ rest) = (p .0 ≡ false) × Passing rest
+
+pub passing : (l : List Check) (s : Refusal) → Refusing l → done (firstOf l s) ≡ true → Passing l
+passing [] s r h = tt
+passing (p ∷ rest) s r h =
+    let q = passed (p .0) (p .1) (firstOf rest s) (r .0) h in
+    (q .0, passing rest s (r .1) (q .1))
+
+-- and a call whose checks all let by says s
+pub through : (l : List Check) (s : Refusal) → Passing l → firstOf l s ≡ s
+through [] s h = refl
+through (p ∷ rest) s h = ap (λ t. cond t (p .1) (firstOf rest s)) (h .0) ∙ through rest s (h .1)
+
+-- what a byte length that is not ragged tells
+pub whole : (k b : ℕ) → not (eqb (b % k) 0) ≡ false → b ≡ k * (b / k)
+whole k b h =
+    let z : b % k ≡ 0 = eqb-true (b % k) 0 (not-false (eqb (b % k) 0) h) in
+    omega (arith, div-add-mod b k)
+
+-- what an area that is not tight tells
+pub roomy : (have need : ℕ) → ltb have need ≡ false → need ≤ have
+roomy have need h = ltb-false have need h
+
+-- what a length that is not wrong tells
+pub right : (x y : ℕ) → not (eqb x y) ≡ false → x ≡ y
+right x y h = eqb-true x y (not-false (eqb x y) h)

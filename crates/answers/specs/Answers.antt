@@ -1,0 +1,44 @@
+-- Document 01, "Numbers of refusal": the number and the two values that each case gives to the desk. A reader holds this against the table.
+-- Assumes nothing: these are definitions.
+use mathlib.Core.Bool.{Bool}
+use mathlib.Core.List.{List, [], _∷_}
+use Prim.Native.Nat.{ℕ}
+use lib.Dec.{eqb}
+use lib.ListN.{getD}
+use Rattle.answers.specs.declared.err.Refusal.{Refusal}
+use Rattle.answers.specs.declared.err.Refusal.the-variants.{Done, MinFilterSize, ApproxSizeNotMatches, OutputSizeIsNotValid, BufferWasTooSmallForLevel, ZeroedBaseSize, TooLong, NoRoom, OtherWidth, BadCount, CutShort, OtherPoint, Trailing, NoSuchPlace}
+use Rattle.answers.specs.declared.err.Answer.{Answer}
+
+abbrev pub say : ℕ → ℕ → ℕ → Answer
+say n a b = record { number = n; first = a; second = b }
+
+-- the table: 0, 0 where it names no value
+abbrev pub answerOf : Refusal → Answer
+answerOf (Done a b) = say 0 a b
+answerOf (MinFilterSize a b) = say 1 a b
+answerOf (ApproxSizeNotMatches a b) = say 2 a b
+answerOf (OutputSizeIsNotValid a b) = say 3 a b
+answerOf BufferWasTooSmallForLevel = say 4 0 0
+answerOf ZeroedBaseSize = say 5 0 0
+answerOf TooLong = say 6 0 0
+answerOf (NoRoom a b) = say 7 a b
+answerOf (OtherWidth a b) = say 8 a b
+answerOf (BadCount a b) = say 9 a b
+answerOf (CutShort a) = say 10 a 0
+answerOf (OtherPoint a b) = say 11 a b
+answerOf (Trailing a) = say 12 a 0
+answerOf (NoSuchPlace a b) = say 13 a b
+
+-- the cases in the order of their numbers, with the values a and b where a case carries them
+abbrev pub cases : ℕ → ℕ → List Refusal
+cases a b =
+    Done a b ∷ MinFilterSize a b ∷ ApproxSizeNotMatches a b ∷ OutputSizeIsNotValid a b ∷ BufferWasTooSmallForLevel ∷ ZeroedBaseSize ∷ TooLong
+    ∷ NoRoom a b ∷ OtherWidth a b ∷ BadCount a b ∷ CutShort a ∷ OtherPoint a b ∷ Trailing a ∷ NoSuchPlace a b ∷ []
+
+-- the case that three numbers tell
+abbrev pub refusalOf : Answer → Refusal
+refusalOf r = getD (cases (r .first) (r .second)) (r .number) TooLong
+
+-- whether a call that says this is done: its number is 0
+abbrev pub done : Refusal → Bool
+done s = eqb (answerOf s .number) 0

@@ -1,0 +1,6 @@
+pub mod LeLaws
+pub mod Words
+pub mod Fronts
+pub mod Diff
+pub mod IntegerLaws
+pub mod FloatLaws

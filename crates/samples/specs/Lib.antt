@@ -1,0 +1,4 @@
+pub mod Le
+pub mod Words
+pub mod Integers
+pub mod Floats

@@ -1,0 +1,77 @@
+ghost use mathlib.Core.Path.{_≡_};
+ghost use Prim.Native.Nat.{_/_, _<_};
+ghost use lib.ListN.{length};
+ghost use lib.Ieee.{binary32, binary64, ofBits, toBits};
+ghost use Rattle.samples.specs.Floats.{floatAt, putFloat};
+use crate::le::read_u32;
+use crate::le::read_u64;
+use crate::le::write_u32;
+use crate::le::write_u64;
+
+// The float of any bit pattern: every NaN's gives the one NaN.
+pub fn f32_of(n: u32) -> f32
+    ensures { λ r. ⌜ r ≡ ofBits binary32 n ⌝ }
+{
+    if n % 0x8000_0000 > 0x7F80_0000 {
+        0.0 / 0.0
+    } else {
+        f32::from_bits(n)
+    }
+}
+
+pub fn f64_of(n: u64) -> f64
+    ensures { λ r. ⌜ r ≡ ofBits binary64 n ⌝ }
+{
+    if n % 0x8000_0000_0000_0000 > 0x7FF0_0000_0000_0000 {
+        0.0 / 0.0
+    } else {
+        f64::from_bits(n)
+    }
+}
+
+// The bit pattern of any float: the NaN's is one fixed pattern.
+pub fn f32_bits(x: f32) -> u32
+    ensures { λ r. ⌜ r ≡ toBits binary32 x ⌝ }
+{
+    if x != x { 0x7FC0_0000 } else { f32::to_bits(x) }
+}
+
+pub fn f64_bits(x: f64) -> u64
+    ensures { λ r. ⌜ r ≡ toBits binary64 x ⌝ }
+{
+    if x != x {
+        0x7FF8_0000_0000_0000
+    } else {
+        f64::to_bits(x)
+    }
+}
+
+// Float i of a slice.
+pub fn get_f32(s: &[u8], i: usize) -> f32
+    requires { ⌜ i < length (now s) / 4 ⌝ }
+    ensures { λ r. ⌜ r ≡ floatAt binary32 (now (s .entry)) i ⌝ }
+{
+    f32_of(read_u32(s, 4 * i))
+}
+
+pub fn get_f64(s: &[u8], i: usize) -> f64
+    requires { ⌜ i < length (now s) / 8 ⌝ }
+    ensures { λ r. ⌜ r ≡ floatAt binary64 (now (s .entry)) i ⌝ }
+{
+    f64_of(read_u64(s, 8 * i))
+}
+
+// The float x as float i of a slice.
+pub fn put_f32(s: &mut [u8], i: usize, x: f32)
+    requires { ⌜ i < length (now s) / 4 ⌝ }
+    ensures { λ _. ⌜ now (s .exit) ≡ putFloat binary32 (now (s .entry)) i x ⌝ }
+{
+    write_u32(s, 4 * i, f32_bits(x));
+}
+
+pub fn put_f64(s: &mut [u8], i: usize, x: f64)
+    requires { ⌜ i < length (now s) / 8 ⌝ }
+    ensures { λ _. ⌜ now (s .exit) ≡ putFloat binary64 (now (s .entry)) i x ⌝ }
+{
+    write_u64(s, 8 * i, f64_bits(x));
+}

@@ -1,0 +1,106 @@
+-- The depth: it is the largest number of levels that run, and one turn of the count. Over the smallest input m, which is at least 2.
+-- Assumes nothing.
+use mathlib.Core.Bool.{Bool, true, false, cond}
+use mathlib.Core.Logic.{_⊎_, inl, inr, ⊎-elim}
+use mathlib.Core.Path.{_≡_, refl, sym, ap, _∙_}
+use Prim.Native.Nat.{ℕ, zero, suc, _+_, _-_, _*_, _/_, _^_, _≤_, _<_}
+use native.Mathlib.Nat.{pow-succ'}
+use native.Mathlib.Decide.{decLt}
+use native.Mathlib.Omega.{arith}
+use borrow.Author.Tests.{le-ltb, lt-ltb}
+use lib.Dec.{ltb}
+use lib.Pow.{pow-pos}
+use Rattle.sizes.specs.declared.Wavelet.{Wavelet}
+use Rattle.sizes.specs.declared.Wavelet.the-variants.{Cdf53, Cdf97}
+use Rattle.sizes.specs.Bands.{smallestOf, ups}
+use Rattle.sizes.specs.Levels.{places, Runs, depthWithin, depthFrom, depthOf}
+
+pub lt-or-le : (a b : ℕ) → (a < b) ⊎ (b ≤ a)
+lt-or-le a b = elim (decLt a b) [ yes h ↦ inl h | no h ↦ inr (omega arith) ]
+
+-- an input that is too short has no level
+none-within : (k m n : ℕ) → n < m → depthWithin k m n ≡ 0
+unfolding depthWithin
+none-within zero m n h = refl
+none-within (suc k) m n h = simp (lt-ltb n m h)
+
+-- past the number itself, how far is counted makes no difference
+enough : (k j m n : ℕ) → 2 ≤ m → n ≤ k → n ≤ j → depthWithin k m n ≡ depthWithin j m n
+unfolding depthWithin
+enough zero j m n h p q = sym (none-within j m n (omega arith))
+enough (suc k) zero m n h p q = none-within (suc k) m n (omega arith)
+enough (suc k) (suc j) m n h p q =
+    ⊎-elim
+    (λ l. simp (lt-ltb n m l))
+    (λ l. simp (le-ltb n m l) (ap suc (enough k j m (ups n) h (omega arith) (omega arith))))
+    (lt-or-le n m)
+
+-- one level more
+more-within : (k m n : ℕ) → n ≡ k → 2 ≤ m → m ≤ n → depthWithin k m n ≡ suc (depthWithin (ups n) m (ups n))
+unfolding depthWithin
+more-within zero m n e t h = absurd (let z : 1 ≤ 0 = omega arith in omega arith)
+more-within (suc k) m n e t h = simp (le-ltb n m h) (ap suc (enough k (ups n) m (ups n) t (omega arith) (omega arith)))
+
+-- each input of levels that run is long enough
+runs-places : (m l j n : ℕ) → Runs m l n → j < l → m ≤ places j n
+unfolding Runs places
+runs-places m zero j n r h = absurd (omega arith)
+runs-places m (suc l) zero n r h = r .0
+runs-places m (suc l) (suc j) n r h = runs-places m l j (ups n) (r .1) (omega arith)
+
+module _ (m : ℕ) (t : 2 ≤ m) where
+  -- an input that is too short has no level
+  pub too-short : (n : ℕ) → n < m → depthFrom m n ≡ 0
+  unfolding depthFrom
+  too-short n h = none-within n m n h
+
+  -- one level, and then those of its approximations
+  pub one-more : (n : ℕ) → m ≤ n → depthFrom m n ≡ suc (depthFrom m (ups n))
+  unfolding depthFrom
+  one-more n h = more-within n m n refl t h
+
+  -- one level within the depth: its input is long enough, and its approximations have the rest
+  pub step : (l n : ℕ) → suc l ≤ depthFrom m n → (m ≤ n) × (l ≤ depthFrom m (ups n))
+  step l n h =
+      ⊎-elim
+      (λ b. absurd (omega (arith, too-short n b)))
+      (λ b. (b, omega (arith, one-more n b)))
+      (lt-or-le n m)
+
+  -- the depth is the largest number of levels that run: those up to it run, and no more
+  pub depth-runs : (l n : ℕ) → l ≤ depthFrom m n → Runs m l n
+  unfolding Runs
+  depth-runs zero n h = tt
+  depth-runs (suc l) n h = let s = step l n h in (s .0, depth-runs l (ups n) (s .1))
+
+  pub runs-depth : (l n : ℕ) → Runs m l n → l ≤ depthFrom m n
+  unfolding Runs
+  runs-depth zero n r = omega arith
+  runs-depth (suc l) n r = omega (arith, one-more n (r .0), runs-depth l (ups n) (r .1))
+
+  -- at each level within the depth the input is long enough
+  pub long-enough : (l j n : ℕ) → l ≤ depthFrom m n → j < l → m ≤ places j n
+  long-enough l j n h k = runs-places m l j n (depth-runs l n h) k
+
+  -- one turn of the loop that counts: what is left has one level less
+  pub depth-turn : (n left levels : ℕ) → levels + depthFrom m left ≡ depthFrom m n → m ≤ left → levels + 1 + depthFrom m (left - left / 2) ≡ depthFrom m n
+  depth-turn n left levels e h =
+      let u : left - left / 2 ≡ ups left = omega arith in
+      omega (arith, one-more left h, ap (depthFrom m) u)
+
+  -- and its end
+  pub depth-end : (n left levels : ℕ) → levels + depthFrom m left ≡ depthFrom m n → left < m → levels ≡ depthFrom m n
+  depth-end n left levels e h = omega (arith, too-short left h)
+
+pub two-below : (w : Wavelet) → 2 ≤ smallestOf w
+two-below Cdf53 = omega arith
+two-below Cdf97 = omega arith
+
+-- the 5/3 depth of a power of two
+pub depth-power : (k : ℕ) → depthOf Cdf53 (2 ^ suc k) ≡ k
+depth-power zero = too-short 3 (omega arith) 2 (omega arith)
+depth-power (suc k) =
+    let e : 2 ^ suc (suc k) ≡ 2 * 2 ^ suc k = pow-succ' 2 (suc k) in
+    let p : 2 ≤ 2 ^ suc k = omega (arith, pow-succ' 2 k, pow-pos k) in
+    let h : ups (2 ^ suc (suc k)) ≡ 2 ^ suc k = omega arith in
+    one-more 3 (omega arith) (2 ^ suc (suc k)) (omega arith) ∙ ap (λ n. suc (depthFrom 3 n)) h ∙ ap suc (depth-power k)

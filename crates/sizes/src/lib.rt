@@ -1,0 +1,119 @@
+// How many samples and coefficients there are: limits, bands, levels and depth. Document 01, "Many levels".
+ghost use mathlib.Core.Path.{_≡_};
+ghost use Prim.Native.Nat.{max};
+ghost use Rattle.answers.specs.Answers.{answerOf};
+ghost use Rattle.sizes.specs.Bands.{ups, downs, smallestOf, leastDetails, expectedApprox, expectedDetails};
+ghost use Rattle.sizes.specs.Levels.{places, depthOf, sayDepth, levelsOf};
+use answers::err::Answer;
+use answers::err::Refusal;
+use answers::err::numbers;
+
+// The most samples of a recording, and the most bytes of a pyramid file.
+pub const MOST_SAMPLES: usize = 16777216;
+
+pub const MOST_BYTES: usize = 67108974;
+
+// The two wavelets: they differ in the smallest input and in the fewest details of an inverse.
+pub enum Wavelet {
+    Cdf53,
+    Cdf97,
+}
+
+// The lengths of the two bands.
+pub struct DwtSize {
+    pub approx: usize,
+    pub details: usize,
+}
+
+// How many approximations n samples have.
+pub fn approx_length(n: usize) -> usize
+    ensures { λ r. ⌜ r ≡ ups n ⌝ }
+{
+    n - n / 2
+}
+
+// How many details n samples have.
+pub fn details_length(n: usize) -> usize
+    ensures { λ r. ⌜ r ≡ downs n ⌝ }
+{
+    n / 2
+}
+
+// The fewest samples that one level takes.
+pub fn smallest(w: Wavelet) -> usize
+    ensures { λ r. ⌜ r ≡ smallestOf w ⌝ }
+{
+    match w {
+        Wavelet::Cdf53 => 3,
+        Wavelet::Cdf97 => 4,
+    }
+}
+
+fn at_least(least: usize, n: usize) -> usize
+    ensures { λ r. ⌜ r ≡ max least n ⌝ }
+{
+    if n < least { least } else { n }
+}
+
+fn least_details(w: Wavelet) -> usize
+    ensures { λ r. ⌜ r ≡ leastDetails w ⌝ }
+{
+    match w {
+        Wavelet::Cdf53 => 1,
+        Wavelet::Cdf97 => 2,
+    }
+}
+
+// The lengths that an inverse to n samples expects of its two bands.
+pub fn dwt_size(w: Wavelet, n: usize) -> DwtSize
+    ensures { λ r. ⌜ (r .approx ≡ expectedApprox n) × (r .details ≡ expectedDetails w n) ⌝ }
+{
+    DwtSize {
+        approx: at_least(2, n - n / 2),
+        details: at_least(least_details(w), n / 2),
+    }
+}
+
+// Zero levels means one.
+pub fn at_least_one(levels: usize) -> usize
+    ensures { λ r. ⌜ r ≡ levelsOf levels ⌝ }
+{
+    if levels == 0 { 1 } else { levels }
+}
+
+// How many approximations n samples have after so many levels.
+pub fn places_of(levels: usize, n: usize) -> usize
+    ensures { λ r. ⌜ r ≡ places levels n ⌝ }
+{
+    let mut count = n;
+    let mut i = 0;
+    while i < levels {
+        count = count - count / 2;
+        i += 1;
+    }
+    count
+}
+
+// How many levels run on n samples before an input is too short.
+pub fn depth(w: Wavelet, n: usize) -> usize
+    ensures { λ r. ⌜ r ≡ depthOf w n ⌝ }
+{
+    let m = smallest(w);
+    let mut left = n;
+    let mut levels: usize = 0;
+    while m <= left {
+        left = left - left / 2;
+        levels += 1;
+    }
+    levels
+}
+
+// The depth as the desk asks for it: refused only for a length over the limit.
+pub fn ask_depth(w: Wavelet, n: usize) -> Answer
+    ensures { λ r. ⌜ r ≡ answerOf (sayDepth w n) ⌝ }
+{
+    if MOST_SAMPLES < n {
+        return numbers(Refusal::TooLong);
+    }
+    numbers(Refusal::Done(depth(w, n), 0))
+}
