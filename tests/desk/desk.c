@@ -49,15 +49,15 @@ static bk_answer call_n(function f, const struct arg *a) {
     return ((bk_answer(*)(uint64_t))f)(a[0].number);
 }
 
-static const struct shape n = {"n", call_n};
+static const struct shape shape_n = {"n", call_n};
 
 static const struct row {
     const char *name;
     const struct shape *shape;
     function call;
 } rows[] = {
-    {"cdf53_depth", &n, (function)bk_cdf53_depth},
-    {"cdf97_depth", &n, (function)bk_cdf97_depth},
+    {"cdf53_depth", &shape_n, (function)bk_cdf53_depth},
+    {"cdf97_depth", &shape_n, (function)bk_cdf97_depth},
 };
 
 // ---- writing
@@ -175,17 +175,17 @@ static void call(const struct row *row, struct arg *args) {
             put_saying("malformed", row->name, strlen(row->name));
             return;
         }
-    bk_answer answer = row->shape->call(row->call, args);
+    bk_answer said = row->shape->call(row->call, args);
     for (size_t i = 0; i < count; i++)
         if (!is_whole(kinds[i], &args[i])) {
             put_saying("broken", row->name, strlen(row->name));
             return;
         }
-    put_number(answer.number);
+    put_number(said.number);
     put(' ');
-    put_number(answer.first);
+    put_number(said.first);
     put(' ');
-    put_number(answer.second);
+    put_number(said.second);
     for (size_t i = 0; i < count; i++)
         if (kinds[i] == 'm') {
             put(' ');

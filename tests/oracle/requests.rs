@@ -12,7 +12,7 @@ use crate::{DwtExecutor, MultiLevelDwtRef};
 const LIMIT: usize = 16_777_216;
 const MOST_LENGTHS: usize = 23;
 // No slice of at most LIMIT samples has as many levels. The Rust's multi_dwt makes room for the levels
-// asked before it looks at the input, and would end the process at 2^32 of them.
+// asked before it looks at the input, and ends the process where there is none for billions of them.
 const TOO_MANY_LEVELS: usize = 32;
 
 // Why a call has no result: a refusal, a case of document 01 alone, or a request of another shape.
