@@ -1,0 +1,67 @@
+/*
+ * Beksanour: the numeric core of the review desk.
+ *
+ * Every call takes numbers and byte slices that the caller lends, each slice as a pointer and its length in bytes. It keeps
+ * no pointer, needs no heap, holds no state, and ends for every input with an answer: done, or one refusal. A refusal changes
+ * no lent byte. The slices of one call must not overlap where one of them is written. An empty slice still has a pointer that
+ * is not null.
+ *
+ * Link with libdesk.a (`rt staticlib desk` writes target/staticlib/libdesk.a, for x86-64).
+ */
+#ifndef BEKSANOUR_H
+#define BEKSANOUR_H
+
+#include <stddef.h>
+#include <stdint.h>
+
+#ifdef __cplusplus
+extern "C" {
+#endif
+
+/*
+ * What every call returns. `number` is 0 when the call is done, else the number of the first check that refused; the checks
+ * are made in the order in which a call's comment lists them. `first` and `second` are 0 unless the table, or a call that is
+ * done, says otherwise.
+ */
+typedef struct {
+    uint32_t number;
+    uint64_t first;
+    uint64_t second;
+} bk_answer;
+
+/* The refusals, with their two numbers. 14 to 19 are kept for later versions. */
+enum {
+    BK_DONE = 0,
+    BK_MIN_FILTER_SIZE = 1,                /* the input is too short: its samples, the smallest input */
+    BK_APPROX_SIZE_NOT_MATCHES = 2,        /* a band's length is wrong: see the call */
+    BK_OUTPUT_SIZE_IS_NOT_VALID = 3,       /* the output's length is wrong: got, wanted */
+    BK_BUFFER_WAS_TOO_SMALL_FOR_LEVEL = 4, /* the recording has too few levels */
+    BK_ZEROED_BASE_SIZE = 5,               /* no details list, or no approximations */
+    BK_TOO_LONG = 6,                       /* a length above its limit */
+    BK_NO_ROOM = 7,                        /* a lent area is too short: have, need */
+    BK_OTHER_WIDTH = 8,                    /* the file's width is not the one asked: the file's, asked */
+    BK_BAD_COUNT = 9,                      /* a count is wrong: section, found;
+                                              a byte length that is no whole number of samples: 0, the length */
+    BK_CUT_SHORT = 10,                     /* the file ends before section 1 is whole: its length, 0 */
+    BK_OTHER_POINT = 11,                   /* the file's point is not the one asked: the file's, asked */
+    BK_TRAILING = 12,                      /* bytes after the last section: how many, 0 */
+    BK_NO_SUCH_PLACE = 13                  /* a place outside its range: the place, the limit */
+};
+
+/* The most samples of a recording, and the most bytes of a pyramid file. */
+#define BK_MOST_SAMPLES 16777216
+#define BK_MOST_BYTES 67108974
+
+/*
+ * How many levels a recording of n samples has: how many run before an input has fewer than 3 samples (5/3) or 4 (9/7).
+ * Done: first is the depth. Refused: 6 (n over 16,777,216), and nothing else.
+ * For example 5/3: 0 at 2, 1 at 3 and 4, 2 at 5 to 8, 23 at 16,777,216; 9/7: 0 at 3, 1 at 4 to 6, 2 at 7 to 12.
+ */
+bk_answer bk_cdf53_depth(uint64_t n);
+bk_answer bk_cdf97_depth(uint64_t n);
+
+#ifdef __cplusplus
+}
+#endif
+
+#endif
