@@ -1,3 +1,4 @@
+pub mod Order
 pub mod Tells
 pub mod Chain
 pub mod Passed

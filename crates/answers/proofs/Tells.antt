@@ -1,9 +1,8 @@
 -- The three numbers tell the refusal: which check it was, and the values that it carries. Assumes nothing.
 use mathlib.Core.Path.{_≡_, refl, sym, ap, _∙_}
-use lib.ListN.{getD}
 use Rattle.answers.specs.declared.err.Refusal.{Refusal}
 use Rattle.answers.specs.declared.err.Refusal.the-variants.{Done, MinFilterSize, ApproxSizeNotMatches, OutputSizeIsNotValid, BufferWasTooSmallForLevel, ZeroedBaseSize, TooLong, NoRoom, OtherWidth, BadCount, CutShort, OtherPoint, Trailing, NoSuchPlace}
-use Rattle.answers.specs.Answers.{say, answerOf, cases, refusalOf}
+use Rattle.answers.specs.Answers.{say, answerOf, refusalOf}
 
 -- the refusal is read back from its numbers
 pub tells : (r : Refusal) → refusalOf (answerOf r) ≡ r

@@ -1,6 +1,6 @@
 -- Whole numbers as differences a - b of naturals, `subℕ a b`: sums, floors and residues of them, each as a fact of naturals, which `omega` reads.
 -- Assumes nothing.
-use mathlib.Core.Path.{_≡_, refl, sym, ap, ap₂, _∙_}
+use mathlib.Core.Path.{_≡_, refl, sym, ap, _∙_}
 use mathlib.Core.Logic.{⊎-elim}
 use Prim.Native.Nat.{ℕ, zero, suc, _+_, _-_, _*_, _/_, _%_, _≤_, _<_}
 use native.Mathlib.Nat.{mod-lt, mod-eq-of-lt, mod-eq-sub-mod, mod-add-mod, add-mod-mod, zero-mod, add-mod-right, add-mul-mod-self-left, div-add-mod}
@@ -8,8 +8,8 @@ use native.Mathlib.Omega.{arith}
 use borrow.Author.Tests.{lt-ltb, le-ltb}
 use lib.IntN.{ℤ, pos, negsuc, subℕ, negℤ, _+ℤ_, _-ℤ_}
 use lib.Signed.{shrZ}
-use Rattle.samples.specs.Integers.{val, residue}
-use Rattle.samples.proofs.Words.{lt-or-le}
+use Rattle.answers.proofs.Order.{lt-or-le}
+use Rattle.samples.specs.Integers.{residue}
 
 pub sub-ge : (a b : ℕ) → b ≤ a → subℕ a b ≡ pos (a - b)
 sub-ge a b h = rw (le-ltb a b h)

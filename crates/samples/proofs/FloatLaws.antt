@@ -1,9 +1,9 @@
 -- Laws of floats in bytes, once over the format: NaN both ways, what was put is read, floats to bytes and back, and lengths.
 -- Assumes nothing.
-use mathlib.Core.Bool.{Bool, true, false, not}
+use mathlib.Core.Bool.{true, false, not}
 use mathlib.Core.List.{List, map, map-map}
 use mathlib.Core.Path.{_≡_, refl, sym, ap, subst, _∙_}
-use Prim.Native.Nat.{ℕ, _+_, _*_, _/_, _%_, _^_, _≤_, _<_}
+use Prim.Native.Nat.{ℕ, _*_, _/_, _%_, _^_, _≤_, _<_}
 use native.Mathlib.Nat.{mod-eq-of-lt}
 use native.Mathlib.Omega.{arith}
 use lib.Dec.{T, lit<, ltb, ltb→lt, lt→ltb, not-T}
@@ -11,8 +11,7 @@ use lib.ListN.{length, getD, length-map}
 use lib.Ieee.{Float, nan, inf, fin, Format, binary32, binary64, hid, ones, top, isNan, nanBits, ofBits, toBits, fits, ne, div}
 use lib.Ieee.Bits.{nanBits-is, nanBits-above, ofBits-toBits, toBits-ofBits, toBits-lt, ofBits-fits}
 use lib.Ieee.Compare.{nan-differs, differs-from-itself}
-use Rattle.samples.specs.Le.{Bytes}
-use Rattle.samples.specs.Words.{tabulate, wordAt, wordsOf, bytesOf, Holds}
+use Rattle.samples.specs.Words.{tabulate, wordAt, wordsOf, bytesOf}
 use Rattle.samples.specs.Floats.{width, floatAt, putFloat, decodeFloats, encodeFloats, canonical}
 use Rattle.samples.proofs.Words.{getD-tabulate, tabulate-same, map-tabulate, put-same, put-other, length-put, length-words, length-bytes, words-bytes}
 

@@ -1,19 +1,20 @@
 -- Laws of samples in bytes, once over the width: words and the numbers that they stand for, samples to bytes and back, and lengths.
 -- Assumes nothing.
 use mathlib.Core.Path.{_≡_, refl, sym, ap, _∙_}
-use mathlib.Core.List.{List, map, map-map, map-id}
+use mathlib.Core.List.{List, map}
 use mathlib.Core.Logic.{⊎-elim, inl, inr}
-use Prim.Native.Nat.{ℕ, suc, _+_, _-_, _*_, _/_, _%_, _^_, _≤_, _<_}
+use Prim.Native.Nat.{ℕ, _+_, _-_, _*_, _/_, _%_, _^_, _<_}
 use native.Mathlib.Nat.{mod-lt, mod-eq-of-lt, mod-eq-sub-mod, mod-mod}
 use native.Mathlib.Omega.{arith}
 use borrow.Author.Tests.{lt-ltb, le-ltb}
 use lib.IntN.{ℤ, pos, negsuc, subℕ}
 use lib.ListN.{length, getD, length-map}
+use Rattle.answers.proofs.Order.{lt-or-le}
 use Rattle.samples.specs.Le.{Bytes}
 use Rattle.samples.specs.Words.{tabulate, wordAt, wordsOf, bytesOf, Holds}
 use Rattle.samples.specs.Integers.{val, residue, wrap, decode, encode, quarter, Width}
 use Rattle.samples.proofs.LeLaws.{top-pos}
-use Rattle.samples.proofs.Words.{lt-or-le, length-tabulate, getD-tabulate, tabulate-same, map-tabulate, word-lt, length-words, getD-words, length-bytes, words-bytes, bytes-words}
+use Rattle.samples.proofs.Words.{getD-tabulate, tabulate-same, map-tabulate, word-lt, length-words, length-bytes, words-bytes, bytes-words}
 use Rattle.samples.proofs.Diff.{sub-ge, sub-lt, residue-sub}
 
 -- ---- the widths

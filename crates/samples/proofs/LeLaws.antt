@@ -3,12 +3,12 @@
 use mathlib.Core.Path.{_≡_, refl, sym, ap, ap₂, _∙_}
 use mathlib.Core.List.{List, [], _∷_, _++_, append-assoc}
 use Prim.Native.Nat.{ℕ, zero, suc, _+_, _-_, _*_, _/_, _%_, _^_, _≤_, _<_}
-use native.Mathlib.Nat.{add-assoc, add-zero, zero-add, suc-add, mul-assoc, mul-add, pow-suc, pow-succ', mod-one, mod-eq-of-lt, div-div-eq-div-mul, one-mul}
+use native.Mathlib.Nat.{add-assoc, add-zero, zero-add, suc-add, mul-assoc, pow-suc, pow-succ', mod-one, div-div-eq-div-mul}
 use native.Mathlib.Numerals.{add-one}
 use native.Mathlib.Omega.{arith}
 use lib.Arith.{mod-mul}
-use lib.ListN.{length, getD, take, drop, set, length-append, length-drop, List·getD-append}
-use lib.Seq.{sets, sets-eq, length-sets, getD-append-add, getD-drop, getD-take, getD-set-other, drop-cons, length-take-le, take-at, drop-at}
+use lib.ListN.{length, getD, take, drop, set, List·getD-append}
+use lib.Seq.{sets, sets-eq, length-sets, getD-append-add, getD-drop, getD-take, getD-set-other, drop-cons, length-take-le}
 use Rattle.samples.specs.Le.{leAt, leBytes, stored, Bytes}
 
 pub top-pos : (k : ℕ) → 0 < 256 ^ k

@@ -1,20 +1,17 @@
 -- Laws of words in bytes, once over the width: lengths, what was put is read, other words stay, and words to bytes and back.
 -- Assumes nothing.
-use mathlib.Core.Path.{_≡_, refl, sym, ap, ap₂, _∙_}
+use mathlib.Core.Path.{_≡_, refl, sym, ap, _∙_}
 use mathlib.Core.List.{List, [], _∷_, _++_, map, map-append, append-assoc, append-nil}
-use mathlib.Core.Logic.{_⊎_, inl, inr, ⊎-elim}
+use mathlib.Core.Logic.{⊎-elim}
 use Prim.Native.Nat.{ℕ, zero, suc, _+_, _-_, _*_, _/_, _%_, _^_, _≤_, _<_}
-use native.Mathlib.Decide.{decLt}
-use native.Mathlib.Nat.{mul-suc, mul-zero, mul-comm, suc-mul, mul-div-right, div-le-self, div-mul-le-self, mul-le-mul-right, mul-le-mul-left, le-trans, le-of-suc-le-suc, not-suc-le-zero, mod-eq-of-lt, zero-add}
+use native.Mathlib.Nat.{mul-suc, mul-zero, mul-comm, suc-mul, mul-div-right, div-le-self, div-mul-le-self, mul-le-mul-right, mul-le-mul-left, le-trans, le-of-suc-le-suc, not-suc-le-zero, mod-eq-of-lt}
 use native.Mathlib.Omega.{arith}
-use lib.ListN.{length, getD, take, drop, length-append, length-map, List·getD-append}
+use lib.ListN.{length, getD, take, drop, length-append, List·getD-append}
 use lib.Seq.{ext-getD, getD-at, take-add, take-all}
-use Rattle.samples.specs.Le.{leAt, leBytes, stored, Bytes}
+use Rattle.answers.proofs.Order.{lt-or-le}
+use Rattle.samples.specs.Le.{leBytes, Bytes}
 use Rattle.samples.specs.Words.{tabulate, wordAt, putAt, wordsOf, bytesOf, Holds}
 use Rattle.samples.proofs.LeLaws.{leAt-skip, leAt-bytes, leAt-lt, length-leBytes, leBytes-at, length-stored, stored-read, stored-before, stored-after}
-
-pub lt-or-le : (a b : ℕ) → (a < b) ⊎ (b ≤ a)
-lt-or-le a b = elim (decLt a b) [ yes h ↦ inl h | no h ↦ inr (omega arith) ]
 
 -- ---- tables
 

@@ -1,22 +1,17 @@
 -- The depth: it is the largest number of levels that run, and one turn of the count. Over the smallest input m, which is at least 2.
 -- Assumes nothing.
-use mathlib.Core.Bool.{Bool, true, false, cond}
-use mathlib.Core.Logic.{_⊎_, inl, inr, ⊎-elim}
+use mathlib.Core.Logic.{⊎-elim}
 use mathlib.Core.Path.{_≡_, refl, sym, ap, _∙_}
 use Prim.Native.Nat.{ℕ, zero, suc, _+_, _-_, _*_, _/_, _^_, _≤_, _<_}
 use native.Mathlib.Nat.{pow-succ'}
-use native.Mathlib.Decide.{decLt}
 use native.Mathlib.Omega.{arith}
 use borrow.Author.Tests.{le-ltb, lt-ltb}
-use lib.Dec.{ltb}
 use lib.Pow.{pow-pos}
+use Rattle.answers.proofs.Order.{lt-or-le}
 use Rattle.sizes.specs.declared.Wavelet.{Wavelet}
 use Rattle.sizes.specs.declared.Wavelet.the-variants.{Cdf53, Cdf97}
 use Rattle.sizes.specs.Bands.{smallestOf, ups}
 use Rattle.sizes.specs.Levels.{places, Runs, depthWithin, depthFrom, depthOf}
-
-pub lt-or-le : (a b : ℕ) → (a < b) ⊎ (b ≤ a)
-lt-or-le a b = elim (decLt a b) [ yes h ↦ inl h | no h ↦ inr (omega arith) ]
 
 -- an input that is too short has no level
 none-within : (k m n : ℕ) → n < m → depthWithin k m n ≡ 0

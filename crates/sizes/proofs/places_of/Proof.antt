@@ -1,6 +1,6 @@
 -- `places_of` meets its contract. The invariant: after i levels, `count` approximations. Assumes nothing.
 use Prim.Native.Nat.{_-_, _≤_}
-use mathlib.Core.Path.{_≡_, refl, sym, ap, _∙_}
+use mathlib.Core.Path.{_≡_, refl, ap, _∙_}
 use native.Mathlib.Omega.{arith}
 use Rattle.sizes.specs.Levels.{places}
 use Rattle.sizes.proofs.Counts.{places-turn}

@@ -1,7 +1,6 @@
 -- `get` meets its contract, one case for each width. Assumes nothing.
 use borrow.Author.Needs.{needs}
 use Prim.Native.Nat.{_*_, _+_, _≤_}
-use mathlib.Core.Path.{_∙_, sym}
 use native.Mathlib.Nat.{one-mul}
 use native.Mathlib.Omega.{arith}
 use lib.ListN.{length}

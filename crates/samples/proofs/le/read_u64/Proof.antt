@@ -1,6 +1,6 @@
 -- `read_u64` meets its contract: a lower and an upper half. Assumes nothing.
 use borrow.Author.Needs.{needs}
-use mathlib.Core.Path.{_∙_, sym}
+use mathlib.Core.Path.{sym}
 use Rattle.samples.proofs.LeLaws.{leAt-add}
 use Rattle.samples.proofs.le.read_u64.Statement.{statement}
 use Rattle.samples.proofs.le.read_u64.Tie as tie
