@@ -1,6 +1,6 @@
 -- From "done" to the facts: a call that is done has passed each of its checks. Assumes nothing.
 use mathlib.Core.Bool.{Bool, true, false, cond, not}
-use mathlib.Core.List.{List, [], _∷_}
+use mathlib.Core.List.{List, [], _∷_, _++_}
 use mathlib.Core.Path.{_≡_, refl, sym, ap, subst, _∙_}
 use Prim.Native.Nat.{ℕ, _*_, _/_, _%_, _≤_}
 use native.Mathlib.Nat.{div-add-mod}
@@ -8,6 +8,7 @@ use native.Mathlib.Omega.{arith}
 use borrow.Author.Tests.{ltb-false, eqb-true, not-false}
 use lib.Dec.{T, ltb, eqb}
 use Rattle.answers.specs.declared.err.Refusal.{Refusal}
+use Rattle.answers.specs.declared.err.Refusal.the-variants.{Done}
 use Rattle.answers.specs.Answers.{done}
 use Rattle.answers.specs.Checks.{Check, firstOf}
 
@@ -35,6 +36,22 @@ passing (p ∷ rest) s r h =
 pub through : (l : List Check) (s : Refusal) → Passing l → firstOf l s ≡ s
 through [] s h = refl
 through (p ∷ rest) s h = ap (λ t. cond t (p .1) (firstOf rest s)) (h .0) ∙ through rest s (h .1)
+
+-- checks in two parts: where the first part lets by, the second decides; where it refuses, it has decided
+pub then-rest : (l m : List Check) (s : Refusal) → Refusing l → done (firstOf l (Done 0 0)) ≡ true → firstOf (l ++ m) s ≡ firstOf m s
+then-rest [] m s r h = refl
+then-rest (p ∷ l) m s r h =
+    let q = passed (p .0) (p .1) (firstOf l (Done 0 0)) (r .0) h in
+    ap (λ t. cond t (p .1) (firstOf (l ++ m) s)) (q .0) ∙ then-rest l m s (r .1) (q .1)
+
+pub then-stop : (l m : List Check) (s : Refusal) → done (firstOf l (Done 0 0)) ≡ false → firstOf (l ++ m) s ≡ firstOf l (Done 0 0)
+then-stop [] m s h = absurd (subst T h tt)
+then-stop (p ∷ l) m s h = pick (p .0) (λ g. then-stop l m s g) h
+  where
+    pick : (t : Bool) → (done (firstOf l (Done 0 0)) ≡ false → firstOf (l ++ m) s ≡ firstOf l (Done 0 0))
+        → done (cond t (p .1) (firstOf l (Done 0 0))) ≡ false → cond t (p .1) (firstOf (l ++ m) s) ≡ cond t (p .1) (firstOf l (Done 0 0))
+    pick true f h = refl
+    pick false f h = f h
 
 -- what a byte length that is not ragged tells
 pub whole : (k b : ℕ) → not (eqb (b % k) 0) ≡ false → b ≡ k * (b / k)

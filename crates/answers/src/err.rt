@@ -1,5 +1,5 @@
 ghost use mathlib.Core.Path.{_≡_};
-ghost use Rattle.answers.specs.Answers.{say, answerOf};
+ghost use Rattle.answers.specs.Answers.{say, answerOf, done};
 
 // What a call has to say, with the values that document 01's table names. C-14 to C-24 add 14 to 19.
 pub enum Refusal {
@@ -57,4 +57,12 @@ pub fn numbers(r: Refusal) -> Answer
         Refusal::Trailing(a) => tell(12, a, 0),
         Refusal::NoSuchPlace(a, b) => tell(13, a, b),
     }
+}
+
+// Whether a call that says this is done.
+pub fn is_done(r: Refusal) -> bool
+    ensures { λ b. ⌜ b ≡ done r ⌝ }
+{
+    let a = numbers(r);
+    a.number == 0
 }

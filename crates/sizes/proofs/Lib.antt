@@ -1,3 +1,4 @@
 pub mod Depths
 pub mod Counts
 pub mod Figures
+pub mod OneLevel

@@ -1,4 +1,6 @@
-// How many samples and coefficients there are: limits, bands, levels and depth. Document 01, "Many levels".
+// How many samples and coefficients there are: limits, bands, levels, depth, and the checks of one level. Document 01, "Many levels".
+pub mod checks;
+
 ghost use mathlib.Core.Path.{_≡_};
 ghost use Prim.Native.Nat.{max};
 ghost use Rattle.answers.specs.Answers.{answerOf};
