@@ -1,0 +1,1 @@
+// Integer 5/3, one level, both ways.
