@@ -1,2 +1,3 @@
 pub mod Lift
 pub mod T800
+pub mod Bands

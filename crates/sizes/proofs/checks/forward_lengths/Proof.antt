@@ -9,7 +9,7 @@ use Rattle.answers.specs.declared.err.Refusal.{Refusal}
 use Rattle.answers.specs.declared.err.Refusal.the-variants.{MinFilterSize, ApproxSizeNotMatches, TooLong}
 use Rattle.answers.specs.Checks.{firstOf}
 use Rattle.answers.proofs.Chain.{by, stop, same, other}
-use Rattle.sizes.specs.Bands.{mostSamples, ups, downs, smallestOf}
+use Rattle.sizes.specs.Bands.{mostSamples, ups, smallestOf}
 use Rattle.sizes.proofs.checks.forward_lengths.Statement.{statement}
 use Rattle.sizes.proofs.checks.forward_lengths.Tie as tie
 

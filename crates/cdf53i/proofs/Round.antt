@@ -1,0 +1,93 @@
+-- There and back on bytes, once over the width: the inverse of the transform is the samples' own bytes, the transform of the inverse the bands' own bytes;
+-- and where no coefficient wraps, the bands are T.800's own numbers.
+-- Assumes nothing.
+use mathlib.Core.Bool.{Bool, true, false, cond}
+use mathlib.Core.Path.{_≡_, ap, _∙_}
+use mathlib.Core.List.{List}
+use Prim.Native.Nat.{ℕ, _+_, _/_, _%_, _^_, _≤_, _<_}
+use native.Mathlib.Omega.{arith}
+use lib.Dec.{eqb}
+use lib.IntN.{ℤ}
+use lib.ListN.{length}
+use Rattle.sizes.specs.Bands.{ups, downs}
+use Rattle.samples.specs.Le.{Bytes}
+use Rattle.samples.specs.Words.{wordAt, Holds}
+use Rattle.samples.specs.Integers.{val, wrap, encode, decode, Width}
+use Rattle.samples.proofs.Words.{tabulate-same, word-lt}
+use Rattle.samples.proofs.IntegerLaws.{length-decode, at-decode, word-val, wrap-wrap, decode-encode, encode-decode}
+use Rattle.cdf53i.specs.Lift.{at, detail, details, approx, approxs, evens, odds, sample, even, odd, restored}
+use Rattle.cdf53i.specs.Bands.{low, high, back}
+use Rattle.cdf53i.proofs.Undo.{undoes-wrap, undone, details-again, approxs-again}
+
+module _ {k : ℕ} (w : Width k) where
+  -- coefficients that were stored are read back
+  pub stored-details : (x : List ℤ) → decode k (encode k (details (wrap k) x)) ≡ details (wrap k) x
+  unfolding details detail
+  stored-details x = decode-encode w (odds x) (detail (wrap k) x) ∙ tabulate-same (odds x) (λ i. wrap k (detail (wrap k) x i)) (detail (wrap k) x) (λ i h. wrap-wrap w _)
+
+  stored-approxs : (x : List ℤ) → decode k (encode k (approxs (wrap k) x)) ≡ approxs (wrap k) x
+  unfolding approxs approx
+  stored-approxs x =
+      let f = approx (wrap k) x (details (wrap k) x) in
+      decode-encode w (evens x) f ∙ tabulate-same (evens x) (λ i. wrap k (f i)) f (λ i h. wrap-wrap w _)
+
+  -- a sample that was read is kept as it is
+  fits : (s : List ℕ) → Bytes s → (i : ℕ) → i < length (decode k s) → wrap k (at (decode k s) i) ≡ at (decode k s) i
+  unfolding wrap
+  fits s b i h = rw (at-decode k s i (rw (length-decode k s) at h)) (ap (val (256 ^ k)) (word-val w (wordAt k s i) (word-lt k s b i)))
+
+  -- the inverse of the transform is the identity on every list of k-byte samples
+  pub there-and-back : (x : List ℕ) → Bytes x → (n : ℕ) → Holds k n x → 2 ≤ n → back k (low k x) (high k x) ≡ x
+  unfolding low high back
+  there-and-back x b n h two =
+      let z = decode k x in
+      let long : 2 ≤ length z = rw (length-decode k x, h .count) two in
+      rw (stored-approxs z, stored-details z, undone (wrap k) (undoes-wrap w) z long (fits x b)) (encode-decode w x b n h)
+
+  kept-sample : (a d : List ℤ) (j : ℕ) → wrap k (sample (wrap k) a d j) ≡ sample (wrap k) a d j
+  unfolding sample even odd
+  kept-sample a d j = pick (eqb (j % 2) 0)
+    where
+      pick : (t : Bool) → wrap k (cond t (even (wrap k) a d (j / 2)) (odd (wrap k) (even (wrap k) a d) (length a) d (j / 2))) ≡ cond t (even (wrap k) a d (j / 2)) (odd (wrap k) (even (wrap k) a d) (length a) d (j / 2))
+      pick true = wrap-wrap w _
+      pick false = wrap-wrap w _
+
+  stored-restored : (a d : List ℤ) → decode k (encode k (restored (wrap k) a d)) ≡ restored (wrap k) a d
+  unfolding restored
+  stored-restored a d =
+      let f = sample (wrap k) a d in
+      let n = length a + length d in
+      decode-encode w n f ∙ tabulate-same n (λ i. wrap k (f i)) f (λ i h. kept-sample a d i)
+
+  -- and the transform of the inverse on every pair of bands whose lengths fit
+  module _ (a d : List ℕ) (ba : Bytes a) (bd : Bytes d) (n : ℕ) (ha : Holds k (ups n) a) (hd : Holds k (downs n) d) (two : 2 ≤ n) where
+    long-a : length (decode k a) ≡ ups n
+    long-a = length-decode k a ∙ ha .count
+
+    long-d : length (decode k d) ≡ downs n
+    long-d = length-decode k d ∙ hd .count
+
+    pub back-and-low : low k (back k a d) ≡ a
+    unfolding low back
+    back-and-low =
+        rw (stored-restored (decode k a) (decode k d))
+        (ap (encode k) (approxs-again (wrap k) (undoes-wrap w) (decode k a) (decode k d) (omega (arith, long-a, long-d)) (omega (arith, long-a, long-d)) (omega (arith, long-d)) (fits a ba) (fits d bd))
+        ∙ encode-decode w a ba (ups n) ha)
+
+    pub back-and-high : high k (back k a d) ≡ d
+    unfolding high back
+    back-and-high =
+        rw (stored-restored (decode k a) (decode k d))
+        (ap (encode k) (details-again (wrap k) (undoes-wrap w) (decode k a) (decode k d) (omega (arith, long-a, long-d)) (omega (arith, long-a, long-d)) (omega (arith, long-d)) (fits a ba) (fits d bd))
+        ∙ encode-decode w d bd (downs n) hd)
+
+-- ---- where no coefficient wraps, what is kept is T.800's own
+
+module _ (keep : ℤ → ℤ) (x : List ℤ) (d-kept : (i : ℕ) → i < odds x → keep (detail (λ z. z) x i) ≡ detail (λ z. z) x i) where
+  pub details-unwrapped : details keep x ≡ details (λ z. z) x
+  unfolding details detail
+  details-unwrapped = tabulate-same (odds x) (detail keep x) (detail (λ z. z) x) d-kept
+
+  pub approxs-unwrapped : ((i : ℕ) → i < evens x → keep (approx (λ z. z) x (details (λ z. z) x) i) ≡ approx (λ z. z) x (details (λ z. z) x) i) → approxs keep x ≡ approxs (λ z. z) x
+  unfolding approxs approx
+  approxs-unwrapped a-kept = rw details-unwrapped (tabulate-same (evens x) (approx keep x (details (λ z. z) x)) (approx (λ z. z) x (details (λ z. z) x)) a-kept)

@@ -1,0 +1,46 @@
+-- The integer 5/3 filter on bytes: k bytes a sample, each coefficient kept modulo the width. And what its inner functions ask and promise.
+-- Assumes nothing: these are definitions.
+use mathlib.Core.List.{List}
+use mathlib.Core.Path.{_≡_}
+use Prim.Native.Nat.{ℕ, _*_, _/_, _^_, _≤_, _<_}
+use lib.ListN.{length}
+use Rattle.sizes.specs.Bands.{ups, downs}
+use Rattle.samples.specs.Words.{Holds, Front}
+use Rattle.samples.specs.Integers.{Width, wrap, residue, decode, encode}
+use Rattle.cdf53i.specs.Lift.{details, approxs, even, sample, restored}
+
+-- the bytes of the approximations and of the details of the samples in x
+unfoldable pub low : ℕ → List ℕ → List ℕ
+low k x = encode k (approxs (wrap k) (decode k x))
+
+unfoldable pub high : ℕ → List ℕ → List ℕ
+high k x = encode k (details (wrap k) (decode k x))
+
+-- the bytes of the samples whose bands are in a and d
+unfoldable pub back : ℕ → List ℕ → List ℕ → List ℕ
+back k a d = encode k (restored (wrap k) (decode k a) (decode k d))
+
+-- x holds 3 samples or more of k bytes
+pub record Input (k : ℕ) (x : List ℕ) : Type 0 where
+  pub width : Width k
+  pub long : 3 ≤ length x / k
+  pub samples : Holds k (length x / k) x
+
+-- and a as many as x has approximations, d as many as it has details
+pub record Bands (k : ℕ) (x a d : List ℕ) : Type 0 where
+  pub input : Input k x
+  pub approx : Holds k (ups (length x / k)) a
+  pub details : Holds k (downs (length x / k)) d
+
+-- the word of sample j of the samples whose bands are in a and d, and the word of their even sample i
+unfoldable pub sampleWord : ℕ → List ℕ → List ℕ → ℕ → ℕ
+sampleWord k a d j = residue (256 ^ k) (sample (wrap k) (decode k a) (decode k d) j)
+
+unfoldable pub evenWord : ℕ → List ℕ → List ℕ → ℕ → ℕ
+evenWord k a d i = residue (256 ^ k) (even (wrap k) (decode k a) (decode k d) i)
+
+-- x holds the first 2 i of the n samples that it is to hold, and e is the word of even sample i, which comes next
+pub record Restoring (k n : ℕ) (a d x : List ℕ) (i e : ℕ) : Type 0 where
+  pub front : Front k n (2 * i) (sampleWord k a d) x
+  pub next : e ≡ evenWord k a d i
+  pub small : e < 256 ^ k

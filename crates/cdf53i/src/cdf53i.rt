@@ -1,0 +1,124 @@
+ghost use mathlib.Core.Path.{_≡_};
+ghost use Rattle.sizes.specs.Calls.{Forward, Inverse};
+ghost use Prim.Native.Nat.{_+_, _-_, _/_, _<_, min};
+ghost use lib.ListN.{length};
+ghost use Rattle.sizes.specs.Bands.{downs};
+ghost use Rattle.samples.specs.Words.{tabulate, Holds};
+ghost use Rattle.samples.specs.Integers.{Width, wrap, decode, encode};
+ghost use Rattle.cdf53i.specs.Lift.{approx, evens};
+ghost use Rattle.cdf53i.specs.Bands.{low, high, back, Input, Bands, Restoring};
+use crate::steps::approx_at;
+use crate::steps::detail_at;
+use crate::steps::even_at;
+use crate::steps::odd_of;
+use answers::err::Answer;
+use answers::err::is_done;
+use answers::err::numbers;
+use samples::integers::get;
+use samples::integers::put;
+use sizes::Wavelet;
+use sizes::checks::check_forward;
+use sizes::checks::check_inverse;
+
+// The details of the samples in x, into d.
+fn predict(k: usize, x: &[u8], d: &mut [u8])
+    requires { ⌜ Input k (now x) ⌝ }
+    requires { ⌜ Holds k (downs (length (now x) / k)) (now d) ⌝ }
+    ensures { λ _. ⌜ now (d .exit) ≡ high k (now (x .entry)) ⌝ }
+{
+    let n = x.len() / k;
+    let last = n / 2 - 1;
+    let mut i = 0;
+    while i < last {
+        put(k, d, i, detail_at(k, x, i, i + 1));
+        i += 1;
+    }
+    put(k, d, last, detail_at(k, x, last, (n + 1) / 2 - 1));
+}
+
+// The approximations of the samples in x and the stored details in d, into a.
+fn update(k: usize, x: &[u8], a: &mut [u8], d: &[u8])
+    requires { ⌜ Bands k (now x) (now a) (now d) ⌝ }
+    ensures { λ _. ⌜ now (a .exit) ≡ encode k (tabulate (evens (decode k (now (x .entry)))) (approx (wrap k) (decode k (now (x .entry))) (decode k (now (d .entry))))) ⌝ }
+{
+    let n = x.len() / k;
+    let m = n / 2;
+    let last = (n + 1) / 2 - 1;
+    put(k, a, 0, approx_at(k, x, d, 0, 0, 0));
+    let mut i = 1;
+    while i < last {
+        put(k, a, i, approx_at(k, x, d, i, i - 1, i));
+        i += 1;
+    }
+    put(k, a, last, approx_at(k, x, d, last, last - 1, m - 1));
+}
+
+// One level of the samples in x: approximations into a, details into d.
+fn forward(k: usize, x: &[u8], a: &mut [u8], d: &mut [u8])
+    requires { ⌜ Bands k (now x) (now a) (now d) ⌝ }
+    ensures { λ _. ⌜ (now (a .exit) ≡ low k (now (x .entry))) × (now (d .exit) ≡ high k (now (x .entry))) ⌝ }
+{
+    predict(k, x, d);
+    update(k, x, a, d);
+}
+
+// Even sample i, of the word e, and the odd one after it into x. The next even sample stands left of detail `right`; its word is the result.
+fn restore_pair(k: usize, a: &[u8], d: &[u8], x: &mut [u8], i: usize, right: usize, e: u32) -> u32
+    requires { ⌜ Bands k (now x) (now a) (now d) ⌝ }
+    requires { ⌜ Restoring k (length (now x) / k) (now a) (now d) (now x) i e ⌝ }
+    requires { ⌜ (i + 1 < length (now a) / k) × (i < length (now d) / k) × (right ≡ min (i + 1) (length (now d) / k - 1)) ⌝ }
+    ensures { λ r. ⌜ Restoring k (length (now (x .entry)) / k) (now (a .entry)) (now (d .entry)) (now (x .exit)) (i + 1) r ⌝ }
+{
+    let next = even_at(k, a, d, i + 1, i, right);
+    put(k, x, 2 * i, e);
+    put(k, x, 2 * i + 1, odd_of(k, e, get(k, d, i), next));
+    next
+}
+
+// The samples whose approximations are in a and details in d, into x.
+fn inverse(k: usize, a: &[u8], d: &[u8], x: &mut [u8])
+    requires { ⌜ Bands k (now x) (now a) (now d) ⌝ }
+    ensures { λ _. ⌜ now (x .exit) ≡ back k (now (a .entry)) (now (d .entry)) ⌝ }
+{
+    let n = x.len() / k;
+    let last = n / 2 - 1;
+    let mut e = even_at(k, a, d, 0, 0, 0);
+    let mut i = 0;
+    while i < last {
+        e = restore_pair(k, a, d, x, i, i + 1, e);
+        i += 1;
+    }
+    if n % 2 == 0 {
+        put(k, x, 2 * last, e);
+        put(k, x, 2 * last + 1, odd_of(k, e, get(k, d, last), e));
+    } else {
+        let f = restore_pair(k, a, d, x, last, last, e);
+        put(k, x, 2 * (last + 1), f);
+    }
+}
+
+// One level of 5/3 of the samples of k bytes in input, with document 01's checks.
+pub fn execute_forward(k: usize, input: &[u8], approx: &mut [u8], details: &mut [u8]) -> Answer
+    requires { ⌜ Width k ⌝ }
+    ensures { λ r. ⌜ Forward Wavelet.Cdf53 k (low k) (high k) (now (input .entry)) (now (approx .entry)) (now (details .entry)) r (now (approx .exit)) (now (details .exit)) ⌝ }
+{
+    let said = check_forward(Wavelet::Cdf53, k, input.len(), approx.len(), details.len());
+    let r = numbers(said);
+    if is_done(said) {
+        forward(k, input, approx, details);
+    }
+    r
+}
+
+// The samples of two bands, with document 01's checks.
+pub fn execute_inverse(k: usize, approx: &[u8], details: &[u8], output: &mut [u8]) -> Answer
+    requires { ⌜ Width k ⌝ }
+    ensures { λ r. ⌜ Inverse Wavelet.Cdf53 k (back k) (now (approx .entry)) (now (details .entry)) (now (output .entry)) r (now (output .exit)) ⌝ }
+{
+    let said = check_inverse(Wavelet::Cdf53, k, approx.len(), details.len(), output.len());
+    let r = numbers(said);
+    if is_done(said) {
+        inverse(k, approx, details, output);
+    }
+    r
+}
