@@ -46,6 +46,7 @@ def main(table, *command):
     print(f"ok {table}: {compared} answers" + (f", {passed_over} passed over" if passed_over else ""))
 
 
-if len(sys.argv) < 3:
-    sys.exit("usage: tests/ask.py TABLE COMMAND..")
-main(*sys.argv[1:])
+if __name__ == "__main__":
+    if len(sys.argv) < 3:
+        sys.exit("usage: tests/ask.py TABLE COMMAND..")
+    main(*sys.argv[1:])

@@ -49,7 +49,19 @@ static bk_answer call_n(function f, const struct arg *a) {
     return ((bk_answer(*)(uint64_t))f)(a[0].number);
 }
 
+static bk_answer call_rmm(function f, const struct arg *a) {
+    return ((bk_answer(*)(const uint8_t *, size_t, uint8_t *, size_t, uint8_t *, size_t))f)(
+        a[0].bytes, a[0].count, a[1].bytes, a[1].count, a[2].bytes, a[2].count);
+}
+
+static bk_answer call_rrm(function f, const struct arg *a) {
+    return ((bk_answer(*)(const uint8_t *, size_t, const uint8_t *, size_t, uint8_t *, size_t))f)(
+        a[0].bytes, a[0].count, a[1].bytes, a[1].count, a[2].bytes, a[2].count);
+}
+
 static const struct shape shape_n = {"n", call_n};
+static const struct shape shape_rmm = {"rmm", call_rmm};
+static const struct shape shape_rrm = {"rrm", call_rrm};
 
 static const struct row {
     const char *name;
@@ -58,6 +70,12 @@ static const struct row {
 } rows[] = {
     {"cdf53_depth", &shape_n, (function)bk_cdf53_depth},
     {"cdf97_depth", &shape_n, (function)bk_cdf97_depth},
+    {"cdf53_forward_i8", &shape_rmm, (function)bk_cdf53_forward_i8},
+    {"cdf53_forward_i16", &shape_rmm, (function)bk_cdf53_forward_i16},
+    {"cdf53_forward_i32", &shape_rmm, (function)bk_cdf53_forward_i32},
+    {"cdf53_inverse_i8", &shape_rrm, (function)bk_cdf53_inverse_i8},
+    {"cdf53_inverse_i16", &shape_rrm, (function)bk_cdf53_inverse_i16},
+    {"cdf53_inverse_i32", &shape_rrm, (function)bk_cdf53_inverse_i32},
 };
 
 // ---- writing

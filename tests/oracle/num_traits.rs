@@ -1,5 +1,5 @@
 // A stand-in for the crate num-traits: the four traits that the ported files use, at the types in use.
-// Built by tests/oracle/build as the rlib num_traits.
+// Built by the script tests/oracle/osclet as the rlib num_traits.
 use std::ops::{Add, Sub};
 
 pub trait AsPrimitive<T: 'static + Copy>: 'static + Copy {

@@ -1,0 +1,317 @@
+// Times the port beside the Rust, in one process, and prints a table. Built and run by bench/run.
+// A filter is a line of filters!, and a line of CASES for each case that it is timed in.
+
+include!("../tests/oracle/osclet.rs");
+
+use crate::cdf53i::Cdf53Integer;
+use std::hint::black_box;
+use std::marker::PhantomData;
+use std::time::{Duration, Instant};
+
+const SAMPLES: usize = 65_536;
+const LEVELS: usize = 5;
+// A side of a case is run at least so often and for so long, some runs at a time and in turn with the others.
+const RUNS: usize = 200;
+const AT_LEAST: Duration = Duration::from_millis(200);
+const AT_A_TIME: usize = 20;
+
+// ---- the two sides
+
+// A filter of the Rust, and its exported calls.
+trait Filter: DwtExecutor<<Self as Filter>::Sample> + Default {
+    type Sample: Copy + Default + PartialEq;
+    const NAME: &str;
+    fn drawn(bits: u64) -> Self::Sample;
+    fn bk_forward(
+        input: &[Self::Sample],
+        approx: &mut [Self::Sample],
+        details: &mut [Self::Sample],
+    ) -> Answer;
+    fn bk_inverse(
+        approx: &[Self::Sample],
+        details: &[Self::Sample],
+        output: &mut [Self::Sample],
+    ) -> Answer;
+}
+
+#[repr(C)]
+#[derive(Default)]
+struct Answer {
+    number: u32,
+    first: u64,
+    second: u64,
+}
+
+// The exported functions return their Answer by value. On x86-64 that is the same as a pointer to it as first
+// argument, which is how the library for Arm takes it (bench/host-staticlib): declared so, they are right on both.
+macro_rules! filters {
+    ($($name: literal, $filter: ty, $sample: ty, $forward: ident, $inverse: ident;)*) => {
+        unsafe extern "C" {
+            $(
+                fn $forward(
+                    answer: *mut Answer,
+                    input: *const $sample, input_length: usize,
+                    approx: *mut $sample, approx_length: usize,
+                    details: *mut $sample, details_length: usize,
+                ) -> *mut Answer;
+                fn $inverse(
+                    answer: *mut Answer,
+                    approx: *const $sample, approx_length: usize,
+                    details: *const $sample, details_length: usize,
+                    output: *mut $sample, output_length: usize,
+                ) -> *mut Answer;
+            )*
+        }
+
+        $(impl Filter for $filter {
+            type Sample = $sample;
+            const NAME: &str = $name;
+
+            fn drawn(bits: u64) -> $sample {
+                bits as $sample
+            }
+
+            fn bk_forward(input: &[$sample], approx: &mut [$sample], details: &mut [$sample]) -> Answer {
+                let mut answer = Answer::default();
+                unsafe {
+                    $forward(
+                        &mut answer,
+                        input.as_ptr(), size_of_val(input),
+                        approx.as_mut_ptr(), size_of_val(approx),
+                        details.as_mut_ptr(), size_of_val(details),
+                    );
+                }
+                answer
+            }
+
+            fn bk_inverse(approx: &[$sample], details: &[$sample], output: &mut [$sample]) -> Answer {
+                let mut answer = Answer::default();
+                unsafe {
+                    $inverse(
+                        &mut answer,
+                        approx.as_ptr(), size_of_val(approx),
+                        details.as_ptr(), size_of_val(details),
+                        output.as_mut_ptr(), size_of_val(output),
+                    );
+                }
+                answer
+            }
+        })*
+    };
+}
+
+// Integers with an intermediate wider than the sample, as document 01 has it.
+filters! {
+    "5/3 i8", Cdf53Integer<i8, i32>, i8, bk_cdf53_forward_i8, bk_cdf53_inverse_i8;
+    "5/3 i16", Cdf53Integer<i16, i32>, i16, bk_cdf53_forward_i16, bk_cdf53_inverse_i16;
+    "5/3 i32", Cdf53Integer<i32, i64>, i32, bk_cdf53_forward_i32, bk_cdf53_inverse_i32;
+}
+
+// One level, into lent slices.
+trait Level<T> {
+    fn forward(&self, input: &[T], approx: &mut [T], details: &mut [T]);
+    fn inverse(&self, approx: &[T], details: &[T], output: &mut [T]);
+}
+
+struct Rust<F>(F);
+
+impl<T, F: Filter<Sample = T>> Level<T> for Rust<F> {
+    fn forward(&self, input: &[T], approx: &mut [T], details: &mut [T]) {
+        self.0.execute_forward(input, approx, details).unwrap()
+    }
+
+    fn inverse(&self, approx: &[T], details: &[T], output: &mut [T]) {
+        self.0.execute_inverse(approx, details, output).unwrap()
+    }
+}
+
+struct Port<F>(PhantomData<F>);
+
+impl<T, F: Filter<Sample = T>> Level<T> for Port<F> {
+    fn forward(&self, input: &[T], approx: &mut [T], details: &mut [T]) {
+        check(F::bk_forward(input, approx, details))
+    }
+
+    fn inverse(&self, approx: &[T], details: &[T], output: &mut [T]) {
+        check(F::bk_inverse(approx, details, output))
+    }
+}
+
+fn sides<F: Filter>() -> (Rust<F>, Port<F>) {
+    (Rust(F::default()), Port(PhantomData))
+}
+
+fn check(answer: Answer) {
+    let Answer {
+        number,
+        first,
+        second,
+    } = answer;
+    assert!(number == 0, "refused {number} ({first}, {second})");
+}
+
+// ---- timing
+
+// The best time of each, in microseconds.
+fn best<const N: usize>(mut sides: [&mut dyn FnMut(); N]) -> [f64; N] {
+    let (mut best, mut spent) = ([Duration::MAX; N], [Duration::ZERO; N]);
+    let mut runs = 0;
+    while runs < RUNS || spent.iter().any(|&time| time < AT_LEAST) {
+        for (place, side) in sides.iter_mut().enumerate() {
+            for _ in 0..AT_A_TIME {
+                let start = Instant::now();
+                side();
+                let time = start.elapsed();
+                best[place] = best[place].min(time);
+                spent[place] += time;
+            }
+        }
+        runs += AT_A_TIME;
+    }
+    best.map(|time| time.as_secs_f64() * 1e6)
+}
+
+fn say(filter: &str, case: &str, driver: Option<f64>, [rust, port]: [f64; 2]) {
+    let driver = driver.map_or("-".to_string(), |time| format!("{time:.1}"));
+    let ratio = port / rust;
+    println!("| {filter} | {case} | {driver} | {rust:.1} | {port:.1} | {ratio:.2} |");
+}
+
+// ---- cases
+
+fn drawn<F: Filter>() -> Vec<F::Sample> {
+    let mut bits = 0x9e37_79b9_7f4a_7c15_u64;
+    let next = || {
+        bits ^= bits << 13;
+        bits ^= bits >> 7;
+        bits ^= bits << 17;
+        F::drawn(bits >> 16)
+    };
+    std::iter::repeat_with(next).take(SAMPLES).collect()
+}
+
+fn one_level<F: Filter>() {
+    let ((rust, port), signal) = (sides::<F>(), drawn::<F>());
+    let lent = |n| vec![F::Sample::default(); n];
+    let [mut a, mut b, mut d, mut e] = [SAMPLES / 2; 4].map(lent);
+    let times = best([
+        &mut || rust.forward(black_box(&signal), black_box(&mut a), black_box(&mut d)),
+        &mut || port.forward(black_box(&signal), black_box(&mut b), black_box(&mut e)),
+    ]);
+    assert!(a == b && d == e, "the two sides differ");
+    say(F::NAME, "one level, forward", None, times);
+
+    let [mut x, mut y] = [SAMPLES; 2].map(lent);
+    let times = best([
+        &mut || rust.inverse(black_box(&a), black_box(&d), black_box(&mut x)),
+        &mut || port.inverse(black_box(&b), black_box(&e), black_box(&mut y)),
+    ]);
+    assert!(x == signal && y == signal, "a side does not restore");
+    say(F::NAME, "one level, inverse", None, times);
+}
+
+// Work areas, and the output.
+struct Lent<T> {
+    from: Vec<T>,
+    to: Vec<T>,
+    output: Vec<T>,
+}
+
+impl<T: Copy + Default> Lent<T> {
+    fn new() -> Self {
+        let area = || vec![T::default(); SAMPLES];
+        Lent {
+            from: area(),
+            to: area(),
+            output: area(),
+        }
+    }
+}
+
+// Deepest approximations, then details deepest first. SAMPLES is a power of two.
+fn forward<T: Copy>(side: &impl Level<T>, signal: &[T], lent: &mut Lent<T>) {
+    let Lent { from, to, output } = lent;
+    let mut half = SAMPLES / 2;
+    side.forward(signal, &mut to[..half], &mut output[half..]);
+    for _ in 1..LEVELS {
+        std::mem::swap(from, to);
+        half /= 2;
+        side.forward(
+            &from[..2 * half],
+            &mut to[..half],
+            &mut output[half..2 * half],
+        );
+    }
+    output[..half].copy_from_slice(&to[..half]);
+}
+
+fn inverse<T: Copy>(side: &impl Level<T>, pyramid: &[T], lent: &mut Lent<T>) {
+    let Lent { from, to, output } = lent;
+    let mut half = SAMPLES >> LEVELS;
+    to[..half].copy_from_slice(&pyramid[..half]);
+    while half < SAMPLES / 2 {
+        std::mem::swap(from, to);
+        side.inverse(&from[..half], &pyramid[half..2 * half], &mut to[..2 * half]);
+        half *= 2;
+    }
+    side.inverse(&to[..half], &pyramid[half..], output);
+}
+
+fn five_levels<F: Filter>() {
+    let ((rust, port), signal) = (sides::<F>(), drawn::<F>());
+    let (mut a, mut b) = (Lent::new(), Lent::new());
+    let [driver, times @ ..] = best([
+        &mut || drop(black_box(rust.0.multi_dwt(black_box(&signal), LEVELS))),
+        &mut || forward(&rust, black_box(&signal), black_box(&mut a)),
+        &mut || forward(&port, black_box(&signal), black_box(&mut b)),
+    ]);
+    assert!(a.output == b.output, "the two sides differ");
+    say(F::NAME, "five levels, forward", Some(driver), times);
+
+    let pyramid = a.output.clone();
+    // the Rust wants the details of level 1 first
+    let level = |l: usize| &pyramid[SAMPLES >> l..SAMPLES >> (l - 1)];
+    let all = || MultiLevelDwtRef {
+        approximations: &pyramid[..SAMPLES >> LEVELS],
+        details: (1..=LEVELS).map(level).collect(),
+    };
+    let [driver, times @ ..] = best([
+        &mut || drop(black_box(rust.0.multi_idwt(black_box(&all())))),
+        &mut || inverse(&rust, black_box(&pyramid), black_box(&mut a)),
+        &mut || inverse(&port, black_box(&pyramid), black_box(&mut b)),
+    ]);
+    assert!(
+        a.output == signal && b.output == signal,
+        "a side does not restore"
+    );
+    assert!(
+        rust.0.multi_idwt(&all()).unwrap() == signal,
+        "the Rust's driver does not restore"
+    );
+    say(F::NAME, "five levels, inverse", Some(driver), times);
+}
+
+// glibc gives the pages of a large block back when it is freed, and the Rust, which allocates, then waits for
+// new ones in some cases and not in others. Once a larger block was freed it keeps them.
+fn keep_pages() {
+    drop(black_box(vec![1_u8; 16 << 20]));
+}
+
+const CASES: &[fn()] = &[
+    one_level::<Cdf53Integer<i8, i32>>,
+    one_level::<Cdf53Integer<i16, i32>>,
+    one_level::<Cdf53Integer<i32, i64>>,
+    five_levels::<Cdf53Integer<i8, i32>>,
+    five_levels::<Cdf53Integer<i16, i32>>,
+    five_levels::<Cdf53Integer<i32, i64>>,
+];
+
+fn main() {
+    keep_pages();
+    println!("{SAMPLES} samples, best time in microseconds\n");
+    println!(
+        "| filter | case | the Rust's driver | the Rust, lent | the port | port / Rust, lent |"
+    );
+    println!("|---|---|---|---|---|---|");
+    CASES.iter().for_each(|case| case());
+}

@@ -1,0 +1,133 @@
+#!/usr/bin/env python3
+# Asks the desk and the Rust the same requests and compares. Call: tests/compare.py [--seed N] [--small | --large] SUITE
+# First tests/desk/build and tests/oracle/build. The suites are in tests/suites.py. tests/run takes --small; without it
+# a run is for people and takes half a minute; --large asks about the limits alone, in lines of many megabytes.
+#
+# The desk's answer must be the Rust's, and document 01's where it adds a refusal of its own, and the suite's where it
+# knows one; a request that none of them answers, or that is no call to either server, is a difference too. The shortest
+# request that differs is kept in target/tests/differs.txt, a table for tests/ask.py.
+import argparse
+import os
+import random
+import subprocess
+import sys
+from concurrent.futures import ThreadPoolExecutor
+
+from ask import agree
+from suites import LIMIT, SUITES, WIDTHS
+
+NO_ANSWER = "no answer"
+# For each verb: how many slices, from the first, have a limit, and which is the first lent one.
+SLICES = {"forward": (1, 1), "inverse": (3, 2)}
+
+
+# What document 01 adds to the Rust: 9 for a byte length, then 6 for a length above its limit; else None.
+def additions(request):
+    name, *words = request.split(" ")
+    if name.endswith("_depth"):
+        return "6 0 0" if int(words[0]) > LIMIT else None
+    verb, kind = name.split("_", 1)[1].rsplit("_", 1)
+    width, lengths, (limited, lent) = WIDTHS[kind], [len(word) // 2 for word in words], SLICES[verb]
+    refusals = [f"9 0 {length}" for length in lengths if length % width]
+    refusals += ["6 0 0" for length in lengths[:limited] if length > LIMIT * width]
+    return " ".join([refusals[0], *words[lent:]]) if refusals else None
+
+
+class Server:
+    def __init__(self, command):
+        self.command = command
+        self.process = subprocess.Popen(command, stdin=subprocess.PIPE, stdout=subprocess.PIPE, text=True)
+
+    def write(self, requests):
+        try:
+            self.process.stdin.writelines(request + "\n" for request in requests)
+            self.process.stdin.flush()
+        except BrokenPipeError:
+            pass  # the answers that do not come say it
+
+    def read(self, count):
+        return [self.process.stdout.readline().rstrip("\n") or NO_ANSWER for _ in range(count)]
+
+    # The place of the first request that ends a new server when they are asked one at a time.
+    def ended_by(self, requests):
+        again = Server(self.command)
+        for place, request in enumerate(requests):
+            again.write([request])
+            if again.read(1) == [NO_ANSWER]:
+                return place
+        return len(requests) - 1
+
+
+class Tally:
+    def __init__(self):
+        self.requests = self.refused = self.alone = self.differences = 0
+        self.first, self.shortest = [], None
+
+    def count(self, request, said, rust, wanted):
+        own = additions(request)
+        known = {"the Rust": None if rust == "-" else rust, "document 01": own, "the way back": wanted}
+        known = {who: answer for who, answer in known.items() if answer is not None}
+        self.requests += 1
+        self.refused += not said.startswith("0 ")
+        self.alone += rust == "-" and own is not None
+        for who, answer in known.items() or [("nobody", "an answer")]:
+            if not (said[0].isdigit() and agree(answer, said)):
+                self.differ(request, said, who, answer)
+                break
+
+    def differ(self, request, said, who, answer):
+        self.differences += 1
+        if self.differences <= 5:
+            # of long answers, where they part
+            start = max(0, len(os.path.commonprefix([said, answer])) - 60)
+            self.first.append(request[:200])
+            for name, text in ("the desk", said), (who, answer):
+                self.first.append(f"  {name} [{start}:] {text[start:][:120]}")
+        if self.shortest is None or len(request) < len(self.shortest[0]):
+            self.shortest = request, answer
+
+
+def compare(suite, size, seed):
+    tally, answers = Tally(), None
+    desk, oracle = Server(["tests/desk/run"]), Server(["target/tests/oracle"])
+    asking = SUITES[suite](random.Random(seed), size)
+    with ThreadPoolExecutor(4) as pool:
+        while True:
+            try:
+                asks = asking.send(answers)
+            except StopIteration:
+                return tally
+            requests = [request for request, _ in asks]
+            for server in desk, oracle:
+                pool.submit(server.write, requests)
+            reading = [pool.submit(server.read, len(requests)) for server in (desk, oracle)]
+            answers, rust = (answer.result() for answer in reading)
+            if NO_ANSWER in answers + rust:
+                place = (desk if NO_ANSWER in answers else oracle).ended_by(requests)
+                tally.differ(requests[place], answers[place], "the Rust", rust[place])
+                return tally
+            for (request, wanted), *said in zip(asks, answers, rust):
+                tally.count(request, *said, wanted)
+
+
+def main():
+    parser = argparse.ArgumentParser()
+    parser.add_argument("--seed", type=int, default=53)
+    sizes = parser.add_mutually_exclusive_group()
+    sizes.add_argument("--small", dest="size", action="store_const", const="small", default="full")
+    sizes.add_argument("--large", dest="size", action="store_const", const="large")
+    parser.add_argument("suite", choices=SUITES)
+    asked = parser.parse_args()
+    os.chdir(os.path.join(os.path.dirname(os.path.abspath(__file__)), ".."))
+    tally = compare(asked.suite, asked.size, asked.seed)
+    if tally.differences:
+        with open("target/tests/differs.txt", "w") as kept:
+            print(f"# --seed {asked.seed} {asked.size} {asked.suite}", " -> ".join(tally.shortest), sep="\n", file=kept)
+        print(f"{asked.suite}: {tally.differences} differences in {tally.requests} requests")
+        print("\n".join(tally.first))
+        sys.exit("the shortest again: tests/ask.py target/tests/differs.txt tests/desk/run")
+    counted = f"{tally.requests} requests, {tally.refused} of them refused, {tally.alone} by document 01 alone"
+    print(f"ok {asked.suite}: {counted}")
+
+
+main()
