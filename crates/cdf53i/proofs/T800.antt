@@ -17,6 +17,7 @@ use Rattle.answers.proofs.Order.{lt-or-le}
 use Rattle.samples.proofs.Words.{length-tabulate, getD-tabulate, tabulate-same}
 use Rattle.sizes.specs.Bands.{ups, downs}
 use Rattle.cdf53i.specs.Lift.{at, floorDiv, evens, odds, detail, details, approx, approxs, even, odd, sample, restored}
+use Rattle.samples.specs.Halves.{joined}
 use Rattle.cdf53i.specs.T800.{pse, extended, high, low, interleaved, evenBack, oddBack, back}
 use Rattle.cdf53i.proofs.Extension.{place, extended-at, extended-before}
 
@@ -117,7 +118,7 @@ module _ (a d : List ℤ) (more : length d ≤ length a) (less : length a ≤ le
   y = interleaved a d
 
   length-y : length y ≡ length a + length d
-  unfolding interleaved
+  unfolding joined
   length-y = length-tabulate (length a + length d) (inTurn (at a) (at d))
 
   some : 2 ≤ length y
@@ -125,16 +126,16 @@ module _ (a d : List ℤ) (more : length d ≤ length a) (less : length a ≤ le
 
   -- Y_ext(j) is one of a, or one of d
   is-a : (i j : ℕ) → i < length a → j ≤ length a + length d + 1 → place (length a + length d) j ≡ 2 * i → at a i ≡ extended y (pos j)
-  unfolding interleaved
+  unfolding joined
   is-a i j h l e = sym (extended-at y some j (2 * i) (rw length-y l) (rw length-y e) ∙ at-even (length a + length d) (at a) (at d) i (omega arith))
 
   is-d : (i j : ℕ) → i < length d → j ≤ length a + length d + 1 → place (length a + length d) j ≡ 2 * i + 1 → at d i ≡ extended y (pos j)
-  unfolding interleaved
+  unfolding joined
   is-d i j h l e = sym (extended-at y some j (2 * i + 1) (rw length-y l) (rw length-y e) ∙ at-odd (length a + length d) (at a) (at d) i (omega arith))
 
   -- Y_ext(2i-1); Y_ext(-1) is the first of d
   left-d : (i : ℕ) → i ≤ length d → at d (i - 1) ≡ extended y (pos (i + i) -ℤ pos 1)
-  unfolding interleaved
+  unfolding joined
   left-d zero h = sym (extended-before y some 0 1 (omega arith) (rw length-y (omega arith)) ∙ at-odd (length a + length d) (at a) (at d) 0 (omega arith))
   left-d (suc i) h = rw (sub-ge (suc i + suc i) 1 (omega arith)) (is-d (suc i - 1) (suc i + suc i - 1) (omega arith) (omega arith) (omega arith))
 
@@ -196,5 +197,5 @@ unfolding pse residue extended high
 p3 = refl
 
 pub p5 : Figure (pos 0 ∷ pos 3 ∷ neg 4 ∷ pos 1 ∷ pos 7 ∷ []) (pos 3 ∷ neg 3 ∷ pos 7 ∷ []) (pos 5 ∷ pos 0 ∷ [])
-unfolding tabulate pse residue extended high low interleaved evenBack oddBack back
+unfolding tabulate pse residue extended high low joined evenBack oddBack back
 p5 = record { lows = refl; highs = refl; backs = refl }

@@ -9,7 +9,7 @@ use Prim.Native.Nat.{ℕ, _+_, _-_, _*_, _/_, _%_, min}
 use lib.Dec.{eqb}
 use lib.IntN.{ℤ, pos, _+ℤ_, _-ℤ_}
 use lib.ListN.{length}
-use Rattle.samples.specs.Words.{tabulate}
+use Rattle.samples.specs.Halves.{joined}
 use Rattle.samples.specs.Integers.{residue}
 use Rattle.cdf53i.specs.Lift.{at, floorDiv}
 
@@ -34,8 +34,8 @@ low x j = extended x (j +ℤ j) +ℤ floorDiv (high x (j -ℤ pos 1) +ℤ high x
 -- ---- inverse
 
 -- Y has the low-pass coefficients a at its even places and the high-pass ones d at its odd places
-unfoldable pub interleaved : List ℤ → List ℤ → List ℤ
-interleaved a d = tabulate (length a + length d) (λ i. cond (eqb (i % 2) 0) (at a (i / 2)) (at d (i / 2)))
+abbrev pub interleaved : List ℤ → List ℤ → List ℤ
+interleaved a d = joined (pos 0) a d
 
 -- "X(2j) = Y_ext(2j) - floor((Y_ext(2j-1) + Y_ext(2j+1) + 2) / 4) for i0 <= 2j < i1 + 1"
 unfoldable pub evenBack : List ℤ → ℤ → ℤ
