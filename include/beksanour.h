@@ -60,6 +60,42 @@ enum {
 bk_answer bk_cdf53_depth(uint64_t n);
 bk_answer bk_cdf97_depth(uint64_t n);
 
+/*
+ * One level of integer 5/3 of the samples in `input`, 8, 16 or 32 bits each, little-endian, two's complement: their ceil(n/2)
+ * approximations into `approx`, their floor(n/2) details into `details`. Every coefficient is kept modulo two to the width, and
+ * the inverse still gives every sample back.
+ *
+ * Refused, in this order:
+ *   9 (0, length)   a slice's byte length is no multiple of the width: the first of input, approx, details
+ *   6               over 16,777,216 samples
+ *   1 (n, 3)        fewer than 3 samples
+ *   2 (got, n)      approx does not hold ceil(n/2) samples
+ *   2 (got, n)      details does not hold floor(n/2) samples
+ */
+bk_answer bk_cdf53_forward_i8(const uint8_t *input, size_t input_bytes, uint8_t *approx, size_t approx_bytes,
+                              uint8_t *details, size_t details_bytes);
+bk_answer bk_cdf53_forward_i16(const uint8_t *input, size_t input_bytes, uint8_t *approx, size_t approx_bytes,
+                               uint8_t *details, size_t details_bytes);
+bk_answer bk_cdf53_forward_i32(const uint8_t *input, size_t input_bytes, uint8_t *approx, size_t approx_bytes,
+                               uint8_t *details, size_t details_bytes);
+
+/*
+ * The samples whose approximations are in `approx` and details in `details`, into `output`.
+ *
+ * Refused, in this order:
+ *   9 (0, length)        a slice's byte length is no multiple of the width: the first of approx, details, output
+ *   6                    a slice of over 16,777,216 samples
+ *   3 (got, wanted)      output does not hold as many samples as the two bands together
+ *   2 (expected, got)    approx is not the band of so many samples: ceil(n/2), but at least 2
+ *   2 (expected, got)    details is not: floor(n/2), but at least 1; the numbers are those of approx
+ */
+bk_answer bk_cdf53_inverse_i8(const uint8_t *approx, size_t approx_bytes, const uint8_t *details, size_t details_bytes,
+                              uint8_t *output, size_t output_bytes);
+bk_answer bk_cdf53_inverse_i16(const uint8_t *approx, size_t approx_bytes, const uint8_t *details, size_t details_bytes,
+                               uint8_t *output, size_t output_bytes);
+bk_answer bk_cdf53_inverse_i32(const uint8_t *approx, size_t approx_bytes, const uint8_t *details, size_t details_bytes,
+                               uint8_t *output, size_t output_bytes);
+
 #ifdef __cplusplus
 }
 #endif

@@ -1,10 +1,11 @@
+ghost use mathlib.Core.Bool.{true};
 ghost use mathlib.Core.Path.{_≡_};
 ghost use Rattle.sizes.specs.Calls.{Forward, Inverse};
-ghost use Prim.Native.Nat.{_+_, _-_, _/_, _<_, min};
+ghost use Prim.Native.Nat.{_+_, _-_, _/_, _<_};
 ghost use lib.ListN.{length};
 ghost use Rattle.sizes.specs.Bands.{downs};
 ghost use Rattle.samples.specs.Words.{tabulate, Holds};
-ghost use Rattle.samples.specs.Integers.{Width, wrap, decode, encode};
+ghost use Rattle.samples.specs.Integers.{isWidth, wrap, decode, encode};
 ghost use Rattle.cdf53i.specs.Lift.{approx, evens};
 ghost use Rattle.cdf53i.specs.Bands.{low, high, back, Input, Bands, Restoring};
 use crate::steps::approx_at;
@@ -62,17 +63,34 @@ fn forward(k: usize, x: &[u8], a: &mut [u8], d: &mut [u8])
     update(k, x, a, d);
 }
 
-// Even sample i, of the word e, and the odd one after it into x. The next even sample stands left of detail `right`; its word is the result.
-fn restore_pair(k: usize, a: &[u8], d: &[u8], x: &mut [u8], i: usize, right: usize, e: u32) -> u32
+// Even sample i, of the word e, and the odd one after it into x; the word of the next even sample is the result. Called in one place, so that it is inlined.
+fn restore_pair(k: usize, a: &[u8], d: &[u8], x: &mut [u8], i: usize, e: u32) -> u32
     requires { ⌜ Bands k (now x) (now a) (now d) ⌝ }
     requires { ⌜ Restoring k (length (now x) / k) (now a) (now d) (now x) i e ⌝ }
-    requires { ⌜ (i + 1 < length (now a) / k) × (i < length (now d) / k) × (right ≡ min (i + 1) (length (now d) / k - 1)) ⌝ }
+    requires { ⌜ (i + 1 < length (now a) / k) × (i + 1 < length (now d) / k) ⌝ }
     ensures { λ r. ⌜ Restoring k (length (now (x .entry)) / k) (now (a .entry)) (now (d .entry)) (now (x .exit)) (i + 1) r ⌝ }
 {
-    let next = even_at(k, a, d, i + 1, i, right);
+    let next = even_at(k, a, d, i + 1, i, i + 1);
     put(k, x, 2 * i, e);
     put(k, x, 2 * i + 1, odd_of(k, e, get(k, d, i), next));
     next
+}
+
+// The last even sample that has an odd one after it, of the word e, and what comes after: the ends, whose right neighbours are mirrored.
+fn restore_end(k: usize, a: &[u8], d: &[u8], x: &mut [u8], last: usize, e: u32)
+    requires { ⌜ Bands k (now x) (now a) (now d) ⌝ }
+    requires { ⌜ Restoring k (length (now x) / k) (now a) (now d) (now x) last e ⌝ }
+    requires { ⌜ last ≡ length (now d) / k - 1 ⌝ }
+    ensures { λ _. ⌜ now (x .exit) ≡ back k (now (a .entry)) (now (d .entry)) ⌝ }
+{
+    put(k, x, 2 * last, e);
+    if a.len() == d.len() {
+        put(k, x, 2 * last + 1, odd_of(k, e, get(k, d, last), e));
+    } else {
+        let f = even_at(k, a, d, last + 1, last, last);
+        put(k, x, 2 * last + 1, odd_of(k, e, get(k, d, last), f));
+        put(k, x, 2 * (last + 1), f);
+    }
 }
 
 // The samples whose approximations are in a and details in d, into x.
@@ -80,26 +98,19 @@ fn inverse(k: usize, a: &[u8], d: &[u8], x: &mut [u8])
     requires { ⌜ Bands k (now x) (now a) (now d) ⌝ }
     ensures { λ _. ⌜ now (x .exit) ≡ back k (now (a .entry)) (now (d .entry)) ⌝ }
 {
-    let n = x.len() / k;
-    let last = n / 2 - 1;
+    let last = d.len() / k - 1;
     let mut e = even_at(k, a, d, 0, 0, 0);
     let mut i = 0;
     while i < last {
-        e = restore_pair(k, a, d, x, i, i + 1, e);
+        e = restore_pair(k, a, d, x, i, e);
         i += 1;
     }
-    if n % 2 == 0 {
-        put(k, x, 2 * last, e);
-        put(k, x, 2 * last + 1, odd_of(k, e, get(k, d, last), e));
-    } else {
-        let f = restore_pair(k, a, d, x, last, last, e);
-        put(k, x, 2 * (last + 1), f);
-    }
+    restore_end(k, a, d, x, last, e);
 }
 
 // One level of 5/3 of the samples of k bytes in input, with document 01's checks.
 pub fn execute_forward(k: usize, input: &[u8], approx: &mut [u8], details: &mut [u8]) -> Answer
-    requires { ⌜ Width k ⌝ }
+    requires { ⌜ isWidth k ≡ true ⌝ }
     ensures { λ r. ⌜ Forward Wavelet.Cdf53 k (low k) (high k) (now (input .entry)) (now (approx .entry)) (now (details .entry)) r (now (approx .exit)) (now (details .exit)) ⌝ }
 {
     let said = check_forward(Wavelet::Cdf53, k, input.len(), approx.len(), details.len());
@@ -112,7 +123,7 @@ pub fn execute_forward(k: usize, input: &[u8], approx: &mut [u8], details: &mut 
 
 // The samples of two bands, with document 01's checks.
 pub fn execute_inverse(k: usize, approx: &[u8], details: &[u8], output: &mut [u8]) -> Answer
-    requires { ⌜ Width k ⌝ }
+    requires { ⌜ isWidth k ≡ true ⌝ }
     ensures { λ r. ⌜ Inverse Wavelet.Cdf53 k (back k) (now (approx .entry)) (now (details .entry)) (now (output .entry)) r (now (output .exit)) ⌝ }
 {
     let said = check_inverse(Wavelet::Cdf53, k, approx.len(), details.len(), output.len());

@@ -1,18 +1,20 @@
 -- Laws of samples in bytes, once over the width: words and the numbers that they stand for, samples to bytes and back, and lengths.
 -- Assumes nothing.
-use mathlib.Core.Path.{_≡_, refl, sym, ap, _∙_}
+use mathlib.Core.Bool.{Bool, true, false, _||_}
+use mathlib.Core.Path.{_≡_, refl, sym, ap, subst, _∙_}
 use mathlib.Core.List.{List, map}
 use mathlib.Core.Logic.{⊎-elim, inl, inr}
 use Prim.Native.Nat.{ℕ, _+_, _-_, _*_, _/_, _%_, _^_, _<_}
 use native.Mathlib.Nat.{mod-lt, mod-eq-of-lt, mod-eq-sub-mod, mod-mod}
 use native.Mathlib.Omega.{arith}
-use borrow.Author.Tests.{lt-ltb, le-ltb}
+use borrow.Author.Tests.{lt-ltb, le-ltb, eqb-true}
+use lib.Dec.{T, eqb}
 use lib.IntN.{ℤ, pos, negsuc, subℕ}
 use lib.ListN.{length, getD, length-map}
 use Rattle.answers.proofs.Order.{lt-or-le}
 use Rattle.samples.specs.Le.{Bytes}
 use Rattle.samples.specs.Words.{tabulate, wordAt, wordsOf, bytesOf, Holds}
-use Rattle.samples.specs.Integers.{val, residue, wrap, decode, encode, quarter, Width}
+use Rattle.samples.specs.Integers.{val, residue, wrap, decode, encode, quarter, isWidth, Width}
 use Rattle.samples.proofs.LeLaws.{top-pos}
 use Rattle.samples.proofs.Words.{getD-tabulate, tabulate-same, map-tabulate, word-lt, length-words, length-bytes, words-bytes, bytes-words}
 use Rattle.samples.proofs.Diff.{sub-ge, sub-lt, residue-sub}
@@ -30,6 +32,16 @@ width-2 = record { which = inr (inl refl); some = omega arith; words = refl; man
 pub width-4 : Width 4
 unfolding quarter
 width-4 = record { which = inr (inr refl); some = omega arith; words = refl; many = omega arith; most = omega arith }
+
+-- a number that the test takes for a width is one
+pub width-of : (k : ℕ) → isWidth k ≡ true → Width k
+width-of k h = first (eqb k 1) (eqb k 2) (eqb k 4) refl refl refl h
+  where
+    first : (a b c : Bool) → eqb k 1 ≡ a → eqb k 2 ≡ b → eqb k 4 ≡ c → a || (b || c) ≡ true → Width k
+    first true b c ea eb ec h = rw (eqb-true k 1 ea) width-1
+    first false true c ea eb ec h = rw (eqb-true k 2 eb) width-2
+    first false false true ea eb ec h = rw (eqb-true k 4 ec) width-4
+    first false false false ea eb ec h = absurd (subst T (sym h) tt)
 
 -- what is neither 1 nor 2 is 4
 pub four : {k : ℕ} → Width k → (k ≡ 1 → ⊥) → (k ≡ 2 → ⊥) → k ≡ 4

@@ -1,11 +1,11 @@
 -- Samples of 8, 16 and 32 bits, from document 01: "samples are two's complement, little-endian". Over the width k, in bytes.
 -- Assumes nothing: these are definitions.
-use mathlib.Core.Bool.{cond}
+use mathlib.Core.Bool.{Bool, cond, _||_}
 use mathlib.Core.List.{List, map}
 use mathlib.Core.Logic.{_⊎_}
 use mathlib.Core.Path.{_≡_}
 use Prim.Native.Nat.{ℕ, suc, _-_, _*_, _/_, _%_, _^_, _≤_, _<_}
-use lib.Dec.{ltb}
+use lib.Dec.{ltb, eqb}
 use lib.IntN.{ℤ, pos, negsuc}
 use Rattle.samples.specs.Words.{wordsOf, bytesOf}
 
@@ -32,6 +32,10 @@ encode k zs = bytesOf k (map (residue (256 ^ k)) zs)
 -- a quarter of the words of k bytes
 unfoldable pub quarter : ℕ → ℕ
 quarter k = 256 ^ k / 4
+
+-- whether k is a width, in bytes: "1, 2 or 4"
+abbrev pub isWidth : ℕ → Bool
+isWidth k = eqb k 1 || (eqb k 2 || eqb k 4)
 
 -- k is a width; what follows from that stands beside it, where `omega` finds it
 pub record Width (k : ℕ) : Type 0 where

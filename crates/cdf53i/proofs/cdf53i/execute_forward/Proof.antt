@@ -4,6 +4,7 @@ use mathlib.Core.Path.{_∙_, sym}
 use lib.ListN.{length}
 use Rattle.sizes.specs.declared.Wavelet.the-variants.{Cdf53}
 use Rattle.sizes.proofs.OneLevel.{forward-ready, forward-done, forward-refused}
+use Rattle.samples.proofs.IntegerLaws.{width-of}
 use Rattle.cdf53i.specs.Bands.{low, high}
 use Rattle.cdf53i.proofs.Ready.{ready}
 use Rattle.cdf53i.proofs.cdf53i.execute_forward.Statement.{statement}
@@ -12,7 +13,7 @@ use Rattle.cdf53i.proofs.cdf53i.execute_forward.Tie as tie
 forward-requires : tie.Need-forward-requires
 forward-requires c κs =
     let a = c .before .before .before .before .before .before .before .before .before .args in
-    ready (c .before .before .before .before .before .before .before .before .before .pre) (forward-ready Cdf53 (a .k) (length (a .input .now)) (length (a .approx .now)) (length (a .details .now)) (rw (c .before .before .before .before .before .check-forward .ensures) at (sym (c .before .before .before .is-done .ensures) ∙ c .before .before .if1 .taken)))
+    ready (width-of _ (c .before .before .before .before .before .before .before .before .before .pre)) (forward-ready Cdf53 (a .k) (length (a .input .now)) (length (a .approx .now)) (length (a .details .now)) (rw (c .before .before .before .before .before .check-forward .ensures) at (sym (c .before .before .before .is-done .ensures) ∙ c .before .before .if1 .taken)))
 
 returns : tie.Need-returns
 returns c =
@@ -30,7 +31,7 @@ pub execute-forward-spec : {M : Type 1} → statement M
 execute-forward-spec =
     tie.close
     (tie.spec
-    (λ c κs. c .before .before .before .pre .some)
+    (λ c κs. width-of _ (c .before .before .before .pre) .some)
     (λ c κs. search needs)
     (λ c κs. search needs)
     forward-requires

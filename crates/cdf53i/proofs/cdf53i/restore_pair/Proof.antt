@@ -24,7 +24,7 @@ returns c =
     record {
       front =
           front-at _
-          (front-pair (pre .0 .input .width) (a .a .now) (a .d .now) (a .i) (a .i + 1) (pre .1 .0 .front) (pre .1 .1 .1) (omega arith) (omega arith) (pre .1 .0 .next) (e .ensures .0) (c .before .before .before .before .before .before .before .before .put .ensures)
+          (front-pair (pre .0 .input .width) (a .a .now) (a .d .now) (a .i) (a .i + 1) (pre .1 .0 .front) (omega arith) (omega arith) (omega arith) (pre .1 .0 .next) (e .ensures .0) (c .before .before .before .before .before .before .before .before .put .ensures)
           (c .before .before .before .before .get .ensures .0) (c .before .before .before .odd-of .ensures .0) (c .before .before .put2 .ensures))
           (omega arith);
       next = e .ensures .0;
@@ -35,6 +35,7 @@ pub restore-pair-spec : {M : Type 1} → statement M
 restore-pair-spec =
     tie.close
     (tie.spec
+    (λ c. search needs)
     (λ c. search needs)
     (λ c κs. search needs)
     (λ c. search needs)
