@@ -191,11 +191,7 @@ pub record Figure (x a d : List ℤ) : Type 0 where
 abbrev neg : ℕ → ℤ
 neg n = negℤ (pos n)
 
--- P3 without wraps: "d -255"
-pub p3 : high (pos 127 ∷ negℤ (pos 128) ∷ pos 127 ∷ []) (pos 0) ≡ negℤ (pos 255)
-unfolding pse residue extended high
-p3 = refl
-
+-- P5, whose numbers do not wrap
 pub p5 : Figure (pos 0 ∷ pos 3 ∷ neg 4 ∷ pos 1 ∷ pos 7 ∷ []) (pos 3 ∷ neg 3 ∷ pos 7 ∷ []) (pos 5 ∷ pos 0 ∷ [])
 unfolding tabulate pse residue extended high low joined evenBack oddBack back
 p5 = record { lows = refl; highs = refl; backs = refl }

@@ -62,7 +62,9 @@ fn mean(k: usize, x: u32, z: u32) -> u32
     ensures { λ r. ⌜ (r ≡ (bias (quarter k) x + bias (quarter k) z) / 2) × (r < 256 ^ k) ⌝ }
 {
     let h = 2 * quarter_of(k);
-    ((add(k, x, h) as u64 + add(k, z, h) as u64) / 2) as u32
+    let p = add(k, x, h);
+    let q = add(k, z, h);
+    ((p as u64 + q as u64) / 2) as u32
 }
 
 // A quarter of the sum of the numbers of two words and 2, rounded down, and a quarter of all words more.
@@ -72,7 +74,9 @@ fn mean4(k: usize, x: u32, z: u32) -> u32
     ensures { λ r. ⌜ (r ≡ (bias (quarter k) x + bias (quarter k) z + 2) / 4) × (r < 256 ^ k) ⌝ }
 {
     let h = 2 * quarter_of(k);
-    ((add(k, x, h) as u64 + add(k, z, h) as u64 + 2) / 4) as u32
+    let p = add(k, x, h);
+    let q = add(k, z, h);
+    ((p as u64 + q as u64 + 2) / 4) as u32
 }
 
 // y - floor((x + z) / 2)
