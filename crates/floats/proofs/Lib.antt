@@ -1,0 +1,5 @@
+pub mod Fits
+pub mod Midway
+pub mod Turns
+pub mod Runs
+pub mod Splits

@@ -1,14 +1,11 @@
 -- The float filters on bytes: "start from evens and odds of x", run the schedule, and back. Over the format and the wavelet.
 -- Assumes nothing: these are definitions.
 use mathlib.Core.List.{List}
-use Prim.Native.Nat.{ℕ, _/_, _≤_}
+use Prim.Native.Nat.{ℕ}
 use lib.Ieee.{Float, nan, Format}
-use lib.ListN.{length}
 use Rattle.sizes.specs.declared.Wavelet.{Wavelet}
-use Rattle.sizes.specs.Bands.{ups, downs, smallestOf}
-use Rattle.samples.specs.Words.{Holds}
 use Rattle.samples.specs.Halves.{evenOf, oddOf, joined}
-use Rattle.samples.specs.Floats.{width, decodeFloats, encodeFloats}
+use Rattle.samples.specs.Floats.{decodeFloats, encodeFloats}
 use Rattle.floats.specs.Steps.{runA, runD}
 use Rattle.floats.specs.Filters.{stepsOf, backOf}
 
