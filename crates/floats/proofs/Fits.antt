@@ -1,13 +1,16 @@
 -- Floats to bytes and back, once over the format: what a step makes fits the format, so its bytes are read as it again. Assumes nothing.
 use mathlib.Core.List.{List, [], _∷_}
+use mathlib.Core.Logic.{⊎-elim}
 use mathlib.Core.Path.{_≡_}
-use Prim.Native.Nat.{ℕ}
+use Prim.Native.Nat.{ℕ, _/_}
 use lib.Dec.{T}
 use lib.Ieee.{Float, nan, Format, fits, mul, add}
-use lib.Ieee.Fits.{add-fits, mul-fits}
-use lib.ListN.{length, getD}
-use Rattle.samples.specs.Floats.{floatAt, decodeFloats, encodeFloats}
-use Rattle.samples.proofs.FloatLaws.{decodeFloats-is, decodeFloats-encode, floatAt-fits}
+use lib.Ieee.Fits.{add-fits, mul-fits, nan-fits}
+use lib.ListN.{length, getD, List·getD-eq-default}
+use Rattle.answers.proofs.Order.{lt-or-le}
+use Rattle.samples.specs.Words.{tabulate}
+use Rattle.samples.specs.Floats.{width, floatAt, decodeFloats, encodeFloats}
+use Rattle.samples.proofs.FloatLaws.{length-decodeFloats, at-decodeFloats, decodeFloats-is, decodeFloats-encode, floatAt-fits}
 use Rattle.floats.specs.Steps.{lift, oddAt, evenAt, odds, evens, scaled, Step, oddly, evenly, scaling, stepA, stepD, runA, runD}
 
 module _ (f : Format) where
@@ -19,8 +22,20 @@ module _ (f : Format) where
   unfolding lift
   lift-fits c l r x = add-fits f (mul f (add f l r) c) x
 
+  -- what is read fits, and so does the nan that stands for what is not there
+  pub getD-fits : (s : List ℕ) (i : ℕ) → T (fits f (getD (decodeFloats f s) i nan))
+  getD-fits s i =
+      ⊎-elim
+      (λ h. rw (at-decodeFloats f s i h) (floatAt-fits f s i))
+      (λ h. rw (List·getD-eq-default (decodeFloats f s) nan {n = i} (rw (length-decodeFloats f s) h)) (nan-fits f))
+      (lt-or-le i (length s / width f))
+
   pub fit-decode : (s : List ℕ) → Fit (decodeFloats f s)
   fit-decode s = rw (decodeFloats-is f s) (decodeFloats-encode f _ (floatAt f s) (λ i h. floatAt-fits f s i))
+
+  -- any floats that were read, in another order
+  pub fit-read : (s : List ℕ) (n : ℕ) (p : ℕ → ℕ) → Fit (tabulate n (λ i. getD (decodeFloats f s) (p i) nan))
+  fit-read s n p = decodeFloats-encode f n (λ i. getD (decodeFloats f s) (p i) nan) (λ i h. getD-fits s (p i))
 
   pub fit-odds : (c : Float) (a d : List Float) → Fit (odds (lift f c) nan a d)
   unfolding odds oddAt

@@ -3,3 +3,4 @@ pub mod Midway
 pub mod Turns
 pub mod Runs
 pub mod Splits
+pub mod Levels

@@ -15,6 +15,7 @@ use Rattle.samples.specs.Floats.{width, floatAt, putFloat, decodeFloats, encode
 use Rattle.samples.proofs.Words.{tabulate-same, tabulate-getD, holds-on}
 use Rattle.samples.proofs.FloatLaws.{length-putFloat, length-decodeFloats, at-decodeFloats, floatAt-fits, floatAt-encode, put-encode}
 use Rattle.floats.specs.Loops.{Stored}
+use Rattle.floats.proofs.Fits.{getD-fits}
 
 -- entry i where the first j entries are new ones
 abbrev pub mix : (ℕ → Float) → (ℕ → Float) → ℕ → ℕ → Float
@@ -90,12 +91,9 @@ module _ {f : Format} {n : ℕ} where
     midway-all h = m .bytes ∙ ap (encodeFloats f) (tabulate-same n (mix new old j) new (λ i l. mix-new new old j i (omega arith)))
 
 -- a float that is not passed yet, or that stays, is still the old one
-module _ {f : Format} {n j : ℕ} {new : ℕ → Float} {s t : List ℕ} (m : Midway f n j new (floatsOf f t) s) (h : Holds (width f) n t) (i : ℕ) (l : i < n) where
-  old-fits : T (fits f (floatsOf f t i))
-  old-fits = rw (at-decodeFloats f t i (rw (h .count) l)) (floatAt-fits f t i)
-
+module _ {f : Format} {n j : ℕ} {new : ℕ → Float} {s : List ℕ} (t : List ℕ) (m : Midway f n j new (floatsOf f t) s) (i : ℕ) (l : i < n) where
   same : mix new (floatsOf f t) j i ≡ floatsOf f t i → floatAt f s i ≡ floatsOf f t i
-  same e = rw (m .bytes) (floatAt-encode f n (mix new (floatsOf f t) j) i l (rw e old-fits) ∙ e)
+  same e = rw (m .bytes) (floatAt-encode f n (mix new (floatsOf f t) j) i l (rw e (getD-fits f t i)) ∙ e)
 
   pub midway-later : j ≤ i → floatAt f s i ≡ floatsOf f t i
   midway-later k = same (mix-old new (floatsOf f t) j i k)

@@ -106,5 +106,5 @@ module _ {f : Format} {S : Type 0} (kind : S → Step) (s : List S) (z : S) {a d
   pub ran-turn : {i : ℕ} {a₁ d₁ a₂ d₂ : List ℕ} → i < length s → Ran f (take i (map kind s)) a d a₁ d₁ → Ran f (kind (getD s i z) ∷ []) a₁ d₁ a₂ d₂ → Ran f (take (i + 1) (map kind s)) a d a₂ d₂
   ran-turn {i} h r q = rw (front-step kind s z i h) (ran-then (take i (map kind s)) (kind (getD s i z) ∷ []) r q)
 
-  pub ran-all : {i : ℕ} {a₁ d₁ : List ℕ} → length s ≤ i → Ran f (take i (map kind s)) a d a₁ d₁ → Ran f (map kind s) a d a₁ d₁
-  ran-all {i} h r = rw (take-all i (map kind s) (rw (length-map s kind) h)) at r
+  pub ran-all : (i : ℕ) {a₁ d₁ : List ℕ} → length s ≤ i → Ran f (take i (map kind s)) a d a₁ d₁ → Ran f (map kind s) a d a₁ d₁
+  ran-all i h r = rw (take-all i (map kind s) (rw (length-map s kind) h)) at r

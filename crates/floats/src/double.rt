@@ -1,6 +1,6 @@
 // The steps at f64, on two bands. single.rt has the same at f32.
 ghost use mathlib.Core.Path.{_≡_};
-ghost use mathlib.Core.List.{[], _∷_};
+ghost use mathlib.Core.List.{[], _∷_, map};
 ghost use Prim.Native.Nat.{_/_};
 ghost use lib.ListN.{length};
 ghost use lib.Ieee.{binary64, nan};
@@ -102,5 +102,31 @@ fn apply_f64(step: Step64, a: &mut [u8], d: &mut [u8])
             dwt97_scale_f64(a, k);
             dwt97_scale_f64(d, l);
         }
+    }
+}
+
+// The schedules of 5/3, of two steps, on the two bands.
+pub fn run2_f64(schedule: [Step64; 2], a: &mut [u8], d: &mut [u8])
+    requires { ⌜ Bands binary64 (now a) (now d) ⌝ }
+    ensures { λ _. ⌜ Ran binary64 (map kind64 schedule) (now (a .entry)) (now (d .entry)) (now (a .exit)) (now (d .exit)) ⌝ }
+{
+    let mut i = 0;
+    while i < 2 {
+        let step = schedule[i];
+        apply_f64(step, a, d);
+        i += 1;
+    }
+}
+
+// The schedules of 9/7, of five.
+pub fn run5_f64(schedule: [Step64; 5], a: &mut [u8], d: &mut [u8])
+    requires { ⌜ Bands binary64 (now a) (now d) ⌝ }
+    ensures { λ _. ⌜ Ran binary64 (map kind64 schedule) (now (a .entry)) (now (d .entry)) (now (a .exit)) (now (d .exit)) ⌝ }
+{
+    let mut i = 0;
+    while i < 5 {
+        let step = schedule[i];
+        apply_f64(step, a, d);
+        i += 1;
     }
 }

@@ -1,6 +1,6 @@
 // The steps at f32, on two bands. double.rt has the same at f64.
 ghost use mathlib.Core.Path.{_≡_};
-ghost use mathlib.Core.List.{[], _∷_};
+ghost use mathlib.Core.List.{[], _∷_, map};
 ghost use Prim.Native.Nat.{_/_};
 ghost use lib.ListN.{length};
 ghost use lib.Ieee.{binary32, nan};
@@ -102,5 +102,31 @@ fn apply_f32(step: Step32, a: &mut [u8], d: &mut [u8])
             dwt97_scale_f32(a, k);
             dwt97_scale_f32(d, l);
         }
+    }
+}
+
+// The schedules of 5/3, of two steps, on the two bands.
+pub fn run2_f32(schedule: [Step32; 2], a: &mut [u8], d: &mut [u8])
+    requires { ⌜ Bands binary32 (now a) (now d) ⌝ }
+    ensures { λ _. ⌜ Ran binary32 (map kind32 schedule) (now (a .entry)) (now (d .entry)) (now (a .exit)) (now (d .exit)) ⌝ }
+{
+    let mut i = 0;
+    while i < 2 {
+        let step = schedule[i];
+        apply_f32(step, a, d);
+        i += 1;
+    }
+}
+
+// The schedules of 9/7, of five.
+pub fn run5_f32(schedule: [Step32; 5], a: &mut [u8], d: &mut [u8])
+    requires { ⌜ Bands binary32 (now a) (now d) ⌝ }
+    ensures { λ _. ⌜ Ran binary32 (map kind32 schedule) (now (a .entry)) (now (d .entry)) (now (a .exit)) (now (d .exit)) ⌝ }
+{
+    let mut i = 0;
+    while i < 5 {
+        let step = schedule[i];
+        apply_f32(step, a, d);
+        i += 1;
     }
 }
