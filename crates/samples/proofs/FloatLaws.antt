@@ -13,7 +13,7 @@ use lib.Ieee.Bits.{nanBits-is, nanBits-above, ofBits-toBits, toBits-ofBits, toBi
 use lib.Ieee.Compare.{nan-differs, differs-from-itself}
 use Rattle.samples.specs.Words.{tabulate, wordAt, wordsOf, bytesOf}
 use Rattle.samples.specs.Floats.{width, floatAt, putFloat, decodeFloats, encodeFloats, canonical}
-use Rattle.samples.proofs.Words.{getD-tabulate, tabulate-same, map-tabulate, put-same, put-other, length-put, length-words, length-bytes, words-bytes}
+use Rattle.samples.proofs.Words.{length-tabulate, getD-tabulate, set-tabulate, tabulate-same, map-tabulate, put-same, put-other, length-put, length-words, length-bytes, put-bytes, word-bytes, words-bytes}
 
 -- ---- NaN both ways
 
@@ -92,7 +92,7 @@ module _ (f : Format) where
   unfolding encodeFloats
   encodeFloats-tabulate n g = ap (bytesOf (width f)) (map-tabulate (toBits f) n g)
 
-  decodeFloats-is : (s : List ℕ) → decodeFloats f s ≡ tabulate (length s / width f) (floatAt f s)
+  pub decodeFloats-is : (s : List ℕ) → decodeFloats f s ≡ tabulate (length s / width f) (floatAt f s)
   unfolding decodeFloats wordsOf floatAt
   decodeFloats-is s = map-tabulate (ofBits f) (length s / width f) (wordAt (width f) s)
 
@@ -111,6 +111,24 @@ module _ (f : Format) where
       rw (encodeFloats-tabulate n g, words-bytes (width f) (width-pos f) n (λ i. toBits f (g i)), map-tabulate)
       (tabulate-same n (λ i. ofBits f (toBits f (g i) % 256 ^ width f)) g
       (λ i h. ap (ofBits f) (mod-eq-of-lt (bits-lt f (g i) (t i h))) ∙ ofBits-toBits f (g i) (t i h)))
+
+  -- float i of the bytes of floats, where it fits the format
+  pub floatAt-encode : (n : ℕ) (g : ℕ → Float) (i : ℕ) → i < n → T (fits f (g i)) → floatAt f (encodeFloats f (tabulate n g)) i ≡ g i
+  unfolding floatAt
+  floatAt-encode n g i h t =
+      let w : wordAt (width f) (bytesOf (width f) (tabulate n (λ j. toBits f (g j)))) i ≡ toBits f (g i) =
+      word-bytes (width f) (tabulate n (λ j. toBits f (g j))) i (rw (length-tabulate n (λ j. toBits f (g j))) h)
+      ∙ ap (λ u. u % 256 ^ width f) (getD-tabulate n (λ j. toBits f (g j)) i 0 h)
+      ∙ mod-eq-of-lt (bits-lt f (g i) t) in
+      rw (encodeFloats-tabulate n g, w) (ofBits-toBits f (g i) t)
+
+  -- a float put into the bytes of floats
+  pub put-encode : (n : ℕ) (g h : ℕ → Float) (i : ℕ) (x : Float) → i < n → h i ≡ x → ((j : ℕ) → j < n → (j ≡ i → ⊥) → h j ≡ g j)
+      → putFloat f (encodeFloats f (tabulate n g)) i x ≡ encodeFloats f (tabulate n h)
+  unfolding putFloat
+  put-encode n g h i x hi e same =
+      rw (encodeFloats-tabulate n g, encodeFloats-tabulate n h, put-bytes (width f) (tabulate n (λ j. toBits f (g j))) i (toBits f x) (rw (length-tabulate n (λ j. toBits f (g j))) hi))
+      (ap (bytesOf (width f)) (set-tabulate n (λ j. toBits f (g j)) (λ j. toBits f (h j)) i (toBits f x) hi (ap (toBits f) e) (λ j l q. ap (toBits f) (same j l q))))
 
   -- bytes to floats and back: each pattern as it is written again
   pub encodeFloats-decode : (s : List ℕ) → encodeFloats f (decodeFloats f s) ≡ bytesOf (width f) (map (canonical f) (wordsOf (width f) s))

@@ -5,13 +5,14 @@ use mathlib.Core.List.{List, [], _∷_, _++_, map, map-append, append-assoc, app
 use mathlib.Core.Logic.{⊎-elim}
 use Prim.Native.Nat.{ℕ, zero, suc, _+_, _-_, _*_, _/_, _%_, _^_, _≤_, _<_}
 use native.Mathlib.Nat.{mul-suc, mul-zero, mul-comm, suc-mul, mul-div-right, div-le-self, div-mul-le-self, mul-le-mul-right, mul-le-mul-left, le-trans, le-of-suc-le-suc, not-suc-le-zero, mod-eq-of-lt}
+use native.Mathlib.Decide.{ℕ-discrete}
 use native.Mathlib.Omega.{arith}
-use lib.ListN.{length, getD, take, drop, length-append, List·getD-append}
-use lib.Seq.{ext-getD, getD-at, take-add, take-all}
+use lib.ListN.{length, getD, take, drop, set, length-append, length-set, List·getD-append}
+use lib.Seq.{ext-getD, getD-at, getD-set-same, getD-set-other, set-split, take-nil, drop-nil, take-add, take-all, take-append-add, drop-append-add}
 use Rattle.answers.proofs.Order.{lt-or-le}
 use Rattle.samples.specs.Le.{leBytes, Bytes}
 use Rattle.samples.specs.Words.{tabulate, wordAt, putAt, wordsOf, bytesOf, Holds}
-use Rattle.samples.proofs.LeLaws.{leAt-skip, leAt-bytes, leAt-lt, length-leBytes, leBytes-at, length-stored, stored-read, stored-before, stored-after}
+use Rattle.samples.proofs.LeLaws.{leAt-skip, leAt-bytes, leAt-lt, length-leBytes, leBytes-at, length-stored, stored-is, stored-read, stored-before, stored-after}
 
 -- ---- tables
 
@@ -38,6 +39,19 @@ module _ {ℓ} {A : Type ℓ} where
   -- a list is the table of its elements
   pub tabulate-getD : (l : List A) (d : A) → tabulate (length l) (λ i. getD l i d) ≡ l
   tabulate-getD l d = ext-getD d (tabulate (length l) (λ i. getD l i d)) l (length-tabulate _ _) (λ i h. getD-tabulate (length l) (λ i. getD l i d) i d (rw (length-tabulate (length l) (λ i. getD l i d)) at h))
+
+  -- a table with one entry changed
+  pub set-tabulate : (n : ℕ) (g h : ℕ → A) (i : ℕ) (v : A) → i < n → h i ≡ v → ((j : ℕ) → j < n → (j ≡ i → ⊥) → h j ≡ g j) → set (tabulate n g) i v ≡ tabulate n h
+  set-tabulate n g h i v hi e same =
+      let len : length (set (tabulate n g) i v) ≡ n = length-set (tabulate n g) i v ∙ length-tabulate n g in
+      ext-getD v (set (tabulate n g) i v) (tabulate n h) (len ∙ sym (length-tabulate n h))
+      (λ j l.
+      let hj : j < n = rw len at l in
+      sym (getD-tabulate n h j v hj
+      ∙ elim (ℕ-discrete j i) [
+        | yes q ↦ rw q (e ∙ sym (getD-set-same (tabulate n g) i v v (rw (length-tabulate n g) hi)))
+        | no q ↦ same j hj q ∙ sym (getD-set-other (tabulate n g) i j v v q ∙ getD-tabulate n g j v hj)
+      ]))
 
 pub map-tabulate {ℓ} : {A B : Type ℓ} (f : A → B) (n : ℕ) (g : ℕ → A) → map f (tabulate n g) ≡ tabulate n (λ i. f (g i))
 unfolding tabulate
@@ -102,6 +116,31 @@ module _ (k : ℕ) where
   unfolding bytesOf
   length-bytes [] = sym (mul-zero k)
   length-bytes (u ∷ us) = length-append (leBytes k u) (bytesOf k us) ∙ rw (length-leBytes, length-bytes us) (omega (arith, mul-suc k (length us)))
+
+  -- a part of the bytes is the bytes of a part
+  pub bytes-take : (us : List ℕ) (i : ℕ) → take (k * i) (bytesOf k us) ≡ bytesOf k (take i us)
+  unfolding bytesOf
+  bytes-take [] i = rw (take-nil i) (take-nil (k * i))
+  bytes-take (u ∷ us) zero = rw (mul-zero k)
+  bytes-take (u ∷ us) (suc i) =
+      let e : k * suc i ≡ length (leBytes k u) + k * i = rw (length-leBytes, mul-suc) (omega arith) in
+      rw (e, take-append-add, bytes-take us i)
+
+  pub bytes-drop : (us : List ℕ) (i : ℕ) → drop (k * i) (bytesOf k us) ≡ bytesOf k (drop i us)
+  unfolding bytesOf
+  bytes-drop [] i = rw (drop-nil i) (drop-nil (k * i))
+  bytes-drop (u ∷ us) zero = rw (mul-zero k)
+  bytes-drop (u ∷ us) (suc i) =
+      let e : k * suc i ≡ length (leBytes k u) + k * i = rw (length-leBytes, mul-suc) (omega arith) in
+      rw (e, drop-append-add, bytes-drop us i)
+
+  -- a word put into the bytes of words
+  pub put-bytes : (us : List ℕ) (i u : ℕ) → i < length us → putAt k (bytesOf k us) i u ≡ bytesOf k (set us i u)
+  unfolding putAt bytesOf
+  put-bytes us i u h =
+      let m : k * suc i ≡ k * i + k = mul-suc k i in
+      stored-is k (bytesOf k us) (k * i) u (rw (length-bytes us, ← m) (mul-le-mul-left k h))
+      ∙ rw (← m, bytes-take us i, bytes-drop us (suc i), set-split us i u h, bytes-append)
 
   -- word i of the bytes of words
   pub word-bytes : (us : List ℕ) (i : ℕ) → i < length us → wordAt k (bytesOf k us) i ≡ getD us i 0 % 256 ^ k

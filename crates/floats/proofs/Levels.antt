@@ -1,0 +1,95 @@
+-- One level of any float filter, once over the format and the wavelet: what the checks leave is what the steps ask, and what the steps leave is the level.
+-- Assumes nothing.
+use mathlib.Core.Bool.{Bool, true, false}
+use mathlib.Core.List.{List}
+use mathlib.Core.Path.{_≡_, sym, ap, _∙_}
+use Prim.Native.Nat.{ℕ, _+_, _*_, _/_, _≤_}
+use native.Mathlib.Omega.{arith}
+use lib.Ieee.{Float, nan, Format}
+use lib.ListN.{length, getD}
+use Rattle.answers.specs.declared.err.Answer.{Answer}
+use Rattle.answers.specs.declared.err.Refusal.{Refusal}
+use Rattle.answers.specs.Answers.{answerOf, done}
+use Rattle.sizes.specs.declared.Wavelet.{Wavelet}
+use Rattle.sizes.specs.declared.Wavelet.the-variants.{Cdf53, Cdf97}
+use Rattle.sizes.specs.Bands.{ups, downs, smallestOf}
+use Rattle.sizes.specs.Calls.{sayForward, Level, Forward}
+use Rattle.sizes.proofs.OneLevel.{forward-ready, forward-done, forward-refused}
+use Rattle.samples.specs.Words.{Holds}
+use Rattle.samples.specs.Halves.{evenOf, oddOf}
+use Rattle.samples.specs.Floats.{width, decodeFloats, encodeFloats}
+use Rattle.samples.proofs.Words.{length-tabulate, holds}
+use Rattle.samples.proofs.FloatLaws.{width-pos, length-decodeFloats, length-encodeFloats}
+use Rattle.floats.specs.Filters.{stepsOf}
+use Rattle.floats.specs.Bands.{approxs, details, low, high}
+use Rattle.floats.specs.Loops.{Lent, Stored, Bands, Ran}
+use Rattle.floats.proofs.Fits.{Fit, fit-read}
+
+-- what the checks leave is what the steps ask
+pub ready : (w : Wavelet) (f : Format) {x a d : List ℕ} → Level w (width f) (length x / width f) (length x) (length a) (length d) → Lent f x a d
+ready w f {x} {a} {d} l =
+    record {
+      long = three w (l .long);
+      samples = holds (width-pos f) x _ (l .samples);
+      approx = holds (width-pos f) a _ (l .approx);
+      details = holds (width-pos f) d _ (l .details);
+    }
+  where
+    three : (w : Wavelet) {n : ℕ} → smallestOf w ≤ n → 3 ≤ n
+    three Cdf53 h = h
+    three Cdf97 h = omega arith
+
+module _ (f : Format) where
+  -- bytes of n floats that are read again
+  pub stored-encode : (n : ℕ) (xs : List Float) (s : List ℕ) → s ≡ encodeFloats f xs → length xs ≡ n → Fit f xs → Stored f n s
+  stored-encode n xs s e len fit =
+      record {
+        holds = holds (width-pos f) s n (ap length e ∙ length-encodeFloats f xs ∙ ap (λ m. width f * m) len);
+        plain = rw e (ap (encodeFloats f) fit);
+      }
+
+  module _ (x : List ℕ) where
+    fit-evens : Fit f (evenOf nan (decodeFloats f x))
+    unfolding evenOf
+    fit-evens = fit-read f x _ (λ i. 2 * i)
+
+    fit-odds : Fit f (oddOf nan (decodeFloats f x))
+    unfolding oddOf
+    fit-odds = fit-read f x _ (λ i. 2 * i + 1)
+
+    length-evens : length (evenOf nan (decodeFloats f x)) ≡ ups (length x / width f)
+    unfolding evenOf
+    length-evens = rw (length-decodeFloats f x) (length-tabulate _ _)
+
+    length-odds : length (oddOf nan (decodeFloats f x)) ≡ downs (length x / width f)
+    unfolding oddOf
+    length-odds = rw (length-decodeFloats f x) (length-tabulate _ _)
+
+    module _ {a d : List ℕ} (ea : a ≡ encodeFloats f (evenOf nan (decodeFloats f x))) (ed : d ≡ encodeFloats f (oddOf nan (decodeFloats f x))) where
+      -- the evens and the odds of three samples or more are bands
+      pub split-bands : 3 ≤ length x / width f → Bands f a d
+      split-bands long =
+          let sa = stored-encode (ups (length x / width f)) _ a ea length-evens fit-evens in
+          let sd = stored-encode (downs (length x / width f)) _ d ed length-odds fit-odds in
+          let na = sa .holds .count in
+          let nd = sd .holds .count in
+          record { approx = rw na sa; details = rw nd sd; some = omega arith; fewer = omega arith; near = omega arith }
+
+      -- and the schedule makes the level of them
+      pub run-level : (w : Wavelet) {a′ d′ : List ℕ} → Ran f (stepsOf f w) a d a′ d′ → (a′ ≡ low f w x) × (d′ ≡ high f w x)
+      unfolding low high approxs details
+      run-level w r =
+          let xa : decodeFloats f a ≡ evenOf nan (decodeFloats f x) = rw ea fit-evens in
+          let xd : decodeFloats f d ≡ oddOf nan (decodeFloats f x) = rw ed fit-odds in
+          (r .approx ∙ rw (xa, xd), r .details ∙ rw (xa, xd))
+
+-- the two ends of a forward call: s is what the checks said, r its numbers, and b whether it is done
+module _ (w : Wavelet) (f : Format) (x a d : List ℕ) {s : Refusal} {r : Answer} {b : Bool} (es : s ≡ sayForward w (width f) (length x) (length a) (length d)) (er : r ≡ answerOf s) (eb : b ≡ done s) where
+  pub forward-lent : b ≡ true → Lent f x a d
+  forward-lent t = ready w f (forward-ready w (width f) (length x) (length a) (length d) (rw es at (sym eb ∙ t)))
+
+  pub forward-made : {a′ d′ : List ℕ} → b ≡ true → (a′ ≡ low f w x) × (d′ ≡ high f w x) → Forward w (width f) (low f w) (high f w) x a d r a′ d′
+  forward-made t p = forward-done w (width f) (low f w) (high f w) x a d s r _ _ es er (sym eb ∙ t) (p .0) (p .1)
+
+  pub forward-kept : b ≡ false → Forward w (width f) (low f w) (high f w) x a d r a d
+  forward-kept t = forward-refused w (width f) (low f w) (high f w) x a d s r es er (sym eb ∙ t)

@@ -1,0 +1,110 @@
+-- Schedules on two bands, once over the format: lengths stay, one step more, and what a whole schedule leaves. Assumes nothing.
+use mathlib.Core.List.{List, [], _∷_, _++_, map}
+use mathlib.Core.Path.{_≡_, refl, sym, ap, _∙_}
+use Prim.Native.Nat.{ℕ, _+_, _*_, _/_, _≤_, _<_}
+use native.Mathlib.Numerals.{add-one}
+use lib.Ieee.{Float, nan, Format}
+use lib.ListN.{length, getD, take, length-map, List·getD-map}
+use lib.Seq.{take-suc, take-all}
+use Rattle.samples.specs.Words.{Holds}
+use Rattle.samples.specs.Floats.{width, decodeFloats, encodeFloats}
+use Rattle.samples.proofs.Words.{length-tabulate, holds, holds-on}
+use Rattle.samples.proofs.FloatLaws.{length-decodeFloats, length-encodeFloats}
+use Rattle.floats.specs.Steps.{lift, odds, evens, scaled, Step, oddly, evenly, scaling, stepA, stepD, runA, runD}
+use Rattle.floats.specs.Loops.{Stored, Bands, Ran}
+use Rattle.floats.proofs.Fits.{Fit, fit-decode, fit-runA, fit-runD}
+
+module _ (f : Format) where
+  length-stepA : (s : Step) (a d : List Float) → length (stepA f s a d) ≡ length a
+  unfolding evens scaled
+  length-stepA (oddly c) a d = refl
+  length-stepA (evenly c) a d = length-tabulate (length a) _
+  length-stepA (scaling p q) a d = length-tabulate (length a) _
+
+  length-stepD : (s : Step) (a d : List Float) → length (stepD f s a d) ≡ length d
+  unfolding odds scaled
+  length-stepD (oddly c) a d = length-tabulate (length d) _
+  length-stepD (evenly c) a d = refl
+  length-stepD (scaling p q) a d = length-tabulate (length d) _
+
+  pub length-runA : (ss : List Step) (a d : List Float) → length (runA f ss a d) ≡ length a
+  length-runA [] a d = refl
+  length-runA (s ∷ ss) a d = length-runA ss (stepA f s a d) (stepD f s a d) ∙ length-stepA s a d
+
+  pub length-runD : (ss : List Step) (a d : List Float) → length (runD f ss a d) ≡ length d
+  length-runD [] a d = refl
+  length-runD (s ∷ ss) a d = length-runD ss (stepA f s a d) (stepD f s a d) ∙ length-stepD s a d
+
+  -- one schedule after another
+  pub runA-append : (ss ts : List Step) (a d : List Float) → runA f (ss ++ ts) a d ≡ runA f ts (runA f ss a d) (runD f ss a d)
+  runA-append [] ts a d = refl
+  runA-append (s ∷ ss) ts a d = runA-append ss ts (stepA f s a d) (stepD f s a d)
+
+  pub runD-append : (ss ts : List Step) (a d : List Float) → runD f (ss ++ ts) a d ≡ runD f ts (runA f ss a d) (runD f ss a d)
+  runD-append [] ts a d = refl
+  runD-append (s ∷ ss) ts a d = runD-append ss ts (stepA f s a d) (stepD f s a d)
+
+  -- the bytes of floats that are as many as s has, and that are read again, are stored
+  pub stored : (s : List ℕ) (xs : List Float) → Holds (width f) (length s / width f) s → length xs ≡ length (decodeFloats f s) → Fit f xs → (t : List ℕ) → t ≡ encodeFloats f xs → Stored f (length t / width f) t × (length t ≡ length s)
+  stored s xs h len fit t e =
+      let same : length t ≡ length s = ap length e ∙ length-encodeFloats f xs ∙ ap (λ n. width f * n) (len ∙ length-decodeFloats f s) ∙ sym (h .size) in
+      (record { holds = rw same (holds-on t h same); plain = rw e (ap (encodeFloats f) fit) }, same)
+
+module _ {f : Format} {a d : List ℕ} (b : Bands f a d) where
+  pub ran-none : Ran f [] a d a d
+  ran-none = record { approx = sym (b .approx .plain); details = sym (b .details .plain) }
+
+  -- one step, which may leave a band as it is
+  pub ran-odds : {c : Float} {d′ : List ℕ} → d′ ≡ encodeFloats f (odds (lift f c) nan (decodeFloats f a) (decodeFloats f d)) → Ran f (oddly c ∷ []) a d a d′
+  ran-odds e = record { approx = sym (b .approx .plain); details = e }
+
+  pub ran-evens : {c : Float} {a′ : List ℕ} → a′ ≡ encodeFloats f (evens (lift f c) nan (decodeFloats f a) (decodeFloats f d)) → Ran f (evenly c ∷ []) a d a′ d
+  ran-evens e = record { approx = e; details = sym (b .details .plain) }
+
+  module _ {ss : List Step} {a′ d′ : List ℕ} (r : Ran f ss a d a′ d′) where
+    -- a schedule leaves bands of the same lengths
+    storedA : Stored f (length a′ / width f) a′ × (length a′ ≡ length a)
+    storedA = stored f a (runA f ss (decodeFloats f a) (decodeFloats f d)) (b .approx .holds) (length-runA f ss _ _) (fit-runA f ss _ _ (fit-decode f a) (fit-decode f d)) a′ (r .approx)
+
+    storedD : Stored f (length d′ / width f) d′ × (length d′ ≡ length d)
+    storedD = stored f d (runD f ss (decodeFloats f a) (decodeFloats f d)) (b .details .holds) (length-runD f ss _ _) (fit-runD f ss _ _ (fit-decode f a) (fit-decode f d)) d′ (r .details)
+
+    pub ran-bands : Bands f a′ d′
+    ran-bands =
+        record {
+          approx = storedA .0;
+          details = storedD .0;
+          some = rw (storedD .1) (b .some);
+          fewer = rw (storedA .1, storedD .1) (b .fewer);
+          near = rw (storedA .1, storedD .1) (b .near);
+        }
+
+    pub ran-lengthA : length a′ ≡ length a
+    ran-lengthA = storedA .1
+
+    pub ran-lengthD : length d′ ≡ length d
+    ran-lengthD = storedD .1
+
+-- the steps ss, and then the steps ts
+ran-then : {f : Format} (ss ts : List Step) {a d a₁ d₁ a₂ d₂ : List ℕ} → Ran f ss a d a₁ d₁ → Ran f ts a₁ d₁ a₂ d₂ → Ran f (ss ++ ts) a d a₂ d₂
+ran-then {f} ss ts {a} {d} {a₁} {d₁} r q =
+    let x = decodeFloats f a in
+    let y = decodeFloats f d in
+    let ea : decodeFloats f a₁ ≡ runA f ss x y = rw (r .approx) (fit-runA f ss x y (fit-decode f a) (fit-decode f d)) in
+    let ed : decodeFloats f d₁ ≡ runD f ss x y = rw (r .details) (fit-runD f ss x y (fit-decode f a) (fit-decode f d)) in
+    record {
+      approx = q .approx ∙ rw (ea, ed, runA-append f ss ts x y);
+      details = q .details ∙ rw (ea, ed, runD-append f ss ts x y);
+    }
+
+-- the front of a schedule in an array, with one step more
+pub front-step {ℓ} : {S : Type ℓ} (kind : S → Step) (s : List S) (z : S) (i : ℕ) → i < length s → take (i + 1) (map kind s) ≡ take i (map kind s) ++ (kind (getD s i z) ∷ [])
+front-step kind s z i h = rw add-one (take-suc (map kind s) i (kind z) (rw (length-map s kind) h) ∙ rw (List·getD-map kind s i z))
+
+-- a turn of the loop over a schedule, and its end
+module _ {f : Format} {S : Type 0} (kind : S → Step) (s : List S) (z : S) {a d : List ℕ} where
+  pub ran-turn : {i : ℕ} {a₁ d₁ a₂ d₂ : List ℕ} → i < length s → Ran f (take i (map kind s)) a d a₁ d₁ → Ran f (kind (getD s i z) ∷ []) a₁ d₁ a₂ d₂ → Ran f (take (i + 1) (map kind s)) a d a₂ d₂
+  ran-turn {i} h r q = rw (front-step kind s z i h) (ran-then (take i (map kind s)) (kind (getD s i z) ∷ []) r q)
+
+  pub ran-all : (i : ℕ) {a₁ d₁ : List ℕ} → length s ≤ i → Ran f (take i (map kind s)) a d a₁ d₁ → Ran f (map kind s) a d a₁ d₁
+  ran-all i h r = rw (take-all i (map kind s) (rw (length-map s kind) h)) at r

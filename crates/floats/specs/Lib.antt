@@ -1,0 +1,5 @@
+pub mod Steps
+pub mod Filters
+pub mod Bands
+pub mod Loops
+pub mod Kinds

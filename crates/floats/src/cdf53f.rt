@@ -1,0 +1,73 @@
+// Float 5/3, one level. Ported from osclet's src/cdf53f.rs.
+ghost use mathlib.Core.Path.{_≡_};
+ghost use mathlib.Core.List.{map};
+ghost use lib.Ieee.{binary32, binary64};
+ghost use Rattle.sizes.specs.Calls.{Forward};
+ghost use Rattle.floats.specs.Filters.{steps53};
+ghost use Rattle.floats.specs.Bands.{low, high};
+ghost use Rattle.floats.specs.Loops.{Lent};
+ghost use Rattle.floats.specs.Kinds.{kind32, kind64};
+use crate::double::Step64;
+use crate::double::run2_f64;
+use crate::double::split_f64;
+use crate::single::Step32;
+use crate::single::run2_f32;
+use crate::single::split_f32;
+use answers::err::Answer;
+use answers::err::is_done;
+use answers::err::numbers;
+use sizes::Wavelet;
+use sizes::checks::check_forward;
+
+// "Odds -0.5, evens 0.25."
+fn schedule53_f32() -> [Step32; 2]
+    ensures { λ r. ⌜ map kind32 r ≡ steps53 binary32 ⌝ }
+{
+    [Step32::Odds(-0.5), Step32::Evens(0.25)]
+}
+
+fn schedule53_f64() -> [Step64; 2]
+    ensures { λ r. ⌜ map kind64 r ≡ steps53 binary64 ⌝ }
+{
+    [Step64::Odds(-0.5), Step64::Evens(0.25)]
+}
+
+// One level of the samples in input: approximations into approx, details into details.
+fn forward_f32(input: &[u8], approx: &mut [u8], details: &mut [u8])
+    requires { ⌜ Lent binary32 (now input) (now approx) (now details) ⌝ }
+    ensures { λ _. ⌜ (now (approx .exit) ≡ low binary32 Wavelet.Cdf53 (now (input .entry))) × (now (details .exit) ≡ high binary32 Wavelet.Cdf53 (now (input .entry))) ⌝ }
+{
+    split_f32(input, approx, details);
+    run2_f32(schedule53_f32(), approx, details);
+}
+
+fn forward_f64(input: &[u8], approx: &mut [u8], details: &mut [u8])
+    requires { ⌜ Lent binary64 (now input) (now approx) (now details) ⌝ }
+    ensures { λ _. ⌜ (now (approx .exit) ≡ low binary64 Wavelet.Cdf53 (now (input .entry))) × (now (details .exit) ≡ high binary64 Wavelet.Cdf53 (now (input .entry))) ⌝ }
+{
+    split_f64(input, approx, details);
+    run2_f64(schedule53_f64(), approx, details);
+}
+
+// The same with document 01's checks.
+pub fn execute_forward_f32(input: &[u8], approx: &mut [u8], details: &mut [u8]) -> Answer
+    ensures { λ r. ⌜ Forward Wavelet.Cdf53 4 (low binary32 Wavelet.Cdf53) (high binary32 Wavelet.Cdf53) (now (input .entry)) (now (approx .entry)) (now (details .entry)) r (now (approx .exit)) (now (details .exit)) ⌝ }
+{
+    let said = check_forward(Wavelet::Cdf53, 4, input.len(), approx.len(), details.len());
+    let r = numbers(said);
+    if is_done(said) {
+        forward_f32(input, approx, details);
+    }
+    r
+}
+
+pub fn execute_forward_f64(input: &[u8], approx: &mut [u8], details: &mut [u8]) -> Answer
+    ensures { λ r. ⌜ Forward Wavelet.Cdf53 8 (low binary64 Wavelet.Cdf53) (high binary64 Wavelet.Cdf53) (now (input .entry)) (now (approx .entry)) (now (details .entry)) r (now (approx .exit)) (now (details .exit)) ⌝ }
+{
+    let said = check_forward(Wavelet::Cdf53, 8, input.len(), approx.len(), details.len());
+    let r = numbers(said);
+    if is_done(said) {
+        forward_f64(input, approx, details);
+    }
+    r
+}

@@ -1,0 +1,132 @@
+// Float 9/7, one level. Ported from osclet's src/cdf97f.rs.
+ghost use mathlib.Core.Path.{_≡_};
+ghost use mathlib.Core.List.{map};
+ghost use lib.Ieee.{binary32, binary64};
+ghost use Rattle.sizes.specs.Calls.{Forward};
+ghost use Rattle.floats.specs.Filters.{factors32, factors64, steps97};
+ghost use Rattle.floats.specs.Bands.{low, high};
+ghost use Rattle.floats.specs.Loops.{Lent};
+ghost use Rattle.floats.specs.Kinds.{kind32, kind64, set32, set64};
+use crate::double::Step64;
+use crate::double::run5_f64;
+use crate::double::split_f64;
+use crate::single::Step32;
+use crate::single::run5_f32;
+use crate::single::split_f32;
+use answers::err::Answer;
+use answers::err::is_done;
+use answers::err::numbers;
+use sizes::Wavelet;
+use sizes::checks::check_forward;
+
+// The six factors, which travel together as one set.
+pub struct Factors32 {
+    pub alpha: f32,
+    pub beta: f32,
+    pub gamma: f32,
+    pub delta: f32,
+    pub k: f32,
+    pub invk: f32,
+}
+
+pub struct Factors64 {
+    pub alpha: f64,
+    pub beta: f64,
+    pub gamma: f64,
+    pub delta: f64,
+    pub k: f64,
+    pub invk: f64,
+}
+
+fn factors_f32() -> Factors32
+    ensures { λ r. ⌜ set32 r ≡ factors32 ⌝ }
+{
+    Factors32 {
+        alpha: -1.5861343420693648,
+        beta: -0.0529801185718856,
+        gamma: 0.8829110755411875,
+        delta: 0.4435068520511142,
+        k: 1.1496043988602418,
+        invk: 0.86986445162478079,
+    }
+}
+
+fn factors_f64() -> Factors64
+    ensures { λ r. ⌜ set64 r ≡ factors64 ⌝ }
+{
+    Factors64 {
+        alpha: -1.5861343420693648,
+        beta: -0.0529801185718856,
+        gamma: 0.8829110755411875,
+        delta: 0.4435068520511142,
+        k: 1.1496043988602418,
+        invk: 0.86986445162478079,
+    }
+}
+
+// "Odds ALPHA, evens BETA, odds GAMMA, evens DELTA, scale (K, INV_K)."
+fn schedule97_f32(t: Factors32) -> [Step32; 5]
+    ensures { λ r. ⌜ map kind32 r ≡ steps97 (set32 t) ⌝ }
+{
+    [
+        Step32::Odds(t.alpha),
+        Step32::Evens(t.beta),
+        Step32::Odds(t.gamma),
+        Step32::Evens(t.delta),
+        Step32::Scale(t.k, t.invk),
+    ]
+}
+
+fn schedule97_f64(t: Factors64) -> [Step64; 5]
+    ensures { λ r. ⌜ map kind64 r ≡ steps97 (set64 t) ⌝ }
+{
+    [
+        Step64::Odds(t.alpha),
+        Step64::Evens(t.beta),
+        Step64::Odds(t.gamma),
+        Step64::Evens(t.delta),
+        Step64::Scale(t.k, t.invk),
+    ]
+}
+
+// One level of the samples in input: approximations into approx, details into details.
+fn forward_f32(t: Factors32, input: &[u8], approx: &mut [u8], details: &mut [u8])
+    requires { ⌜ set32 t ≡ factors32 ⌝ }
+    requires { ⌜ Lent binary32 (now input) (now approx) (now details) ⌝ }
+    ensures { λ _. ⌜ (now (approx .exit) ≡ low binary32 Wavelet.Cdf97 (now (input .entry))) × (now (details .exit) ≡ high binary32 Wavelet.Cdf97 (now (input .entry))) ⌝ }
+{
+    split_f32(input, approx, details);
+    run5_f32(schedule97_f32(t), approx, details);
+}
+
+fn forward_f64(t: Factors64, input: &[u8], approx: &mut [u8], details: &mut [u8])
+    requires { ⌜ set64 t ≡ factors64 ⌝ }
+    requires { ⌜ Lent binary64 (now input) (now approx) (now details) ⌝ }
+    ensures { λ _. ⌜ (now (approx .exit) ≡ low binary64 Wavelet.Cdf97 (now (input .entry))) × (now (details .exit) ≡ high binary64 Wavelet.Cdf97 (now (input .entry))) ⌝ }
+{
+    split_f64(input, approx, details);
+    run5_f64(schedule97_f64(t), approx, details);
+}
+
+// The same with document 01's checks.
+pub fn execute_forward_f32(input: &[u8], approx: &mut [u8], details: &mut [u8]) -> Answer
+    ensures { λ r. ⌜ Forward Wavelet.Cdf97 4 (low binary32 Wavelet.Cdf97) (high binary32 Wavelet.Cdf97) (now (input .entry)) (now (approx .entry)) (now (details .entry)) r (now (approx .exit)) (now (details .exit)) ⌝ }
+{
+    let said = check_forward(Wavelet::Cdf97, 4, input.len(), approx.len(), details.len());
+    let r = numbers(said);
+    if is_done(said) {
+        forward_f32(factors_f32(), input, approx, details);
+    }
+    r
+}
+
+pub fn execute_forward_f64(input: &[u8], approx: &mut [u8], details: &mut [u8]) -> Answer
+    ensures { λ r. ⌜ Forward Wavelet.Cdf97 8 (low binary64 Wavelet.Cdf97) (high binary64 Wavelet.Cdf97) (now (input .entry)) (now (approx .entry)) (now (details .entry)) r (now (approx .exit)) (now (details .exit)) ⌝ }
+{
+    let said = check_forward(Wavelet::Cdf97, 8, input.len(), approx.len(), details.len());
+    let r = numbers(said);
+    if is_done(said) {
+        forward_f64(factors_f64(), input, approx, details);
+    }
+    r
+}

@@ -1,0 +1,132 @@
+// The steps at f64, on two bands. single.rt has the same at f32.
+ghost use mathlib.Core.Path.{_≡_};
+ghost use mathlib.Core.List.{[], _∷_, map};
+ghost use Prim.Native.Nat.{_/_};
+ghost use lib.ListN.{length};
+ghost use lib.Ieee.{binary64, nan};
+ghost use Rattle.samples.specs.Halves.{evenOf, oddOf};
+ghost use Rattle.samples.specs.Floats.{decodeFloats, encodeFloats};
+ghost use Rattle.floats.specs.Steps.{odds, evens, lift, scaled};
+ghost use Rattle.floats.specs.Loops.{Lent, Stored, Bands, Ran};
+ghost use Rattle.floats.specs.Kinds.{kind64};
+use crate::mla::fmla_f64;
+use crate::places::next;
+use crate::places::previous;
+use crate::places::within;
+use samples::floats::get_f64;
+use samples::floats::put_f64;
+
+// A step, with its factors.
+pub enum Step64 {
+    Odds(f64),
+    Evens(f64),
+    Scale(f64, f64),
+}
+
+// The evens of the samples in x, into a, and the odds, into d.
+pub fn split_f64(x: &[u8], a: &mut [u8], d: &mut [u8])
+    requires { ⌜ Lent binary64 (now x) (now a) (now d) ⌝ }
+    ensures { λ _. ⌜ now (a .exit) ≡ encodeFloats binary64 (evenOf nan (decodeFloats binary64 (now (x .entry)))) ⌝ }
+    ensures { λ _. ⌜ now (d .exit) ≡ encodeFloats binary64 (oddOf nan (decodeFloats binary64 (now (x .entry)))) ⌝ }
+{
+    let n = x.len() / 8;
+    let m = n / 2;
+    let mut i = 0;
+    while i < m {
+        put_f64(a, i, get_f64(x, 2 * i));
+        put_f64(d, i, get_f64(x, 2 * i + 1));
+        i += 1;
+    }
+    if n % 2 == 1 {
+        put_f64(a, m, get_f64(x, 2 * m));
+    }
+}
+
+// "Odds c": each detail from the approximations on either side.
+fn dwt97_forward_update_odd_f64(a: &[u8], d: &mut [u8], c: f64)
+    requires { ⌜ Bands binary64 (now a) (now d) ⌝ }
+    ensures { λ _. ⌜ now (d .exit) ≡ encodeFloats binary64 (odds (lift binary64 c) nan (decodeFloats binary64 (now (a .entry))) (decodeFloats binary64 (now (d .entry)))) ⌝ }
+{
+    let na = a.len() / 8;
+    let nd = d.len() / 8;
+    let mut i = 0;
+    while i < nd {
+        let left = get_f64(a, i);
+        let right = get_f64(a, next(i, na));
+        let x = get_f64(d, i);
+        put_f64(d, i, fmla_f64(left + right, c, x));
+        i += 1;
+    }
+}
+
+// "Evens c": each approximation from the details on either side.
+fn dwt97_forward_update_even_f64(a: &mut [u8], d: &[u8], c: f64)
+    requires { ⌜ Bands binary64 (now a) (now d) ⌝ }
+    ensures { λ _. ⌜ now (a .exit) ≡ encodeFloats binary64 (evens (lift binary64 c) nan (decodeFloats binary64 (now (a .entry))) (decodeFloats binary64 (now (d .entry)))) ⌝ }
+{
+    let na = a.len() / 8;
+    let nd = d.len() / 8;
+    let mut i = 0;
+    while i < na {
+        let left = get_f64(d, previous(i));
+        let right = get_f64(d, within(i, nd));
+        let x = get_f64(a, i);
+        put_f64(a, i, fmla_f64(left + right, c, x));
+        i += 1;
+    }
+}
+
+// Each float of a band times k.
+fn dwt97_scale_f64(s: &mut [u8], k: f64)
+    requires { ⌜ Stored binary64 (length (now s) / 8) (now s) ⌝ }
+    ensures { λ _. ⌜ now (s .exit) ≡ encodeFloats binary64 (scaled binary64 k (decodeFloats binary64 (now (s .entry)))) ⌝ }
+{
+    let n = s.len() / 8;
+    let mut i = 0;
+    while i < n {
+        let x = get_f64(s, i);
+        put_f64(s, i, x * k);
+        i += 1;
+    }
+}
+
+// One step on the two bands.
+fn apply_f64(step: Step64, a: &mut [u8], d: &mut [u8])
+    requires { ⌜ Bands binary64 (now a) (now d) ⌝ }
+    ensures { λ _. ⌜ Ran binary64 (kind64 step ∷ []) (now (a .entry)) (now (d .entry)) (now (a .exit)) (now (d .exit)) ⌝ }
+{
+    match step {
+        Step64::Odds(c) => dwt97_forward_update_odd_f64(a, d, c),
+        Step64::Evens(c) => dwt97_forward_update_even_f64(a, d, c),
+        Step64::Scale(k, l) => {
+            dwt97_scale_f64(a, k);
+            dwt97_scale_f64(d, l);
+        }
+    }
+}
+
+// The schedules of 5/3, of two steps, on the two bands.
+pub fn run2_f64(schedule: [Step64; 2], a: &mut [u8], d: &mut [u8])
+    requires { ⌜ Bands binary64 (now a) (now d) ⌝ }
+    ensures { λ _. ⌜ Ran binary64 (map kind64 schedule) (now (a .entry)) (now (d .entry)) (now (a .exit)) (now (d .exit)) ⌝ }
+{
+    let mut i = 0;
+    while i < 2 {
+        let step = schedule[i];
+        apply_f64(step, a, d);
+        i += 1;
+    }
+}
+
+// The schedules of 9/7, of five.
+pub fn run5_f64(schedule: [Step64; 5], a: &mut [u8], d: &mut [u8])
+    requires { ⌜ Bands binary64 (now a) (now d) ⌝ }
+    ensures { λ _. ⌜ Ran binary64 (map kind64 schedule) (now (a .entry)) (now (d .entry)) (now (a .exit)) (now (d .exit)) ⌝ }
+{
+    let mut i = 0;
+    while i < 5 {
+        let step = schedule[i];
+        apply_f64(step, a, d);
+        i += 1;
+    }
+}

@@ -1,0 +1,132 @@
+// The steps at f32, on two bands. double.rt has the same at f64.
+ghost use mathlib.Core.Path.{_≡_};
+ghost use mathlib.Core.List.{[], _∷_, map};
+ghost use Prim.Native.Nat.{_/_};
+ghost use lib.ListN.{length};
+ghost use lib.Ieee.{binary32, nan};
+ghost use Rattle.samples.specs.Halves.{evenOf, oddOf};
+ghost use Rattle.samples.specs.Floats.{decodeFloats, encodeFloats};
+ghost use Rattle.floats.specs.Steps.{odds, evens, lift, scaled};
+ghost use Rattle.floats.specs.Loops.{Lent, Stored, Bands, Ran};
+ghost use Rattle.floats.specs.Kinds.{kind32};
+use crate::mla::fmla_f32;
+use crate::places::next;
+use crate::places::previous;
+use crate::places::within;
+use samples::floats::get_f32;
+use samples::floats::put_f32;
+
+// A step, with its factors.
+pub enum Step32 {
+    Odds(f32),
+    Evens(f32),
+    Scale(f32, f32),
+}
+
+// The evens of the samples in x, into a, and the odds, into d.
+pub fn split_f32(x: &[u8], a: &mut [u8], d: &mut [u8])
+    requires { ⌜ Lent binary32 (now x) (now a) (now d) ⌝ }
+    ensures { λ _. ⌜ now (a .exit) ≡ encodeFloats binary32 (evenOf nan (decodeFloats binary32 (now (x .entry)))) ⌝ }
+    ensures { λ _. ⌜ now (d .exit) ≡ encodeFloats binary32 (oddOf nan (decodeFloats binary32 (now (x .entry)))) ⌝ }
+{
+    let n = x.len() / 4;
+    let m = n / 2;
+    let mut i = 0;
+    while i < m {
+        put_f32(a, i, get_f32(x, 2 * i));
+        put_f32(d, i, get_f32(x, 2 * i + 1));
+        i += 1;
+    }
+    if n % 2 == 1 {
+        put_f32(a, m, get_f32(x, 2 * m));
+    }
+}
+
+// "Odds c": each detail from the approximations on either side.
+fn dwt97_forward_update_odd_f32(a: &[u8], d: &mut [u8], c: f32)
+    requires { ⌜ Bands binary32 (now a) (now d) ⌝ }
+    ensures { λ _. ⌜ now (d .exit) ≡ encodeFloats binary32 (odds (lift binary32 c) nan (decodeFloats binary32 (now (a .entry))) (decodeFloats binary32 (now (d .entry)))) ⌝ }
+{
+    let na = a.len() / 4;
+    let nd = d.len() / 4;
+    let mut i = 0;
+    while i < nd {
+        let left = get_f32(a, i);
+        let right = get_f32(a, next(i, na));
+        let x = get_f32(d, i);
+        put_f32(d, i, fmla_f32(left + right, c, x));
+        i += 1;
+    }
+}
+
+// "Evens c": each approximation from the details on either side.
+fn dwt97_forward_update_even_f32(a: &mut [u8], d: &[u8], c: f32)
+    requires { ⌜ Bands binary32 (now a) (now d) ⌝ }
+    ensures { λ _. ⌜ now (a .exit) ≡ encodeFloats binary32 (evens (lift binary32 c) nan (decodeFloats binary32 (now (a .entry))) (decodeFloats binary32 (now (d .entry)))) ⌝ }
+{
+    let na = a.len() / 4;
+    let nd = d.len() / 4;
+    let mut i = 0;
+    while i < na {
+        let left = get_f32(d, previous(i));
+        let right = get_f32(d, within(i, nd));
+        let x = get_f32(a, i);
+        put_f32(a, i, fmla_f32(left + right, c, x));
+        i += 1;
+    }
+}
+
+// Each float of a band times k.
+fn dwt97_scale_f32(s: &mut [u8], k: f32)
+    requires { ⌜ Stored binary32 (length (now s) / 4) (now s) ⌝ }
+    ensures { λ _. ⌜ now (s .exit) ≡ encodeFloats binary32 (scaled binary32 k (decodeFloats binary32 (now (s .entry)))) ⌝ }
+{
+    let n = s.len() / 4;
+    let mut i = 0;
+    while i < n {
+        let x = get_f32(s, i);
+        put_f32(s, i, x * k);
+        i += 1;
+    }
+}
+
+// One step on the two bands.
+fn apply_f32(step: Step32, a: &mut [u8], d: &mut [u8])
+    requires { ⌜ Bands binary32 (now a) (now d) ⌝ }
+    ensures { λ _. ⌜ Ran binary32 (kind32 step ∷ []) (now (a .entry)) (now (d .entry)) (now (a .exit)) (now (d .exit)) ⌝ }
+{
+    match step {
+        Step32::Odds(c) => dwt97_forward_update_odd_f32(a, d, c),
+        Step32::Evens(c) => dwt97_forward_update_even_f32(a, d, c),
+        Step32::Scale(k, l) => {
+            dwt97_scale_f32(a, k);
+            dwt97_scale_f32(d, l);
+        }
+    }
+}
+
+// The schedules of 5/3, of two steps, on the two bands.
+pub fn run2_f32(schedule: [Step32; 2], a: &mut [u8], d: &mut [u8])
+    requires { ⌜ Bands binary32 (now a) (now d) ⌝ }
+    ensures { λ _. ⌜ Ran binary32 (map kind32 schedule) (now (a .entry)) (now (d .entry)) (now (a .exit)) (now (d .exit)) ⌝ }
+{
+    let mut i = 0;
+    while i < 2 {
+        let step = schedule[i];
+        apply_f32(step, a, d);
+        i += 1;
+    }
+}
+
+// The schedules of 9/7, of five.
+pub fn run5_f32(schedule: [Step32; 5], a: &mut [u8], d: &mut [u8])
+    requires { ⌜ Bands binary32 (now a) (now d) ⌝ }
+    ensures { λ _. ⌜ Ran binary32 (map kind32 schedule) (now (a .entry)) (now (d .entry)) (now (a .exit)) (now (d .exit)) ⌝ }
+{
+    let mut i = 0;
+    while i < 5 {
+        let step = schedule[i];
+        apply_f32(step, a, d);
+        i += 1;
+    }
+}
