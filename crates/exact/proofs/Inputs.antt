@@ -2,8 +2,8 @@
 -- L to 13. Over the format, and the two formats at the end.
 -- Assumes nothing.
 use mathlib.Core.Bool.{true, false}
-use mathlib.Core.List.{List, map}
-use mathlib.Core.Path.{_≡_, sym}
+use mathlib.Core.List.{List, [], _∷_, map}
+use mathlib.Core.Path.{_≡_, refl, sym}
 use Prim.Native.Nat.{ℕ, _-_, _*_, _/_, _%_, _^_, _≤_}
 use native.Mathlib.Nat.{div-add-mod', zero-mul}
 use native.Mathlib.Omega.{arith}
@@ -11,7 +11,10 @@ use lib.Ieee.{Float, nan, inf, fin, Format, binary32, binary64, prec, up, down}
 use lib.IntN.{pos, negℤ}
 use lib.ListN.{length, getD, length-map, List·getD-map}
 use Rattle.sizes.specs.Levels.{Runs}
-use Rattle.exact.specs.Exact.{Worth, plus, minus, Whole, Are, WholeWithin, Inputs, number}
+use Rattle.samples.specs.Words.{tabulate}
+use Rattle.samples.specs.Halves.{evenOf, oddOf}
+use Rattle.floats.specs.Steps.{oddAt, evenAt, odds, evens}
+use Rattle.exact.specs.Exact.{Worth, plus, minus, Whole, Are, WholeWithin, Inputs, number, details2, approximations8}
 use Rattle.exact.specs.Levels.{most, Exact}
 use Rattle.exact.proofs.Worth.{same-worth}
 use Rattle.exact.proofs.Whole.{neg-read, abs-neg}
@@ -50,3 +53,8 @@ exact32 n h = inputs-exact binary32 n (omega arith)
 
 pub exact64 : (levels : ℕ) → levels ≤ 13 → (x : List Float) → Runs 3 levels (length x) → Inputs (2 ^ (53 - 4 * levels)) x → Exact binary64 levels x (map number x)
 exact64 n h = inputs-exact binary64 n (omega arith)
+
+-- "f32 1, 5, 2: a 2.75, 3.75; d 3.5": eight times the approximations, and twice the detail
+pub figure : (approximations8 (pos 1 ∷ pos 5 ∷ pos 2 ∷ []) ≡ pos 22 ∷ pos 30 ∷ []) × (details2 (pos 1 ∷ pos 5 ∷ pos 2 ∷ []) ≡ pos 7 ∷ [])
+unfolding approximations8 details2 evens evenAt odds oddAt evenOf oddOf tabulate
+figure = (refl, refl)

@@ -70,13 +70,13 @@ after-exact f (suc l) k b x z q d r =
     moved (omega arith) (omega (arith, ap (λ (x : ℕ). b * x) (pow-succ' 16 l)))
     (after-exact f l (k + 3) (16 * b) (approxs f Cdf53 x) (approximations8 z) (others q) (s .1) (s .0))
 
-back-exact : (f : Format) (l k b : ℕ) (x : List Float) (z : List ℤ) → Rooms f l k b → Runs 3 l (length z) → Are k b x z → Are k b (backAfter f l x) z
+backAfter-exact : (f : Format) (l k b : ℕ) (x : List Float) (z : List ℤ) → Rooms f l k b → Runs 3 l (length z) → Are k b x z → Are k b (backAfter f l x) z
 unfolding backAfter Runs
-back-exact f zero k b x z q d r = r
-back-exact f (suc l) k b x z q d r =
+backAfter-exact f zero k b x z q d r = r
+backAfter-exact f (suc l) k b x z q d r =
     let s = step f l k b x z q d r in
     inverse-exact f k b (first q) _ (details f Cdf53 x) z (omega (arith, d .0)) (λ i h. r .each i h .size)
-    (back-exact f l (k + 3) (16 * b) (approxs f Cdf53 x) (approximations8 z) (others q) (s .1) (s .0)) (details-exact f k b (first q) x z r)
+    (backAfter-exact f l (k + 3) (16 * b) (approxs f Cdf53 x) (approximations8 z) (others q) (s .1) (s .0)) (details-exact f k b (first q) x z r)
 
 -- ---- the exact case
 
@@ -115,4 +115,4 @@ exact f n h x z d r = record {
 }
   where
     again : Are 0 (most f n) (backAfter f n x) z
-    again = back-exact f n 0 (most f n) x z (rooms f n n h (le-refl n)) d r
+    again = backAfter-exact f n 0 (most f n) x z (rooms f n n h (le-refl n)) d r

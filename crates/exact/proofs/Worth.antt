@@ -3,7 +3,7 @@
 -- Assumes nothing.
 use mathlib.Core.Bool.{Bool, true, false, not, _&&_, cond, Bool·beq, _||_}
 use mathlib.Core.Logic.{_⊎_, inl, inr}
-use mathlib.Core.Path.{_≡_, sym, ap, _∙_, subst}
+use mathlib.Core.Path.{_≡_, sym, ap, _∙_}
 use Prim.Native.Nat.{ℕ, suc, _+_, _-_, _*_, _^_, _≤_, _<_}
 use native.Mathlib.Nat.{mul-pos, mul-comm, mul-assoc, one-mul, le-of-mul-le-mul-right, lt-of-lt-of-le, eq-or-lt-of-le, eq-of-mul-eq-mul-right, le-of-lt}
 use native.Mathlib.Omega.{arith}
@@ -42,8 +42,8 @@ grid-exact f s q k j whole h = go (eq-or-lt-of-le h)
     go : (q ≡ 2 ^ prec f) ⊎ (q < 2 ^ prec f) → HasValue (round f s q (2 ^ k)) s q (2 ^ k)
     go (inr l) = round-exact f s q (2 ^ k) q j (pow-pos k) l (lt-of-lt-of-le (shl-lt (prec f) j l) (pow-mono (le-of-lt small))) (split q)
     go (inl e) = round-exact f s q (2 ^ k) 1 (prec f + j) (pow-pos k) (one-lt f)
-        (subst (λ (x : ℕ). x < 2 ^ (low f + suc (emax f))) (sym (one-mul (2 ^ (prec f + j)))) (pow-lt small))
-        (split q ∙ ap (λ (x : ℕ). x * 2 ^ k) (ap (λ (x : ℕ). x * 2 ^ j) e ∙ sym (pow-add 2 (prec f) j) ∙ sym (one-mul (2 ^ (prec f + j)))))
+        (rw (one-mul (2 ^ (prec f + j))) (pow-lt small))
+        (split q ∙ rw (one-mul (2 ^ (prec f + j)), pow-add 2 (prec f) j, e))
 
 -- q, below zero where s says so, is p - n
 abbrev Net : Bool → ℕ → ℕ → ℕ → Type 0
@@ -138,13 +138,14 @@ add-worth f (fin s m e) (inf t) p1 n1 p2 n2 k K h g w = absurd g
 add-worth f (fin s m e) (fin t o d) p1 n1 p2 n2 k K h g w =
     sum-worth f s (m * up e * down d) t (o * up d * down e) (down e * down d) p1 n1 p2 n2 k (mul-pos (down-pos e) (down-pos d)) K
     (wider s (m * up e) (down e) (down d) p1 n1 k h)
-    (subst (λ (x : ℕ). Frac t (o * up d * down e) x p2 n2 k) (mul-comm (down d) (down e)) (wider t (o * up d) (down d) (down e) p2 n2 k g))
+    (rw (mul-comm (down e) (down d)) (wider t (o * up d) (down d) (down e) p2 n2 k g))
     w
 
 -- ---- products
+
 product : (a c p1 n1 b d p2 n2 k j : ℕ) → a * 2 ^ k + n1 * c ≡ p1 * c → b * 2 ^ j + n2 * d ≡ p2 * d
     → a * b * 2 ^ (k + j) + (p1 * n2 + n1 * p2) * (c * d) ≡ (p1 * p2 + n1 * n2) * (c * d)
-product a c p1 n1 b d p2 n2 k j h g = subst (λ (x : ℕ). a * b * x + (p1 * n2 + n1 * p2) * (c * d) ≡ (p1 * p2 + n1 * n2) * (c * d)) (sym (pow-add 2 k j)) (go (2 ^ k) (2 ^ j) h g)
+product a c p1 n1 b d p2 n2 k j h g = rw (pow-add 2 k j) (go (2 ^ k) (2 ^ j) h g)
   where
     go : (u v : ℕ) → a * u + n1 * c ≡ p1 * c → b * v + n2 * d ≡ p2 * d → a * b * (u * v) + (p1 * n2 + n1 * p2) * (c * d) ≡ (p1 * p2 + n1 * n2) * (c * d)
     go u v h g = omega (arith, ap (λ (x : ℕ). a * u * x) g, ap (λ (x : ℕ). x * (n2 * d)) h, ap (λ (x : ℕ). x * (p2 * d)) h)
@@ -168,23 +169,24 @@ mul-worth f (fin s m e) (fin t o d) p1 n1 p2 n2 k j K h g w =
     (mul-pos (down-pos e) (down-pos d)) K (unlike s t) w (product-frac s t (m * up e) (down e) p1 n1 (o * up d) (down d) p2 n2 k j h g)
 
 -- ---- the same number in other words: another p and n with the same difference, and another scale
-same-frac : (s : Bool) (a c p n p' n' k : ℕ) → p + n' ≡ p' + n → Frac s a c p n k → Frac s a c p' n' k
-same-frac false a c p n p' n' k e h = omega (arith, ap (λ (x : ℕ). x * c) e)
-same-frac true a c p n p' n' k e h = omega (arith, ap (λ (x : ℕ). x * c) e)
 
-pub same-worth : (x : Float) (p n p' n' k : ℕ) → p + n' ≡ p' + n → Worth x p n k → Worth x p' n' k
-same-worth nan p n p' n' k e h = h
-same-worth (inf s) p n p' n' k e h = h
-same-worth (fin s m d) p n p' n' k e h = same-frac s (m * up d) (down d) p n p' n' k e h
+same-frac : (s : Bool) (a c p n p′ n′ k : ℕ) → p + n′ ≡ p′ + n → Frac s a c p n k → Frac s a c p′ n′ k
+same-frac false a c p n p′ n′ k e h = omega (arith, ap (λ (x : ℕ). x * c) e)
+same-frac true a c p n p′ n′ k e h = omega (arith, ap (λ (x : ℕ). x * c) e)
+
+pub same-worth : (x : Float) (p n p′ n′ k : ℕ) → p + n′ ≡ p′ + n → Worth x p n k → Worth x p′ n′ k
+same-worth nan p n p′ n′ k e h = h
+same-worth (inf s) p n p′ n′ k e h = h
+same-worth (fin s m d) p n p′ n′ k e h = same-frac s (m * up d) (down d) p n p′ n′ k e h
 
 scaled : (a c p n k j : ℕ) → a * 2 ^ k + n * c ≡ p * c → a * 2 ^ (k + j) + n * 2 ^ j * c ≡ p * 2 ^ j * c
-scaled a c p n k j h = subst (λ (x : ℕ). a * x + n * 2 ^ j * c ≡ p * 2 ^ j * c) (sym (pow-add 2 k j)) (go (2 ^ k) (2 ^ j) h)
+scaled a c p n k j h = rw (pow-add 2 k j) (go (2 ^ k) (2 ^ j) h)
   where
     go : (u v : ℕ) → a * u + n * c ≡ p * c → a * (u * v) + n * v * c ≡ p * v * c
     go u v h = omega (arith, ap (λ (x : ℕ). x * v) h)
 
 unscaled : (a c p n k j : ℕ) → a * 2 ^ (k + j) + n * 2 ^ j * c ≡ p * 2 ^ j * c → a * 2 ^ k + n * c ≡ p * c
-unscaled a c p n k j h = go (2 ^ k) (2 ^ j) (pow-pos j) (subst (λ (x : ℕ). a * x + n * 2 ^ j * c ≡ p * 2 ^ j * c) (pow-add 2 k j) h)
+unscaled a c p n k j h = go (2 ^ k) (2 ^ j) (pow-pos j) (rw (pow-add 2 k j) at h)
   where
     go : (u v : ℕ) → 0 < v → a * (u * v) + n * v * c ≡ p * v * c → a * u + n * c ≡ p * c
     go u v vp h = eq-of-mul-eq-mul-right v vp (a * u + n * c) (p * c) (omega arith)
@@ -214,7 +216,7 @@ none a c b d p n u up h g = (
 )
 
 zeros : (s t : Bool) (a b : ℕ) → a ≡ 0 → b ≡ 0 → T (level s a t b)
-zeros s t a b p q = subst (λ (x : ℕ). T (level s x t b)) (sym p) (subst (λ (x : ℕ). T (level s 0 t x)) (sym q) (or-r (Bool·beq s t)))
+zeros s t a b p q = rw (p, q) (or-r (Bool·beq s t))
   where
     or-r : (x : Bool) → T (x || true)
     or-r true = tt

@@ -18,7 +18,7 @@ abbrev pub Frac : Bool → ℕ → ℕ → ℕ → ℕ → ℕ → Type 0
 Frac false a c p n k = a * 2 ^ k + n * c ≡ p * c
 Frac true a c p n k = a * 2 ^ k + p * c ≡ n * c
 
--- the float x is finite, and is (p - n) / 2 ^ k; "a zero may change sign": each of the two is (n - n) / 2 ^ k
+-- the float x is finite, so m * up e / down e in size, and is (p - n) / 2 ^ k; "a zero may change sign": each of the two is (n - n) / 2 ^ k
 abbrev pub Worth : Float → ℕ → ℕ → ℕ → Type 0
 Worth nan p n k = ⊥
 Worth (inf s) p n k = ⊥

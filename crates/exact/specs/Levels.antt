@@ -54,7 +54,7 @@ times c z = tabulate (length z) (λ i. getD z i (pos 0) *ℤ pos c)
 pub record Exact (f : Format) (levels : ℕ) (x : List Float) (z : List ℤ) : Type 0 where
   -- each approximation of level l + 1, times 8 ^ (l + 1), is the whole number that the integer steps give
   pub approximations-are : (l : ℕ) → l < levels → Are (3 * suc l) (2 ^ prec f) (after f (suc l) x) (after8 (suc l) z)
-  -- and so is each detail
+  -- and so is each detail, as four times what is twice the detail of inputs that are times 8 ^ l
   pub details-are : (l : ℕ) → l < levels → Are (3 * suc l) (2 ^ prec f) (details f Cdf53 (after f l x)) (times 4 (details2 (after8 l z)))
   -- the inverse gives the inputs back, numerically
   pub inputs-back : (i : ℕ) → i < length z → T (eq (getD (backAfter f levels x) i nan) (getD x i nan))
