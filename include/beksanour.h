@@ -96,6 +96,49 @@ bk_answer bk_cdf53_inverse_i16(const uint8_t *approx, size_t approx_bytes, const
 bk_answer bk_cdf53_inverse_i32(const uint8_t *approx, size_t approx_bytes, const uint8_t *details, size_t details_bytes,
                                uint8_t *output, size_t output_bytes);
 
+/*
+ * One level of float 5/3 or 9/7 of the samples in `input`, 32 or 64 bits each, IEEE 754, little-endian: their ceil(n/2)
+ * approximations into `approx`, their floor(n/2) details into `details`. Each addition and each multiplication is rounded once,
+ * to nearest even, and none is fused, so that the bits are the same on every machine. Every bit pattern is taken. A result that
+ * is NaN is written as 7FC00000 or 7FF8000000000000.
+ *
+ * Refused, in this order:
+ *   9 (0, length)   a slice's byte length is no multiple of the width: the first of input, approx, details
+ *   6               over 16,777,216 samples
+ *   1 (n, least)    fewer than 3 samples (5/3), fewer than 4 (9/7)
+ *   2 (got, n)      approx does not hold ceil(n/2) samples
+ *   2 (got, n)      details does not hold floor(n/2) samples
+ */
+bk_answer bk_cdf53_forward_f32(const uint8_t *input, size_t input_bytes, uint8_t *approx, size_t approx_bytes,
+                               uint8_t *details, size_t details_bytes);
+bk_answer bk_cdf53_forward_f64(const uint8_t *input, size_t input_bytes, uint8_t *approx, size_t approx_bytes,
+                               uint8_t *details, size_t details_bytes);
+bk_answer bk_cdf97_forward_f32(const uint8_t *input, size_t input_bytes, uint8_t *approx, size_t approx_bytes,
+                               uint8_t *details, size_t details_bytes);
+bk_answer bk_cdf97_forward_f64(const uint8_t *input, size_t input_bytes, uint8_t *approx, size_t approx_bytes,
+                               uint8_t *details, size_t details_bytes);
+
+/*
+ * The samples whose approximations are in `approx` and details in `details`, into `output`: the same steps, last first. What
+ * comes back is near the samples that went forward and not always equal to them. It is equal in 5/3 for whole numbers of size
+ * at most 2^20 (f32) or 2^49 (f64), except that a zero may change sign.
+ *
+ * Refused, in this order:
+ *   9 (0, length)        a slice's byte length is no multiple of the width: the first of approx, details, output
+ *   6                    a slice of over 16,777,216 samples
+ *   3 (got, wanted)      output does not hold as many samples as the two bands together
+ *   2 (expected, got)    approx is not the band of so many samples: ceil(n/2), but at least 2
+ *   2 (expected, got)    details is not: floor(n/2), but at least 1 (5/3) or 2 (9/7); the numbers are those of approx
+ */
+bk_answer bk_cdf53_inverse_f32(const uint8_t *approx, size_t approx_bytes, const uint8_t *details, size_t details_bytes,
+                               uint8_t *output, size_t output_bytes);
+bk_answer bk_cdf53_inverse_f64(const uint8_t *approx, size_t approx_bytes, const uint8_t *details, size_t details_bytes,
+                               uint8_t *output, size_t output_bytes);
+bk_answer bk_cdf97_inverse_f32(const uint8_t *approx, size_t approx_bytes, const uint8_t *details, size_t details_bytes,
+                               uint8_t *output, size_t output_bytes);
+bk_answer bk_cdf97_inverse_f64(const uint8_t *approx, size_t approx_bytes, const uint8_t *details, size_t details_bytes,
+                               uint8_t *output, size_t output_bytes);
+
 #ifdef __cplusplus
 }
 #endif

@@ -4,9 +4,13 @@ ghost use Rattle.answers.specs.Answers.{answerOf};
 ghost use Rattle.sizes.specs.Calls.{Forward, Inverse};
 ghost use Rattle.sizes.specs.Levels.{sayDepth};
 ghost use Rattle.cdf53i.specs.Bands.{low, high, back};
+ghost use Rattle.floats.specs.Bands as bands;
+ghost use lib.Ieee.{binary32, binary64};
 use answers::err::Answer;
 use cdf53i::cdf53i::execute_forward;
 use cdf53i::cdf53i::execute_inverse;
+use floats::cdf53f;
+use floats::cdf97f;
 use sizes::Wavelet;
 use sizes::ask_depth;
 
@@ -72,4 +76,76 @@ pub extern "C" fn bk_cdf53_inverse_i32(approx: &[u8], details: &[u8], output: &m
     ensures { λ r. ⌜ Inverse Wavelet.Cdf53 4 (back 4) (now (approx .entry)) (now (details .entry)) (now (output .entry)) r (now (output .exit)) ⌝ }
 {
     execute_inverse(4, approx, details, output)
+}
+
+#[no_mangle]
+pub extern "C" fn bk_cdf53_forward_f32(
+    input: &[u8],
+    approx: &mut [u8],
+    details: &mut [u8],
+) -> Answer
+    ensures { λ r. ⌜ Forward Wavelet.Cdf53 4 (bands.low binary32 Wavelet.Cdf53) (bands.high binary32 Wavelet.Cdf53) (now (input .entry)) (now (approx .entry)) (now (details .entry)) r (now (approx .exit)) (now (details .exit)) ⌝ }
+{
+    cdf53f::execute_forward_f32(input, approx, details)
+}
+
+#[no_mangle]
+pub extern "C" fn bk_cdf53_inverse_f32(approx: &[u8], details: &[u8], output: &mut [u8]) -> Answer
+    ensures { λ r. ⌜ Inverse Wavelet.Cdf53 4 (bands.back binary32 Wavelet.Cdf53) (now (approx .entry)) (now (details .entry)) (now (output .entry)) r (now (output .exit)) ⌝ }
+{
+    cdf53f::execute_inverse_f32(approx, details, output)
+}
+
+#[no_mangle]
+pub extern "C" fn bk_cdf53_forward_f64(
+    input: &[u8],
+    approx: &mut [u8],
+    details: &mut [u8],
+) -> Answer
+    ensures { λ r. ⌜ Forward Wavelet.Cdf53 8 (bands.low binary64 Wavelet.Cdf53) (bands.high binary64 Wavelet.Cdf53) (now (input .entry)) (now (approx .entry)) (now (details .entry)) r (now (approx .exit)) (now (details .exit)) ⌝ }
+{
+    cdf53f::execute_forward_f64(input, approx, details)
+}
+
+#[no_mangle]
+pub extern "C" fn bk_cdf53_inverse_f64(approx: &[u8], details: &[u8], output: &mut [u8]) -> Answer
+    ensures { λ r. ⌜ Inverse Wavelet.Cdf53 8 (bands.back binary64 Wavelet.Cdf53) (now (approx .entry)) (now (details .entry)) (now (output .entry)) r (now (output .exit)) ⌝ }
+{
+    cdf53f::execute_inverse_f64(approx, details, output)
+}
+
+#[no_mangle]
+pub extern "C" fn bk_cdf97_forward_f32(
+    input: &[u8],
+    approx: &mut [u8],
+    details: &mut [u8],
+) -> Answer
+    ensures { λ r. ⌜ Forward Wavelet.Cdf97 4 (bands.low binary32 Wavelet.Cdf97) (bands.high binary32 Wavelet.Cdf97) (now (input .entry)) (now (approx .entry)) (now (details .entry)) r (now (approx .exit)) (now (details .exit)) ⌝ }
+{
+    cdf97f::execute_forward_f32(input, approx, details)
+}
+
+#[no_mangle]
+pub extern "C" fn bk_cdf97_inverse_f32(approx: &[u8], details: &[u8], output: &mut [u8]) -> Answer
+    ensures { λ r. ⌜ Inverse Wavelet.Cdf97 4 (bands.back binary32 Wavelet.Cdf97) (now (approx .entry)) (now (details .entry)) (now (output .entry)) r (now (output .exit)) ⌝ }
+{
+    cdf97f::execute_inverse_f32(approx, details, output)
+}
+
+#[no_mangle]
+pub extern "C" fn bk_cdf97_forward_f64(
+    input: &[u8],
+    approx: &mut [u8],
+    details: &mut [u8],
+) -> Answer
+    ensures { λ r. ⌜ Forward Wavelet.Cdf97 8 (bands.low binary64 Wavelet.Cdf97) (bands.high binary64 Wavelet.Cdf97) (now (input .entry)) (now (approx .entry)) (now (details .entry)) r (now (approx .exit)) (now (details .exit)) ⌝ }
+{
+    cdf97f::execute_forward_f64(input, approx, details)
+}
+
+#[no_mangle]
+pub extern "C" fn bk_cdf97_inverse_f64(approx: &[u8], details: &[u8], output: &mut [u8]) -> Answer
+    ensures { λ r. ⌜ Inverse Wavelet.Cdf97 8 (bands.back binary64 Wavelet.Cdf97) (now (approx .entry)) (now (details .entry)) (now (output .entry)) r (now (output .exit)) ⌝ }
+{
+    cdf97f::execute_inverse_f64(approx, details, output)
 }

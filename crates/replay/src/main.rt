@@ -9,6 +9,13 @@ use libc::STDOUT_FILENO;
 use samples::le::read_u16;
 use samples::le::read_u32;
 
+// A record's filter.
+const INTEGER53: u8 = 0;
+
+const FLOAT53: u8 = 1;
+
+const FLOAT97: u8 = 2;
+
 // A record gone through: where the next one starts, or 0 where it does not fit; whether the desk says and leaves the same.
 struct Step {
     next: usize,
@@ -55,7 +62,7 @@ fn loaded(s: &[u8], from: usize, n: usize) -> [u8; 256]
 }
 
 // An answer that no record has, since a record's number is a byte.
-fn no_such_width() -> Answer {
+fn no_such_call() -> Answer {
     Answer {
         number: 256,
         first: 0,
@@ -63,23 +70,55 @@ fn no_such_width() -> Answer {
     }
 }
 
-// The forward call of a width.
-fn ask_forward(width: u8, input: &[u8], approx: &mut [u8], details: &mut [u8]) -> Answer {
-    match width {
-        1 => desk::bk_cdf53_forward_i8(input, approx, details),
-        2 => desk::bk_cdf53_forward_i16(input, approx, details),
-        4 => desk::bk_cdf53_forward_i32(input, approx, details),
-        _ => no_such_width(),
+// The forward call of a filter and a width.
+fn ask_forward(
+    filter: u8,
+    width: u8,
+    input: &[u8],
+    approx: &mut [u8],
+    details: &mut [u8],
+) -> Answer {
+    match filter {
+        INTEGER53 => match width {
+            1 => desk::bk_cdf53_forward_i8(input, approx, details),
+            2 => desk::bk_cdf53_forward_i16(input, approx, details),
+            4 => desk::bk_cdf53_forward_i32(input, approx, details),
+            _ => no_such_call(),
+        },
+        FLOAT53 => match width {
+            4 => desk::bk_cdf53_forward_f32(input, approx, details),
+            8 => desk::bk_cdf53_forward_f64(input, approx, details),
+            _ => no_such_call(),
+        },
+        FLOAT97 => match width {
+            4 => desk::bk_cdf97_forward_f32(input, approx, details),
+            8 => desk::bk_cdf97_forward_f64(input, approx, details),
+            _ => no_such_call(),
+        },
+        _ => no_such_call(),
     }
 }
 
-// The inverse call of a width.
-fn ask_inverse(width: u8, approx: &[u8], details: &[u8], output: &mut [u8]) -> Answer {
-    match width {
-        1 => desk::bk_cdf53_inverse_i8(approx, details, output),
-        2 => desk::bk_cdf53_inverse_i16(approx, details, output),
-        4 => desk::bk_cdf53_inverse_i32(approx, details, output),
-        _ => no_such_width(),
+// The inverse call of a filter and a width.
+fn ask_inverse(filter: u8, width: u8, approx: &[u8], details: &[u8], output: &mut [u8]) -> Answer {
+    match filter {
+        INTEGER53 => match width {
+            1 => desk::bk_cdf53_inverse_i8(approx, details, output),
+            2 => desk::bk_cdf53_inverse_i16(approx, details, output),
+            4 => desk::bk_cdf53_inverse_i32(approx, details, output),
+            _ => no_such_call(),
+        },
+        FLOAT53 => match width {
+            4 => desk::bk_cdf53_inverse_f32(approx, details, output),
+            8 => desk::bk_cdf53_inverse_f64(approx, details, output),
+            _ => no_such_call(),
+        },
+        FLOAT97 => match width {
+            4 => desk::bk_cdf97_inverse_f32(approx, details, output),
+            8 => desk::bk_cdf97_inverse_f64(approx, details, output),
+            _ => no_such_call(),
+        },
+        _ => no_such_call(),
     }
 }
 
@@ -102,7 +141,7 @@ fn same_answer(s: &[u8], at: usize, a: Answer) -> bool
 }
 
 // A forward record from its width on: the input, and the two bands, which are lent.
-fn forward(s: &[u8], at: usize) -> Step
+fn forward(filter: u8, s: &[u8], at: usize) -> Step
     requires { ⌜ (at ≤ length (now s)) × (length (now s) ≤ 65536) ⌝ }
     ensures { λ r. ⌜ r .next ≤ length (now (s .entry)) ⌝ }
 {
@@ -127,7 +166,7 @@ fn forward(s: &[u8], at: usize) -> Step
     let mut second = loaded(s, a_end + 2, d_len);
     let a: &mut [u8] = &mut first[..a_len];
     let d: &mut [u8] = &mut second[..d_len];
-    let answer = ask_forward(s[at], &s[at + 3..x_end], a, d);
+    let answer = ask_forward(filter, s[at], &s[at + 3..x_end], a, d);
     let said = same_answer(s, d_end, answer);
     let same_a = same(a, &s[after..middle]);
     let same_d = same(d, &s[middle..next]);
@@ -138,7 +177,7 @@ fn forward(s: &[u8], at: usize) -> Step
 }
 
 // An inverse record from its width on: the two bands, and the output, which is lent.
-fn inverse(s: &[u8], at: usize) -> Step
+fn inverse(filter: u8, s: &[u8], at: usize) -> Step
     requires { ⌜ (at ≤ length (now s)) × (length (now s) ≤ 65536) ⌝ }
     ensures { λ r. ⌜ r .next ≤ length (now (s .entry)) ⌝ }
 {
@@ -156,7 +195,7 @@ fn inverse(s: &[u8], at: usize) -> Step
     }
     let mut space = loaded(s, d_end + 2, x_len);
     let x: &mut [u8] = &mut space[..x_len];
-    let answer = ask_inverse(s[at], &s[at + 3..a_end], &s[a_end + 2..d_end], x);
+    let answer = ask_inverse(filter, s[at], &s[at + 3..a_end], &s[a_end + 2..d_end], x);
     let said = same_answer(s, x_end, answer);
     let same_x = same(x, &s[after..next]);
     Step {
@@ -172,8 +211,12 @@ fn replay(s: &[u8], at: usize) -> Step
 {
     let call = s[at];
     match call {
-        1 => forward(s, at + 1),
-        2 => inverse(s, at + 1),
+        1 => forward(INTEGER53, s, at + 1),
+        2 => inverse(INTEGER53, s, at + 1),
+        3 => forward(FLOAT53, s, at + 1),
+        4 => inverse(FLOAT53, s, at + 1),
+        5 => forward(FLOAT97, s, at + 1),
+        6 => inverse(FLOAT97, s, at + 1),
         _ => cut(),
     }
 }
@@ -239,4 +282,5 @@ fn replay_file(path: &[u8]) {
 // Each list of data/, a line for each.
 fn main() {
     replay_file(b"integer.bin");
+    replay_file(b"floats.bin");
 }
