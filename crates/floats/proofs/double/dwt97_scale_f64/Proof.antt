@@ -15,9 +15,10 @@ abbrev μ-loop : tie.MeasureT-loop
 μ-loop s₀ k n i₀ s i = n - i
 
 loop-again : tie.Need-loop-again Inv-loop μ-loop
-loop-again c =
-    (omega arith,
-    scaled-turn binary64 (c .before .before .before .before .before .before .before .before .before .args .k) (c .before .before .before .before .before .before .before .before .before .args .s .now) (c .before .before .before .before .before .before .before .loop .inv .1) (c .before .before .before .before .before .before .loop-test .taken) (c .before .before .before .before .get-f64 .ensures) (c .before .before .put-f64 .ensures))
+loop-again c = (
+  omega arith,
+  scaled-turn binary64 (c .before .before .before .before .before .before .before .before .before .args .k) (c .before .before .before .before .before .before .before .before .before .args .s .now) (c .before .before .before .before .before .before .before .loop .inv .1) (c .before .before .before .before .before .before .loop-test .taken) (c .before .before .before .before .get-f64 .ensures) (c .before .before .put-f64 .ensures),
+)
 
 pub dwt97-scale-f64-spec : {M : Type 1} → statement M
 dwt97-scale-f64-spec =

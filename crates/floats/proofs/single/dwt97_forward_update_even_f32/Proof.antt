@@ -16,10 +16,11 @@ abbrev μ-loop : tie.MeasureT-loop
 
 loop-again : tie.Need-loop-again Inv-loop μ-loop
 loop-again c =
-    let a = c .before .before .before .before .before .before .before .before .before .before .before .before .before .before .before .args in
-    (omega arith,
-    evens-turn binary32 (a .c) (a .a .now) (a .d .now) (c .before .before .before .before .before .before .before .before .before .before .before .before .loop .inv .1) (c .before .before .before .before .before .before .before .before .before .before .before .loop-test .taken) (c .before .before .before .before .before .before .before .before .before .before .previous .ensures) (omega arith) (c .before .before .before .before .before .before .before .before .within .ensures .0) (c .before .before .before .before .before .before .before .before .within .ensures .1)
-    (c .before .before .before .before .before .before .before .before .before .get-f32 .ensures) (c .before .before .before .before .before .before .before .get-f322 .ensures) (c .before .before .before .before .before .get-f323 .ensures) (c .before .before .before .fmla-f32 .ensures) (c .before .before .put-f32 .ensures))
+    let a = c .before .before .before .before .before .before .before .before .before .before .before .before .before .before .before .args in (
+      omega arith,
+      evens-turn binary32 (a .c) (a .a .now) (a .d .now) (c .before .before .before .before .before .before .before .before .before .before .before .before .loop .inv .1) (c .before .before .before .before .before .before .before .before .before .before .before .loop-test .taken) (c .before .before .before .before .before .before .before .before .before .before .previous .ensures) (omega arith) (c .before .before .before .before .before .before .before .before .within .ensures .0) (c .before .before .before .before .before .before .before .before .within .ensures .1)
+          (c .before .before .before .before .before .before .before .before .before .get-f32 .ensures) (c .before .before .before .before .before .before .before .get-f322 .ensures) (c .before .before .before .before .before .get-f323 .ensures) (c .before .before .before .fmla-f32 .ensures) (c .before .before .put-f32 .ensures),
+    )
 
 pub dwt97-forward-update-even-f32-spec : {M : Type 1} → statement M
 dwt97-forward-update-even-f32-spec =
