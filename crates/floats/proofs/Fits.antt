@@ -1,14 +1,15 @@
 -- Floats to bytes and back, once over the format: what a step makes fits the format, so its bytes are read as it again. Assumes nothing.
+use mathlib.Core.Bool.{cond}
 use mathlib.Core.List.{List, [], _∷_}
 use mathlib.Core.Logic.{⊎-elim}
 use mathlib.Core.Path.{_≡_}
-use Prim.Native.Nat.{ℕ, _/_}
-use lib.Dec.{T}
+use Prim.Native.Nat.{ℕ, _+_, _*_, _/_, _%_}
+use lib.Dec.{T, eqb}
 use lib.Ieee.{Float, nan, Format, fits, mul, add}
-use lib.Ieee.Fits.{add-fits, mul-fits, nan-fits}
+use lib.Ieee.Fits.{add-fits, mul-fits, nan-fits, cond-fits}
 use lib.ListN.{length, getD, List·getD-eq-default}
 use Rattle.answers.proofs.Order.{lt-or-le}
-use Rattle.samples.specs.Words.{tabulate}
+use Rattle.samples.specs.Halves.{evenOf, oddOf, joined}
 use Rattle.samples.specs.Floats.{width, floatAt, decodeFloats, encodeFloats}
 use Rattle.samples.proofs.FloatLaws.{length-decodeFloats, at-decodeFloats, decodeFloats-is, decodeFloats-encode, floatAt-fits}
 use Rattle.floats.specs.Steps.{lift, oddAt, evenAt, odds, evens, scaled, Step, oddly, evenly, scaling, stepA, stepD, runA, runD}
@@ -33,9 +34,24 @@ module _ (f : Format) where
   pub fit-decode : (s : List ℕ) → Fit (decodeFloats f s)
   fit-decode s = rw (decodeFloats-is f s) (decodeFloats-encode f _ (floatAt f s) (λ i h. floatAt-fits f s i))
 
-  -- any floats that were read, in another order
-  pub fit-read : (s : List ℕ) (n : ℕ) (p : ℕ → ℕ) → Fit (tabulate n (λ i. getD (decodeFloats f s) (p i) nan))
-  fit-read s n p = decodeFloats-encode f n (λ i. getD (decodeFloats f s) (p i) nan) (λ i h. getD-fits s (p i))
+  -- the evens and the odds of what was read
+  pub fit-even : (s : List ℕ) → Fit (evenOf nan (decodeFloats f s))
+  unfolding evenOf
+  fit-even s = decodeFloats-encode f _ (λ i. getD (decodeFloats f s) (2 * i) nan) (λ i h. getD-fits s (2 * i))
+
+  pub fit-odd : (s : List ℕ) → Fit (oddOf nan (decodeFloats f s))
+  unfolding oddOf
+  fit-odd s = decodeFloats-encode f _ (λ i. getD (decodeFloats f s) (2 * i + 1) nan) (λ i h. getD-fits s (2 * i + 1))
+
+  -- and two lists joined
+  entry-fits : (a : List Float) → Fit a → (i : ℕ) → T (fits f (getD a i nan))
+  entry-fits a h i = rw h at (getD-fits (encodeFloats f a) i)
+
+  pub fit-joined : (a d : List Float) → Fit a → Fit d → Fit (joined nan a d)
+  unfolding joined
+  fit-joined a d ha hd =
+      decodeFloats-encode f (length a + length d) (λ j. cond (eqb (j % 2) 0) (getD a (j / 2) nan) (getD d (j / 2) nan))
+      (λ j h. cond-fits f (eqb (j % 2) 0) (getD a (j / 2) nan) (getD d (j / 2) nan) (entry-fits a ha (j / 2)) (entry-fits d hd (j / 2)))
 
   pub fit-odds : (c : Float) (a d : List Float) → Fit (odds (lift f c) nan a d)
   unfolding odds oddAt

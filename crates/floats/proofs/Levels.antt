@@ -3,27 +3,28 @@
 use mathlib.Core.Bool.{Bool, true, false}
 use mathlib.Core.List.{List}
 use mathlib.Core.Path.{_≡_, sym, ap, _∙_}
-use Prim.Native.Nat.{ℕ, _+_, _*_, _/_, _≤_}
+use Prim.Native.Nat.{ℕ, _*_, _/_, _≤_}
 use native.Mathlib.Omega.{arith}
 use lib.Ieee.{Float, nan, Format}
-use lib.ListN.{length, getD}
+use lib.ListN.{length}
 use Rattle.answers.specs.declared.err.Answer.{Answer}
 use Rattle.answers.specs.declared.err.Refusal.{Refusal}
 use Rattle.answers.specs.Answers.{answerOf, done}
 use Rattle.sizes.specs.declared.Wavelet.{Wavelet}
 use Rattle.sizes.specs.declared.Wavelet.the-variants.{Cdf53, Cdf97}
 use Rattle.sizes.specs.Bands.{ups, downs, smallestOf}
-use Rattle.sizes.specs.Calls.{sayForward, Level, Forward}
-use Rattle.sizes.proofs.OneLevel.{forward-ready, forward-done, forward-refused}
-use Rattle.samples.specs.Words.{Holds}
-use Rattle.samples.specs.Halves.{evenOf, oddOf}
+use Rattle.sizes.specs.Calls.{sayForward, sayInverse, Level, Forward, Inverse}
+use Rattle.sizes.proofs.OneLevel.{forward-ready, forward-done, forward-refused, inverse-ready, inverse-done, inverse-refused}
+use Rattle.samples.specs.Halves.{evenOf, oddOf, joined}
 use Rattle.samples.specs.Floats.{width, decodeFloats, encodeFloats}
-use Rattle.samples.proofs.Words.{length-tabulate, holds}
+use Rattle.samples.proofs.Words.{holds}
+use Rattle.samples.proofs.Halves.{length-even, length-odd, length-joined, even-joined, odd-joined}
 use Rattle.samples.proofs.FloatLaws.{width-pos, length-decodeFloats, length-encodeFloats}
-use Rattle.floats.specs.Filters.{stepsOf}
-use Rattle.floats.specs.Bands.{approxs, details, low, high}
+use Rattle.floats.specs.Filters.{stepsOf, backOf}
+use Rattle.floats.specs.Bands.{approxs, details, restored, low, high, back}
 use Rattle.floats.specs.Loops.{Lent, Stored, Bands, Ran}
-use Rattle.floats.proofs.Fits.{Fit, fit-read}
+use Rattle.floats.specs.Lanes.{runOn, Lanes, RanOn}
+use Rattle.floats.proofs.Fits.{Fit, fit-decode, fit-even, fit-odd, fit-joined}
 
 -- what the checks leave is what the steps ask
 pub ready : (w : Wavelet) (f : Format) {x a d : List ℕ} → Level w (width f) (length x / width f) (length x) (length a) (length d) → Lent f x a d
@@ -49,28 +50,12 @@ module _ (f : Format) where
       }
 
   module _ (x : List ℕ) where
-    fit-evens : Fit f (evenOf nan (decodeFloats f x))
-    unfolding evenOf
-    fit-evens = fit-read f x _ (λ i. 2 * i)
-
-    fit-odds : Fit f (oddOf nan (decodeFloats f x))
-    unfolding oddOf
-    fit-odds = fit-read f x _ (λ i. 2 * i + 1)
-
-    length-evens : length (evenOf nan (decodeFloats f x)) ≡ ups (length x / width f)
-    unfolding evenOf
-    length-evens = rw (length-decodeFloats f x) (length-tabulate _ _)
-
-    length-odds : length (oddOf nan (decodeFloats f x)) ≡ downs (length x / width f)
-    unfolding oddOf
-    length-odds = rw (length-decodeFloats f x) (length-tabulate _ _)
-
     module _ {a d : List ℕ} (ea : a ≡ encodeFloats f (evenOf nan (decodeFloats f x))) (ed : d ≡ encodeFloats f (oddOf nan (decodeFloats f x))) where
       -- the evens and the odds of three samples or more are bands
       pub split-bands : 3 ≤ length x / width f → Bands f a d
       split-bands long =
-          let sa = stored-encode (ups (length x / width f)) _ a ea length-evens fit-evens in
-          let sd = stored-encode (downs (length x / width f)) _ d ed length-odds fit-odds in
+          let sa = stored-encode (ups (length x / width f)) _ a ea (length-even nan _ ∙ rw (length-decodeFloats f x)) (fit-even f x) in
+          let sd = stored-encode (downs (length x / width f)) _ d ed (length-odd nan _ ∙ rw (length-decodeFloats f x)) (fit-odd f x) in
           let na = sa .holds .count in
           let nd = sd .holds .count in
           record { approx = rw na sa; details = rw nd sd; some = omega arith; fewer = omega arith; near = omega arith }
@@ -79,11 +64,11 @@ module _ (f : Format) where
       pub run-level : (w : Wavelet) {a′ d′ : List ℕ} → Ran f (stepsOf f w) a d a′ d′ → (a′ ≡ low f w x) × (d′ ≡ high f w x)
       unfolding low high approxs details
       run-level w r =
-          let xa : decodeFloats f a ≡ evenOf nan (decodeFloats f x) = rw ea fit-evens in
-          let xd : decodeFloats f d ≡ oddOf nan (decodeFloats f x) = rw ed fit-odds in
+          let xa : decodeFloats f a ≡ evenOf nan (decodeFloats f x) = rw ea (fit-even f x) in
+          let xd : decodeFloats f d ≡ oddOf nan (decodeFloats f x) = rw ed (fit-odd f x) in
           (r .approx ∙ rw (xa, xd), r .details ∙ rw (xa, xd))
 
--- the two ends of a forward call: s is what the checks said, r its numbers, and b whether it is done
+-- the two ends of a forward call. s is what the checks said, r its numbers, and b whether it is done
 module _ (w : Wavelet) (f : Format) (x a d : List ℕ) {s : Refusal} {r : Answer} {b : Bool} (es : s ≡ sayForward w (width f) (length x) (length a) (length d)) (er : r ≡ answerOf s) (eb : b ≡ done s) where
   pub forward-lent : b ≡ true → Lent f x a d
   forward-lent t = ready w f (forward-ready w (width f) (length x) (length a) (length d) (rw es at (sym eb ∙ t)))
@@ -93,3 +78,36 @@ module _ (w : Wavelet) (f : Format) (x a d : List ℕ) {s : Refusal} {r : Answer
 
   pub forward-kept : b ≡ false → Forward w (width f) (low f w) (high f w) x a d r a d
   forward-kept t = forward-refused w (width f) (low f w) (high f w) x a d s r es er (sym eb ∙ t)
+
+-- ---- the inverse
+
+module _ (f : Format) (a d : List ℕ) {x : List ℕ} (e : x ≡ encodeFloats f (joined nan (decodeFloats f a) (decodeFloats f d))) where
+  fit : Fit f (joined nan (decodeFloats f a) (decodeFloats f d))
+  fit = fit-joined f (decodeFloats f a) (decodeFloats f d) (fit-decode f a) (fit-decode f d)
+
+  -- the two bands joined
+  pub join-lanes : {o : List ℕ} → Lent f o a d → Lanes f x
+  join-lanes {o} l =
+      let s = stored-encode f (length o / width f) _ x e (length-joined nan _ _ ∙ rw (length-decodeFloats f a, length-decodeFloats f d) (omega (arith, l .approx .count, l .details .count))) fit in
+      let n = s .holds .count in
+      record { stored = rw n s; long = omega (arith, l .long) }
+
+  -- and the schedule of the inverse makes the samples of them
+  pub run-back : (w : Wavelet) {o x′ : List ℕ} → Lent f o a d → RanOn f (backOf f w) x x′ → x′ ≡ back f w a d
+  unfolding back restored runOn
+  run-back w {o} l r =
+      let xs : decodeFloats f x ≡ joined nan (decodeFloats f a) (decodeFloats f d) = rw e fit in
+      let na : length (decodeFloats f a) ≡ ups (length o / width f) = length-decodeFloats f a ∙ l .approx .count in
+      let nd : length (decodeFloats f d) ≡ downs (length o / width f) = length-decodeFloats f d ∙ l .details .count in
+      r .output ∙ rw (xs, even-joined nan (decodeFloats f a) (decodeFloats f d) (omega arith) (omega arith), odd-joined nan (decodeFloats f a) (decodeFloats f d) (omega arith) (omega arith))
+
+-- the two ends of an inverse call
+module _ (w : Wavelet) (f : Format) (a d o : List ℕ) {s : Refusal} {r : Answer} {b : Bool} (es : s ≡ sayInverse w (width f) (length a) (length d) (length o)) (er : r ≡ answerOf s) (eb : b ≡ done s) where
+  pub inverse-lent : b ≡ true → Lent f o a d
+  inverse-lent t = ready w f (inverse-ready w (width f) (length a) (length d) (length o) (rw es at (sym eb ∙ t)))
+
+  pub inverse-made : {o′ : List ℕ} → b ≡ true → o′ ≡ back f w a d → Inverse w (width f) (back f w) a d o r o′
+  inverse-made t p = inverse-done w (width f) (back f w) a d o s r _ es er (sym eb ∙ t) p
+
+  pub inverse-kept : b ≡ false → Inverse w (width f) (back f w) a d o r o
+  inverse-kept t = inverse-refused w (width f) (back f w) a d o s r es er (sym eb ∙ t)

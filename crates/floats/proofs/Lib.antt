@@ -4,3 +4,5 @@ pub mod Turns
 pub mod Runs
 pub mod Splits
 pub mod Levels
+pub mod Lanes
+pub mod RunsOn

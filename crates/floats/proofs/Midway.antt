@@ -6,14 +6,14 @@ use mathlib.Core.Path.{_≡_, sym, ap, _∙_}
 use Prim.Native.Nat.{ℕ, _+_, _≤_, _<_}
 use native.Mathlib.Omega.{arith}
 use borrow.Author.Tests.{lt-ltb, le-ltb}
-use lib.Dec.{T, ltb}
-use lib.Ieee.{Float, nan, Format, fits}
+use lib.Dec.{ltb}
+use lib.Ieee.{Float, nan, Format}
 use lib.ListN.{length, getD}
 use Rattle.answers.proofs.Order.{lt-or-le}
 use Rattle.samples.specs.Words.{tabulate, Holds}
 use Rattle.samples.specs.Floats.{width, floatAt, putFloat, decodeFloats, encodeFloats}
 use Rattle.samples.proofs.Words.{tabulate-same, tabulate-getD, holds-on}
-use Rattle.samples.proofs.FloatLaws.{length-putFloat, length-decodeFloats, at-decodeFloats, floatAt-fits, floatAt-encode, put-encode}
+use Rattle.samples.proofs.FloatLaws.{length-putFloat, length-decodeFloats, floatAt-encode, put-encode}
 use Rattle.floats.specs.Loops.{Stored}
 use Rattle.floats.proofs.Fits.{getD-fits}
 

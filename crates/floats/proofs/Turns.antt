@@ -5,7 +5,6 @@ use Prim.Native.Nat.{ℕ, _+_, _-_, _/_, _≤_, _<_, min}
 use native.Mathlib.Omega.{arith}
 use lib.Ieee.{Float, nan, Format, add, mul}
 use lib.ListN.{length}
-use Rattle.samples.specs.Words.{Holds}
 use Rattle.samples.specs.Floats.{width, floatAt, putFloat, decodeFloats, encodeFloats}
 use Rattle.samples.proofs.FloatLaws.{length-decodeFloats, at-decodeFloats}
 use Rattle.floats.specs.Steps.{lift, oddAt, evenAt, odds, evens, scaled}

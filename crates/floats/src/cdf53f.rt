@@ -2,15 +2,19 @@
 ghost use mathlib.Core.Path.{_≡_};
 ghost use mathlib.Core.List.{map};
 ghost use lib.Ieee.{binary32, binary64};
-ghost use Rattle.sizes.specs.Calls.{Forward};
-ghost use Rattle.floats.specs.Filters.{steps53};
-ghost use Rattle.floats.specs.Bands.{low, high};
+ghost use Rattle.sizes.specs.Calls.{Forward, Inverse};
+ghost use Rattle.floats.specs.Filters.{steps53, back53};
+ghost use Rattle.floats.specs.Bands.{low, high, back};
 ghost use Rattle.floats.specs.Loops.{Lent};
 ghost use Rattle.floats.specs.Kinds.{kind32, kind64};
 use crate::double::Step64;
+use crate::double::back2_f64;
+use crate::double::join_f64;
 use crate::double::run2_f64;
 use crate::double::split_f64;
 use crate::single::Step32;
+use crate::single::back2_f32;
+use crate::single::join_f32;
 use crate::single::run2_f32;
 use crate::single::split_f32;
 use answers::err::Answer;
@@ -18,6 +22,7 @@ use answers::err::is_done;
 use answers::err::numbers;
 use sizes::Wavelet;
 use sizes::checks::check_forward;
+use sizes::checks::check_inverse;
 
 // "Odds -0.5, evens 0.25."
 fn schedule53_f32() -> [Step32; 2]
@@ -30,6 +35,19 @@ fn schedule53_f64() -> [Step64; 2]
     ensures { λ r. ⌜ map kind64 r ≡ steps53 binary64 ⌝ }
 {
     [Step64::Odds(-0.5), Step64::Evens(0.25)]
+}
+
+// "Inverse: evens -0.25, odds 0.5."
+fn back53_f32() -> [Step32; 2]
+    ensures { λ r. ⌜ map kind32 r ≡ back53 binary32 ⌝ }
+{
+    [Step32::Evens(-0.25), Step32::Odds(0.5)]
+}
+
+fn back53_f64() -> [Step64; 2]
+    ensures { λ r. ⌜ map kind64 r ≡ back53 binary64 ⌝ }
+{
+    [Step64::Evens(-0.25), Step64::Odds(0.5)]
 }
 
 // One level of the samples in input: approximations into approx, details into details.
@@ -49,7 +67,24 @@ fn forward_f64(input: &[u8], approx: &mut [u8], details: &mut [u8])
     run2_f64(schedule53_f64(), approx, details);
 }
 
-// The same with document 01's checks.
+// The samples whose approximations are in approx and details in details, into output.
+fn inverse_f32(approx: &[u8], details: &[u8], output: &mut [u8])
+    requires { ⌜ Lent binary32 (now output) (now approx) (now details) ⌝ }
+    ensures { λ _. ⌜ now (output .exit) ≡ back binary32 Wavelet.Cdf53 (now (approx .entry)) (now (details .entry)) ⌝ }
+{
+    join_f32(approx, details, output);
+    back2_f32(back53_f32(), output);
+}
+
+fn inverse_f64(approx: &[u8], details: &[u8], output: &mut [u8])
+    requires { ⌜ Lent binary64 (now output) (now approx) (now details) ⌝ }
+    ensures { λ _. ⌜ now (output .exit) ≡ back binary64 Wavelet.Cdf53 (now (approx .entry)) (now (details .entry)) ⌝ }
+{
+    join_f64(approx, details, output);
+    back2_f64(back53_f64(), output);
+}
+
+// Both with document 01's checks.
 pub fn execute_forward_f32(input: &[u8], approx: &mut [u8], details: &mut [u8]) -> Answer
     ensures { λ r. ⌜ Forward Wavelet.Cdf53 4 (low binary32 Wavelet.Cdf53) (high binary32 Wavelet.Cdf53) (now (input .entry)) (now (approx .entry)) (now (details .entry)) r (now (approx .exit)) (now (details .exit)) ⌝ }
 {
@@ -68,6 +103,28 @@ pub fn execute_forward_f64(input: &[u8], approx: &mut [u8], details: &mut [u8]) 
     let r = numbers(said);
     if is_done(said) {
         forward_f64(input, approx, details);
+    }
+    r
+}
+
+pub fn execute_inverse_f32(approx: &[u8], details: &[u8], output: &mut [u8]) -> Answer
+    ensures { λ r. ⌜ Inverse Wavelet.Cdf53 4 (back binary32 Wavelet.Cdf53) (now (approx .entry)) (now (details .entry)) (now (output .entry)) r (now (output .exit)) ⌝ }
+{
+    let said = check_inverse(Wavelet::Cdf53, 4, approx.len(), details.len(), output.len());
+    let r = numbers(said);
+    if is_done(said) {
+        inverse_f32(approx, details, output);
+    }
+    r
+}
+
+pub fn execute_inverse_f64(approx: &[u8], details: &[u8], output: &mut [u8]) -> Answer
+    ensures { λ r. ⌜ Inverse Wavelet.Cdf53 8 (back binary64 Wavelet.Cdf53) (now (approx .entry)) (now (details .entry)) (now (output .entry)) r (now (output .exit)) ⌝ }
+{
+    let said = check_inverse(Wavelet::Cdf53, 8, approx.len(), details.len(), output.len());
+    let r = numbers(said);
+    if is_done(said) {
+        inverse_f64(approx, details, output);
     }
     r
 }

@@ -2,15 +2,19 @@
 ghost use mathlib.Core.Path.{_≡_};
 ghost use mathlib.Core.List.{map};
 ghost use lib.Ieee.{binary32, binary64};
-ghost use Rattle.sizes.specs.Calls.{Forward};
-ghost use Rattle.floats.specs.Filters.{factors32, factors64, steps97};
-ghost use Rattle.floats.specs.Bands.{low, high};
+ghost use Rattle.sizes.specs.Calls.{Forward, Inverse};
+ghost use Rattle.floats.specs.Filters.{factors32, factors64, turned, steps97, back97};
+ghost use Rattle.floats.specs.Bands.{low, high, back};
 ghost use Rattle.floats.specs.Loops.{Lent};
 ghost use Rattle.floats.specs.Kinds.{kind32, kind64, set32, set64};
 use crate::double::Step64;
+use crate::double::back5_f64;
+use crate::double::join_f64;
 use crate::double::run5_f64;
 use crate::double::split_f64;
 use crate::single::Step32;
+use crate::single::back5_f32;
+use crate::single::join_f32;
 use crate::single::run5_f32;
 use crate::single::split_f32;
 use answers::err::Answer;
@@ -18,6 +22,7 @@ use answers::err::is_done;
 use answers::err::numbers;
 use sizes::Wavelet;
 use sizes::checks::check_forward;
+use sizes::checks::check_inverse;
 
 // The six factors, which travel together as one set.
 pub struct Factors32 {
@@ -89,6 +94,58 @@ fn schedule97_f64(t: Factors64) -> [Step64; 5]
     ]
 }
 
+// The set with the signs of the four lifting factors changed, for the inverse.
+fn turned_f32(t: Factors32) -> Factors32
+    ensures { λ r. ⌜ set32 r ≡ turned (set32 t) ⌝ }
+{
+    Factors32 {
+        alpha: -t.alpha,
+        beta: -t.beta,
+        gamma: -t.gamma,
+        delta: -t.delta,
+        k: t.k,
+        invk: t.invk,
+    }
+}
+
+fn turned_f64(t: Factors64) -> Factors64
+    ensures { λ r. ⌜ set64 r ≡ turned (set64 t) ⌝ }
+{
+    Factors64 {
+        alpha: -t.alpha,
+        beta: -t.beta,
+        gamma: -t.gamma,
+        delta: -t.delta,
+        k: t.k,
+        invk: t.invk,
+    }
+}
+
+// "Scale (INV_K, K), then the four with signs changed, last first."
+fn back97_f32(t: Factors32) -> [Step32; 5]
+    ensures { λ r. ⌜ map kind32 r ≡ back97 (set32 t) ⌝ }
+{
+    [
+        Step32::Scale(t.invk, t.k),
+        Step32::Evens(t.delta),
+        Step32::Odds(t.gamma),
+        Step32::Evens(t.beta),
+        Step32::Odds(t.alpha),
+    ]
+}
+
+fn back97_f64(t: Factors64) -> [Step64; 5]
+    ensures { λ r. ⌜ map kind64 r ≡ back97 (set64 t) ⌝ }
+{
+    [
+        Step64::Scale(t.invk, t.k),
+        Step64::Evens(t.delta),
+        Step64::Odds(t.gamma),
+        Step64::Evens(t.beta),
+        Step64::Odds(t.alpha),
+    ]
+}
+
 // One level of the samples in input: approximations into approx, details into details.
 fn forward_f32(t: Factors32, input: &[u8], approx: &mut [u8], details: &mut [u8])
     requires { ⌜ set32 t ≡ factors32 ⌝ }
@@ -108,7 +165,26 @@ fn forward_f64(t: Factors64, input: &[u8], approx: &mut [u8], details: &mut [u8]
     run5_f64(schedule97_f64(t), approx, details);
 }
 
-// The same with document 01's checks.
+// The samples whose approximations are in approx and details in details, into output.
+fn inverse_f32(t: Factors32, approx: &[u8], details: &[u8], output: &mut [u8])
+    requires { ⌜ set32 t ≡ turned factors32 ⌝ }
+    requires { ⌜ Lent binary32 (now output) (now approx) (now details) ⌝ }
+    ensures { λ _. ⌜ now (output .exit) ≡ back binary32 Wavelet.Cdf97 (now (approx .entry)) (now (details .entry)) ⌝ }
+{
+    join_f32(approx, details, output);
+    back5_f32(back97_f32(t), output);
+}
+
+fn inverse_f64(t: Factors64, approx: &[u8], details: &[u8], output: &mut [u8])
+    requires { ⌜ set64 t ≡ turned factors64 ⌝ }
+    requires { ⌜ Lent binary64 (now output) (now approx) (now details) ⌝ }
+    ensures { λ _. ⌜ now (output .exit) ≡ back binary64 Wavelet.Cdf97 (now (approx .entry)) (now (details .entry)) ⌝ }
+{
+    join_f64(approx, details, output);
+    back5_f64(back97_f64(t), output);
+}
+
+// Both with document 01's checks.
 pub fn execute_forward_f32(input: &[u8], approx: &mut [u8], details: &mut [u8]) -> Answer
     ensures { λ r. ⌜ Forward Wavelet.Cdf97 4 (low binary32 Wavelet.Cdf97) (high binary32 Wavelet.Cdf97) (now (input .entry)) (now (approx .entry)) (now (details .entry)) r (now (approx .exit)) (now (details .exit)) ⌝ }
 {
@@ -127,6 +203,28 @@ pub fn execute_forward_f64(input: &[u8], approx: &mut [u8], details: &mut [u8]) 
     let r = numbers(said);
     if is_done(said) {
         forward_f64(factors_f64(), input, approx, details);
+    }
+    r
+}
+
+pub fn execute_inverse_f32(approx: &[u8], details: &[u8], output: &mut [u8]) -> Answer
+    ensures { λ r. ⌜ Inverse Wavelet.Cdf97 4 (back binary32 Wavelet.Cdf97) (now (approx .entry)) (now (details .entry)) (now (output .entry)) r (now (output .exit)) ⌝ }
+{
+    let said = check_inverse(Wavelet::Cdf97, 4, approx.len(), details.len(), output.len());
+    let r = numbers(said);
+    if is_done(said) {
+        inverse_f32(turned_f32(factors_f32()), approx, details, output);
+    }
+    r
+}
+
+pub fn execute_inverse_f64(approx: &[u8], details: &[u8], output: &mut [u8]) -> Answer
+    ensures { λ r. ⌜ Inverse Wavelet.Cdf97 8 (back binary64 Wavelet.Cdf97) (now (approx .entry)) (now (details .entry)) (now (output .entry)) r (now (output .exit)) ⌝ }
+{
+    let said = check_inverse(Wavelet::Cdf97, 8, approx.len(), details.len(), output.len());
+    let r = numbers(said);
+    if is_done(said) {
+        inverse_f64(turned_f64(factors_f64()), approx, details, output);
     }
     r
 }

@@ -1,17 +1,22 @@
 // The steps at f64, on two bands. single.rt has the same at f32.
 ghost use mathlib.Core.Path.{_≡_};
+ghost use mathlib.Core.Bool.{cond};
 ghost use mathlib.Core.List.{[], _∷_, map};
-ghost use Prim.Native.Nat.{_/_};
+ghost use Prim.Native.Nat.{_/_, _%_, _<_};
+ghost use lib.Dec.{eqb};
 ghost use lib.ListN.{length};
 ghost use lib.Ieee.{binary64, nan};
-ghost use Rattle.samples.specs.Halves.{evenOf, oddOf};
+ghost use Rattle.samples.specs.Halves.{evenOf, oddOf, joined};
 ghost use Rattle.samples.specs.Floats.{decodeFloats, encodeFloats};
 ghost use Rattle.floats.specs.Steps.{odds, evens, lift, scaled};
 ghost use Rattle.floats.specs.Loops.{Lent, Stored, Bands, Ran};
+ghost use Rattle.floats.specs.Lanes.{lane, scaledLanes, Lanes, RanOn};
 ghost use Rattle.floats.specs.Kinds.{kind64};
 use crate::mla::fmla_f64;
+use crate::places::left_of;
 use crate::places::next;
 use crate::places::previous;
+use crate::places::right_of;
 use crate::places::within;
 use samples::floats::get_f64;
 use samples::floats::put_f64;
@@ -127,6 +132,100 @@ pub fn run5_f64(schedule: [Step64; 5], a: &mut [u8], d: &mut [u8])
     while i < 5 {
         let step = schedule[i];
         apply_f64(step, a, d);
+        i += 1;
+    }
+}
+
+// The approximations in a and the details in d, one of each in turn, into x.
+pub fn join_f64(a: &[u8], d: &[u8], x: &mut [u8])
+    requires { ⌜ Lent binary64 (now x) (now a) (now d) ⌝ }
+    ensures { λ _. ⌜ now (x .exit) ≡ encodeFloats binary64 (joined nan (decodeFloats binary64 (now (a .entry))) (decodeFloats binary64 (now (d .entry)))) ⌝ }
+{
+    let n = x.len() / 8;
+    let m = n / 2;
+    let mut i = 0;
+    while i < m {
+        put_f64(x, 2 * i, get_f64(a, i));
+        put_f64(x, 2 * i + 1, get_f64(d, i));
+        i += 1;
+    }
+    if n % 2 == 1 {
+        put_f64(x, 2 * m, get_f64(a, m));
+    }
+}
+
+// A lifting step where both bands stand in x: the places start, start + 2, .., each from its neighbours, which are of the other band.
+fn lift_lane_f64(x: &mut [u8], start: usize, c: f64)
+    requires { ⌜ Lanes binary64 (now x) ⌝ }
+    requires { ⌜ start < 2 ⌝ }
+    ensures { λ _. ⌜ now (x .exit) ≡ encodeFloats binary64 (lane binary64 c start (decodeFloats binary64 (now (x .entry)))) ⌝ }
+{
+    let n = x.len() / 8;
+    let mut j = start;
+    while j < n {
+        let left = get_f64(x, left_of(j));
+        let right = get_f64(x, right_of(j, n));
+        let y = get_f64(x, j);
+        put_f64(x, j, fmla_f64(left + right, c, y));
+        j += 2;
+    }
+}
+
+// The factor of place j: one for the even places and one for the odd.
+fn factor_f64(j: usize, even: f64, odd: f64) -> f64
+    ensures { λ r. ⌜ r ≡ cond (eqb (j % 2) 0) even odd ⌝ }
+{
+    if j % 2 == 0 { even } else { odd }
+}
+
+// A scaling where both bands stand in x.
+fn scale_lanes_f64(x: &mut [u8], k: f64, l: f64)
+    requires { ⌜ Lanes binary64 (now x) ⌝ }
+    ensures { λ _. ⌜ now (x .exit) ≡ encodeFloats binary64 (scaledLanes binary64 k l (decodeFloats binary64 (now (x .entry)))) ⌝ }
+{
+    let n = x.len() / 8;
+    let mut j = 0;
+    while j < n {
+        let y = get_f64(x, j);
+        put_f64(x, j, y * factor_f64(j, k, l));
+        j += 1;
+    }
+}
+
+// One step where both bands stand in x.
+fn apply_back_f64(step: Step64, x: &mut [u8])
+    requires { ⌜ Lanes binary64 (now x) ⌝ }
+    ensures { λ _. ⌜ RanOn binary64 (kind64 step ∷ []) (now (x .entry)) (now (x .exit)) ⌝ }
+{
+    match step {
+        Step64::Odds(c) => lift_lane_f64(x, 1, c),
+        Step64::Evens(c) => lift_lane_f64(x, 0, c),
+        Step64::Scale(k, l) => scale_lanes_f64(x, k, l),
+    }
+}
+
+// The schedules of 5/3 where both bands stand in x.
+pub fn back2_f64(schedule: [Step64; 2], x: &mut [u8])
+    requires { ⌜ Lanes binary64 (now x) ⌝ }
+    ensures { λ _. ⌜ RanOn binary64 (map kind64 schedule) (now (x .entry)) (now (x .exit)) ⌝ }
+{
+    let mut i = 0;
+    while i < 2 {
+        let step = schedule[i];
+        apply_back_f64(step, x);
+        i += 1;
+    }
+}
+
+// Those of 9/7.
+pub fn back5_f64(schedule: [Step64; 5], x: &mut [u8])
+    requires { ⌜ Lanes binary64 (now x) ⌝ }
+    ensures { λ _. ⌜ RanOn binary64 (map kind64 schedule) (now (x .entry)) (now (x .exit)) ⌝ }
+{
+    let mut i = 0;
+    while i < 5 {
+        let step = schedule[i];
+        apply_back_f64(step, x);
         i += 1;
     }
 }

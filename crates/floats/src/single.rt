@@ -1,17 +1,22 @@
 // The steps at f32, on two bands. double.rt has the same at f64.
 ghost use mathlib.Core.Path.{_≡_};
+ghost use mathlib.Core.Bool.{cond};
 ghost use mathlib.Core.List.{[], _∷_, map};
-ghost use Prim.Native.Nat.{_/_};
+ghost use Prim.Native.Nat.{_/_, _%_, _<_};
+ghost use lib.Dec.{eqb};
 ghost use lib.ListN.{length};
 ghost use lib.Ieee.{binary32, nan};
-ghost use Rattle.samples.specs.Halves.{evenOf, oddOf};
+ghost use Rattle.samples.specs.Halves.{evenOf, oddOf, joined};
 ghost use Rattle.samples.specs.Floats.{decodeFloats, encodeFloats};
 ghost use Rattle.floats.specs.Steps.{odds, evens, lift, scaled};
 ghost use Rattle.floats.specs.Loops.{Lent, Stored, Bands, Ran};
+ghost use Rattle.floats.specs.Lanes.{lane, scaledLanes, Lanes, RanOn};
 ghost use Rattle.floats.specs.Kinds.{kind32};
 use crate::mla::fmla_f32;
+use crate::places::left_of;
 use crate::places::next;
 use crate::places::previous;
+use crate::places::right_of;
 use crate::places::within;
 use samples::floats::get_f32;
 use samples::floats::put_f32;
@@ -127,6 +132,100 @@ pub fn run5_f32(schedule: [Step32; 5], a: &mut [u8], d: &mut [u8])
     while i < 5 {
         let step = schedule[i];
         apply_f32(step, a, d);
+        i += 1;
+    }
+}
+
+// The approximations in a and the details in d, one of each in turn, into x.
+pub fn join_f32(a: &[u8], d: &[u8], x: &mut [u8])
+    requires { ⌜ Lent binary32 (now x) (now a) (now d) ⌝ }
+    ensures { λ _. ⌜ now (x .exit) ≡ encodeFloats binary32 (joined nan (decodeFloats binary32 (now (a .entry))) (decodeFloats binary32 (now (d .entry)))) ⌝ }
+{
+    let n = x.len() / 4;
+    let m = n / 2;
+    let mut i = 0;
+    while i < m {
+        put_f32(x, 2 * i, get_f32(a, i));
+        put_f32(x, 2 * i + 1, get_f32(d, i));
+        i += 1;
+    }
+    if n % 2 == 1 {
+        put_f32(x, 2 * m, get_f32(a, m));
+    }
+}
+
+// A lifting step where both bands stand in x: the places start, start + 2, .., each from its neighbours, which are of the other band.
+fn lift_lane_f32(x: &mut [u8], start: usize, c: f32)
+    requires { ⌜ Lanes binary32 (now x) ⌝ }
+    requires { ⌜ start < 2 ⌝ }
+    ensures { λ _. ⌜ now (x .exit) ≡ encodeFloats binary32 (lane binary32 c start (decodeFloats binary32 (now (x .entry)))) ⌝ }
+{
+    let n = x.len() / 4;
+    let mut j = start;
+    while j < n {
+        let left = get_f32(x, left_of(j));
+        let right = get_f32(x, right_of(j, n));
+        let y = get_f32(x, j);
+        put_f32(x, j, fmla_f32(left + right, c, y));
+        j += 2;
+    }
+}
+
+// The factor of place j: one for the even places and one for the odd.
+fn factor_f32(j: usize, even: f32, odd: f32) -> f32
+    ensures { λ r. ⌜ r ≡ cond (eqb (j % 2) 0) even odd ⌝ }
+{
+    if j % 2 == 0 { even } else { odd }
+}
+
+// A scaling where both bands stand in x.
+fn scale_lanes_f32(x: &mut [u8], k: f32, l: f32)
+    requires { ⌜ Lanes binary32 (now x) ⌝ }
+    ensures { λ _. ⌜ now (x .exit) ≡ encodeFloats binary32 (scaledLanes binary32 k l (decodeFloats binary32 (now (x .entry)))) ⌝ }
+{
+    let n = x.len() / 4;
+    let mut j = 0;
+    while j < n {
+        let y = get_f32(x, j);
+        put_f32(x, j, y * factor_f32(j, k, l));
+        j += 1;
+    }
+}
+
+// One step where both bands stand in x.
+fn apply_back_f32(step: Step32, x: &mut [u8])
+    requires { ⌜ Lanes binary32 (now x) ⌝ }
+    ensures { λ _. ⌜ RanOn binary32 (kind32 step ∷ []) (now (x .entry)) (now (x .exit)) ⌝ }
+{
+    match step {
+        Step32::Odds(c) => lift_lane_f32(x, 1, c),
+        Step32::Evens(c) => lift_lane_f32(x, 0, c),
+        Step32::Scale(k, l) => scale_lanes_f32(x, k, l),
+    }
+}
+
+// The schedules of 5/3 where both bands stand in x.
+pub fn back2_f32(schedule: [Step32; 2], x: &mut [u8])
+    requires { ⌜ Lanes binary32 (now x) ⌝ }
+    ensures { λ _. ⌜ RanOn binary32 (map kind32 schedule) (now (x .entry)) (now (x .exit)) ⌝ }
+{
+    let mut i = 0;
+    while i < 2 {
+        let step = schedule[i];
+        apply_back_f32(step, x);
+        i += 1;
+    }
+}
+
+// Those of 9/7.
+pub fn back5_f32(schedule: [Step32; 5], x: &mut [u8])
+    requires { ⌜ Lanes binary32 (now x) ⌝ }
+    ensures { λ _. ⌜ RanOn binary32 (map kind32 schedule) (now (x .entry)) (now (x .exit)) ⌝ }
+{
+    let mut i = 0;
+    while i < 5 {
+        let step = schedule[i];
+        apply_back_f32(step, x);
         i += 1;
     }
 }

@@ -4,3 +4,4 @@ pub mod Fronts
 pub mod Diff
 pub mod IntegerLaws
 pub mod FloatLaws
+pub mod Halves

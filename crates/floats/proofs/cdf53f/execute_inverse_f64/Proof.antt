@@ -1,0 +1,19 @@
+-- `execute_inverse_f64` meets its contract: the checks, then the steps where they let by. Assumes nothing.
+use borrow.Author.Needs.{needs}
+use lib.Ieee.{binary64}
+use Rattle.sizes.specs.declared.Wavelet.the-variants.{Cdf53}
+use Rattle.floats.proofs.Levels.{inverse-lent, inverse-made, inverse-kept}
+use Rattle.floats.proofs.cdf53f.execute_inverse_f64.Statement.{statement}
+use Rattle.floats.proofs.cdf53f.execute_inverse_f64.Tie as tie
+
+pub execute-inverse-f64-spec : {M : Type 1} → statement M
+execute-inverse-f64-spec =
+    tie.close
+    (tie.spec
+    (λ c κs. search needs)
+    (λ c κs. search needs)
+    (λ c κs. search needs)
+    (λ c κs. inverse-lent Cdf53 binary64 _ _ _ (c .before .before .before .before .check-inverse .ensures) (c .before .before .before .numbers .ensures) (c .before .before .is-done .ensures) (c .before .if1 .taken))
+    (λ c. search needs)
+    (λ c. inverse-made Cdf53 binary64 _ _ _ (c .before .before .before .before .before .before .before .check-inverse .ensures) (c .before .before .before .before .before .before .numbers .ensures) (c .before .before .before .before .before .is-done .ensures) (c .before .before .before .before .if1 .taken) (c .before .before .inverse-f64 .ensures))
+    (λ c. inverse-kept Cdf53 binary64 _ _ _ (c .before .before .before .check-inverse .ensures) (c .before .before .numbers .ensures) (c .before .is-done .ensures) (c .if1 .left)))
