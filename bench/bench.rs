@@ -3,7 +3,9 @@
 
 include!("../tests/oracle/osclet.rs");
 
+use crate::cdf53f::Cdf53;
 use crate::cdf53i::Cdf53Integer;
+use crate::cdf97f::Cdf97;
 use std::hint::black_box;
 use std::marker::PhantomData;
 use std::time::{Duration, Instant};
@@ -15,13 +17,56 @@ const RUNS: usize = 200;
 const AT_LEAST: Duration = Duration::from_millis(200);
 const AT_A_TIME: usize = 20;
 
+// ---- samples
+
+trait Sample: Copy + Default + PartialEq {
+    // Of 48 random bits: an integer of the whole range, a float between -1 and 1.
+    fn drawn(bits: u64) -> Self;
+    // Whether the inverse may give back the other: in integers the sample alone, in floats also one beside it.
+    fn is_near(self, other: Self) -> bool;
+}
+
+macro_rules! integers {
+    ($($type: ty)*) => {
+        $(impl Sample for $type {
+            fn drawn(bits: u64) -> Self {
+                bits as $type
+            }
+
+            fn is_near(self, other: Self) -> bool {
+                self == other
+            }
+        })*
+    };
+}
+
+macro_rules! floats {
+    ($($type: ty)*) => {
+        $(impl Sample for $type {
+            fn drawn(bits: u64) -> Self {
+                (bits as f64 / (1_u64 << 47) as f64 - 1.0) as $type
+            }
+
+            fn is_near(self, other: Self) -> bool {
+                (self - other).abs() <= 64.0 * <$type>::EPSILON
+            }
+        })*
+    };
+}
+
+integers!(i8 i16 i32);
+floats!(f32 f64);
+
+fn restores<T: Sample>(signal: &[T], output: &[T]) -> bool {
+    signal.len() == output.len() && signal.iter().zip(output).all(|(x, y)| x.is_near(*y))
+}
+
 // ---- the two sides
 
 // A filter of the Rust, and its exported calls.
 trait Filter: DwtExecutor<<Self as Filter>::Sample> + Default {
-    type Sample: Copy + Default + PartialEq;
+    type Sample: Sample;
     const NAME: &str;
-    fn drawn(bits: u64) -> Self::Sample;
     fn bk_forward(
         input: &[Self::Sample],
         approx: &mut [Self::Sample],
@@ -67,10 +112,6 @@ macro_rules! filters {
             type Sample = $sample;
             const NAME: &str = $name;
 
-            fn drawn(bits: u64) -> $sample {
-                bits as $sample
-            }
-
             fn bk_forward(input: &[$sample], approx: &mut [$sample], details: &mut [$sample]) -> Answer {
                 let mut answer = Answer::default();
                 unsafe {
@@ -100,11 +141,15 @@ macro_rules! filters {
     };
 }
 
-// Integers with an intermediate wider than the sample, as document 01 has it.
+// Integers with an intermediate wider than the sample, floats unfused, as document 01 has them.
 filters! {
     "5/3 i8", Cdf53Integer<i8, i32>, i8, bk_cdf53_forward_i8, bk_cdf53_inverse_i8;
     "5/3 i16", Cdf53Integer<i16, i32>, i16, bk_cdf53_forward_i16, bk_cdf53_inverse_i16;
     "5/3 i32", Cdf53Integer<i32, i64>, i32, bk_cdf53_forward_i32, bk_cdf53_inverse_i32;
+    "5/3 f32", Cdf53<f32>, f32, bk_cdf53_forward_f32, bk_cdf53_inverse_f32;
+    "5/3 f64", Cdf53<f64>, f64, bk_cdf53_forward_f64, bk_cdf53_inverse_f64;
+    "9/7 f32", Cdf97<f32>, f32, bk_cdf97_forward_f32, bk_cdf97_inverse_f32;
+    "9/7 f64", Cdf97<f64>, f64, bk_cdf97_forward_f64, bk_cdf97_inverse_f64;
 }
 
 // One level, into lent slices.
@@ -185,7 +230,7 @@ fn drawn<F: Filter>() -> Vec<F::Sample> {
         bits ^= bits << 13;
         bits ^= bits >> 7;
         bits ^= bits << 17;
-        F::drawn(bits >> 16)
+        F::Sample::drawn(bits >> 16)
     };
     std::iter::repeat_with(next).take(SAMPLES).collect()
 }
@@ -206,7 +251,8 @@ fn one_level<F: Filter>() {
         &mut || rust.inverse(black_box(&a), black_box(&d), black_box(&mut x)),
         &mut || port.inverse(black_box(&b), black_box(&e), black_box(&mut y)),
     ]);
-    assert!(x == signal && y == signal, "a side does not restore");
+    assert!(x == y, "the two sides differ");
+    assert!(restores(&signal, &x), "the sides do not restore");
     say(F::NAME, "one level, inverse", None, times);
 }
 
@@ -280,13 +326,11 @@ fn five_levels<F: Filter>() {
         &mut || inverse(&rust, black_box(&pyramid), black_box(&mut a)),
         &mut || inverse(&port, black_box(&pyramid), black_box(&mut b)),
     ]);
+    assert!(a.output == b.output, "the two sides differ");
+    assert!(restores(&signal, &a.output), "the sides do not restore");
     assert!(
-        a.output == signal && b.output == signal,
-        "a side does not restore"
-    );
-    assert!(
-        rust.0.multi_idwt(&all()).unwrap() == signal,
-        "the Rust's driver does not restore"
+        rust.0.multi_idwt(&all()).unwrap() == a.output,
+        "the Rust's driver differs"
     );
     say(F::NAME, "five levels, inverse", Some(driver), times);
 }
@@ -304,6 +348,14 @@ const CASES: &[fn()] = &[
     five_levels::<Cdf53Integer<i8, i32>>,
     five_levels::<Cdf53Integer<i16, i32>>,
     five_levels::<Cdf53Integer<i32, i64>>,
+    one_level::<Cdf53<f32>>,
+    one_level::<Cdf53<f64>>,
+    one_level::<Cdf97<f32>>,
+    one_level::<Cdf97<f64>>,
+    five_levels::<Cdf53<f32>>,
+    five_levels::<Cdf53<f64>>,
+    five_levels::<Cdf97<f32>>,
+    five_levels::<Cdf97<f64>>,
 ];
 
 fn main() {

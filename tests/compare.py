@@ -1,7 +1,7 @@
 #!/usr/bin/env python3
 # Asks the desk and the Rust the same requests and compares. Call: tests/compare.py [--seed N] [--small | --large] SUITE
 # First tests/desk/build and tests/oracle/build. The suites are in tests/suites.py. tests/run takes --small; without it
-# a run is for people and takes half a minute; --large asks about the limits alone, in lines of many megabytes.
+# a run is for people and takes up to a minute; --large asks about the limits alone, in lines of many megabytes.
 #
 # The desk's answer must be the Rust's, and document 01's where it adds a refusal of its own, and the suite's where it
 # knows one; a request that none of them answers, or that is no call to either server, is a difference too. The shortest

@@ -76,6 +76,14 @@ static const struct row {
     {"cdf53_inverse_i8", &shape_rrm, (function)bk_cdf53_inverse_i8},
     {"cdf53_inverse_i16", &shape_rrm, (function)bk_cdf53_inverse_i16},
     {"cdf53_inverse_i32", &shape_rrm, (function)bk_cdf53_inverse_i32},
+    {"cdf53_forward_f32", &shape_rmm, (function)bk_cdf53_forward_f32},
+    {"cdf53_forward_f64", &shape_rmm, (function)bk_cdf53_forward_f64},
+    {"cdf53_inverse_f32", &shape_rrm, (function)bk_cdf53_inverse_f32},
+    {"cdf53_inverse_f64", &shape_rrm, (function)bk_cdf53_inverse_f64},
+    {"cdf97_forward_f32", &shape_rmm, (function)bk_cdf97_forward_f32},
+    {"cdf97_forward_f64", &shape_rmm, (function)bk_cdf97_forward_f64},
+    {"cdf97_inverse_f32", &shape_rrm, (function)bk_cdf97_inverse_f32},
+    {"cdf97_inverse_f64", &shape_rrm, (function)bk_cdf97_inverse_f64},
 };
 
 // ---- writing
