@@ -2,7 +2,7 @@
 use mathlib.Core.Bool.{cond}
 use mathlib.Core.List.{List, [], _∷_}
 use mathlib.Core.Logic.{⊎-elim}
-use mathlib.Core.Path.{_≡_}
+use mathlib.Core.Path.{_≡_, ap, _∙_}
 use Prim.Native.Nat.{ℕ, _+_, _*_, _/_, _%_}
 use lib.Dec.{T, eqb}
 use lib.Ieee.{Float, nan, Format, fits, mul, add}
@@ -11,13 +11,23 @@ use lib.ListN.{length, getD, List·getD-eq-default}
 use Rattle.answers.proofs.Order.{lt-or-le}
 use Rattle.samples.specs.Halves.{evenOf, oddOf, joined}
 use Rattle.samples.specs.Floats.{width, floatAt, decodeFloats, encodeFloats}
-use Rattle.samples.proofs.FloatLaws.{length-decodeFloats, at-decodeFloats, decodeFloats-is, decodeFloats-encode, floatAt-fits}
+use Rattle.samples.proofs.Words.{holds}
+use Rattle.samples.proofs.FloatLaws.{width-pos, length-decodeFloats, length-encodeFloats, at-decodeFloats, decodeFloats-is, decodeFloats-encode, floatAt-fits}
 use Rattle.floats.specs.Steps.{lift, oddAt, evenAt, odds, evens, scaled, Step, oddly, evenly, scaling, stepA, stepD, runA, runD}
+use Rattle.floats.specs.Loops.{Stored}
 
 module _ (f : Format) where
   -- the floats xs are read from their bytes
   abbrev pub Fit : List Float → Type 0
   Fit xs = decodeFloats f (encodeFloats f xs) ≡ xs
+
+  -- the bytes of n such floats
+  pub stored-encode : (n : ℕ) (xs : List Float) (s : List ℕ) → s ≡ encodeFloats f xs → length xs ≡ n → Fit xs → Stored f n s
+  stored-encode n xs s e len fit =
+      record {
+        holds = holds (width-pos f) s n (ap length e ∙ length-encodeFloats f xs ∙ ap (λ m. width f * m) len);
+        plain = rw e (ap (encodeFloats f) fit);
+      }
 
   pub lift-fits : (c l r x : Float) → T (fits f (lift f c l r x))
   unfolding lift

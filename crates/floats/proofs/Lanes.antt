@@ -22,13 +22,6 @@ module _ (f : Format) (x : List Float) where
   halves : length (evenOf nan x) + length (oddOf nan x) ≡ length x
   halves = rw (length-even nan x, length-odd nan x) (omega arith)
 
-  -- an entry by its half
-  by-even : (j : ℕ) → j < length x → j % 2 ≡ 0 → getD (evenOf nan x) (j / 2) nan ≡ getD x j nan
-  by-even j h p = let e : 2 * (j / 2) ≡ j = omega arith in at-even nan x (j / 2) (omega arith) ∙ ap (λ i. getD x i nan) e
-
-  by-odd : (j : ℕ) → j < length x → j % 2 ≡ 1 → getD (oddOf nan x) (j / 2) nan ≡ getD x j nan
-  by-odd j h p = let e : 2 * (j / 2) + 1 ≡ j = omega arith in at-odd nan x (j / 2) (omega arith) ∙ ap (λ i. getD x i nan) e
-
   -- even entry i is entry k, odd entry i is entry k
   even-is : (i k : ℕ) → k ≡ 2 * i → k < length x → getD (evenOf nan x) i nan ≡ getD x k nan
   even-is i k e h = at-even nan x i (omega arith) ∙ ap (λ j. getD x j nan) (sym e)
@@ -41,10 +34,10 @@ module _ (f : Format) (x : List Float) where
     unfolding lane laneAt runOn odds oddAt
     lane-odds =
         joined-is nan (evenOf nan x) (odds (lift f c) nan (evenOf nan x) (oddOf nan x)) (length x) _ (rw (length-tabulate) halves)
-        (λ j h p. rw (ne-eqb (j % 2) 1 (omega arith)) (sym (by-even j h p)))
+        (λ j h p. rw (ne-eqb (j % 2) 1 (omega arith)) (sym (even-is (j / 2) j (omega arith) h)))
         (λ j h p.
         rw (eq-eqb (j % 2) 1 p, getD-tabulate (length (oddOf nan x)) _ (j / 2) nan (rw (length-odd nan x) (omega arith)), length-even nan x)
-        (rw (even-is (j / 2) (leftOf j) (omega arith) (omega arith), even-is (min (j / 2 + 1) ((length x + 1) / 2 - 1)) (rightOf (length x) j) (omega arith) (omega arith), by-odd j h p)))
+        (rw (even-is (j / 2) (leftOf j) (omega arith) (omega arith), even-is (min (j / 2 + 1) ((length x + 1) / 2 - 1)) (rightOf (length x) j) (omega arith) (omega arith), odd-is (j / 2) j (omega arith) h)))
 
     pub lane-evens : lane f c 0 x ≡ runOn f (evenly c ∷ []) x
     unfolding lane laneAt runOn evens evenAt
@@ -52,15 +45,15 @@ module _ (f : Format) (x : List Float) where
         joined-is nan (evens (lift f c) nan (evenOf nan x) (oddOf nan x)) (oddOf nan x) (length x) _ (rw (length-tabulate) halves)
         (λ j h p.
         rw (eq-eqb (j % 2) 0 p, getD-tabulate (length (evenOf nan x)) _ (j / 2) nan (rw (length-even nan x) (omega arith)), length-odd nan x)
-        (rw (odd-is (j / 2 - 1) (leftOf j) (omega arith) (omega arith), odd-is (min (j / 2) (length x / 2 - 1)) (rightOf (length x) j) (omega arith) (omega arith), by-even j h p)))
-        (λ j h p. rw (ne-eqb (j % 2) 0 (omega arith)) (sym (by-odd j h p)))
+        (rw (odd-is (j / 2 - 1) (leftOf j) (omega arith) (omega arith), odd-is (min (j / 2) (length x / 2 - 1)) (rightOf (length x) j) (omega arith) (omega arith), even-is (j / 2) j (omega arith) h)))
+        (λ j h p. rw (ne-eqb (j % 2) 0 (omega arith)) (sym (odd-is (j / 2) j (omega arith) h)))
 
   pub lanes-scaled : (p q : Float) → scaledLanes f p q x ≡ runOn f (scaling p q ∷ []) x
   unfolding scaledLanes runOn scaled
   lanes-scaled p q =
       joined-is nan (scaled f p (evenOf nan x)) (scaled f q (oddOf nan x)) (length x) _ (rw (length-tabulate, length-tabulate) halves)
-      (λ j h e. rw (eq-eqb (j % 2) 0 e, getD-tabulate (length (evenOf nan x)) _ (j / 2) nan (rw (length-even nan x) (omega arith)), by-even j h e))
-      (λ j h e. rw (ne-eqb (j % 2) 0 (omega arith), getD-tabulate (length (oddOf nan x)) _ (j / 2) nan (rw (length-odd nan x) (omega arith)), by-odd j h e))
+      (λ j h e. rw (eq-eqb (j % 2) 0 e, getD-tabulate (length (evenOf nan x)) _ (j / 2) nan (rw (length-even nan x) (omega arith)), even-is (j / 2) j (omega arith) h))
+      (λ j h e. rw (ne-eqb (j % 2) 0 (omega arith), getD-tabulate (length (oddOf nan x)) _ (j / 2) nan (rw (length-odd nan x) (omega arith)), odd-is (j / 2) j (omega arith) h))
 
 -- ---- a turn of each loop
 

@@ -2,10 +2,10 @@
 -- Assumes nothing.
 use mathlib.Core.Bool.{Bool, true, false}
 use mathlib.Core.List.{List}
-use mathlib.Core.Path.{_≡_, sym, ap, _∙_}
-use Prim.Native.Nat.{ℕ, _*_, _/_, _≤_}
+use mathlib.Core.Path.{_≡_, sym, _∙_}
+use Prim.Native.Nat.{ℕ, _/_, _≤_}
 use native.Mathlib.Omega.{arith}
-use lib.Ieee.{Float, nan, Format}
+use lib.Ieee.{nan, Format}
 use lib.ListN.{length}
 use Rattle.answers.specs.declared.err.Answer.{Answer}
 use Rattle.answers.specs.declared.err.Refusal.{Refusal}
@@ -19,12 +19,12 @@ use Rattle.samples.specs.Halves.{evenOf, oddOf, joined}
 use Rattle.samples.specs.Floats.{width, decodeFloats, encodeFloats}
 use Rattle.samples.proofs.Words.{holds}
 use Rattle.samples.proofs.Halves.{length-even, length-odd, length-joined, even-joined, odd-joined}
-use Rattle.samples.proofs.FloatLaws.{width-pos, length-decodeFloats, length-encodeFloats}
+use Rattle.samples.proofs.FloatLaws.{width-pos, length-decodeFloats}
 use Rattle.floats.specs.Filters.{stepsOf, backOf}
 use Rattle.floats.specs.Bands.{approxs, details, restored, low, high, back}
-use Rattle.floats.specs.Loops.{Lent, Stored, Bands, Ran}
+use Rattle.floats.specs.Loops.{Lent, Bands, Ran}
 use Rattle.floats.specs.Lanes.{runOn, Lanes, RanOn}
-use Rattle.floats.proofs.Fits.{Fit, fit-decode, fit-even, fit-odd, fit-joined}
+use Rattle.floats.proofs.Fits.{Fit, stored-encode, fit-decode, fit-even, fit-odd, fit-joined}
 
 -- what the checks leave is what the steps ask
 pub ready : (w : Wavelet) (f : Format) {x a d : List ℕ} → Level w (width f) (length x / width f) (length x) (length a) (length d) → Lent f x a d
@@ -40,33 +40,23 @@ ready w f {x} {a} {d} l =
     three Cdf53 h = h
     three Cdf97 h = omega arith
 
-module _ (f : Format) where
-  -- bytes of n floats that are read again
-  pub stored-encode : (n : ℕ) (xs : List Float) (s : List ℕ) → s ≡ encodeFloats f xs → length xs ≡ n → Fit f xs → Stored f n s
-  stored-encode n xs s e len fit =
-      record {
-        holds = holds (width-pos f) s n (ap length e ∙ length-encodeFloats f xs ∙ ap (λ m. width f * m) len);
-        plain = rw e (ap (encodeFloats f) fit);
-      }
+module _ (f : Format) (x : List ℕ) {a d : List ℕ} (ea : a ≡ encodeFloats f (evenOf nan (decodeFloats f x))) (ed : d ≡ encodeFloats f (oddOf nan (decodeFloats f x))) where
+  -- the evens and the odds of three samples or more are bands
+  pub split-bands : 3 ≤ length x / width f → Bands f a d
+  split-bands long =
+      let sa = stored-encode f (ups (length x / width f)) _ a ea (length-even nan _ ∙ rw (length-decodeFloats f x)) (fit-even f x) in
+      let sd = stored-encode f (downs (length x / width f)) _ d ed (length-odd nan _ ∙ rw (length-decodeFloats f x)) (fit-odd f x) in
+      let na = sa .holds .count in
+      let nd = sd .holds .count in
+      record { approx = rw na sa; details = rw nd sd; some = omega arith; fewer = omega arith; near = omega arith }
 
-  module _ (x : List ℕ) where
-    module _ {a d : List ℕ} (ea : a ≡ encodeFloats f (evenOf nan (decodeFloats f x))) (ed : d ≡ encodeFloats f (oddOf nan (decodeFloats f x))) where
-      -- the evens and the odds of three samples or more are bands
-      pub split-bands : 3 ≤ length x / width f → Bands f a d
-      split-bands long =
-          let sa = stored-encode (ups (length x / width f)) _ a ea (length-even nan _ ∙ rw (length-decodeFloats f x)) (fit-even f x) in
-          let sd = stored-encode (downs (length x / width f)) _ d ed (length-odd nan _ ∙ rw (length-decodeFloats f x)) (fit-odd f x) in
-          let na = sa .holds .count in
-          let nd = sd .holds .count in
-          record { approx = rw na sa; details = rw nd sd; some = omega arith; fewer = omega arith; near = omega arith }
-
-      -- and the schedule makes the level of them
-      pub run-level : (w : Wavelet) {a′ d′ : List ℕ} → Ran f (stepsOf f w) a d a′ d′ → (a′ ≡ low f w x) × (d′ ≡ high f w x)
-      unfolding low high approxs details
-      run-level w r =
-          let xa : decodeFloats f a ≡ evenOf nan (decodeFloats f x) = rw ea (fit-even f x) in
-          let xd : decodeFloats f d ≡ oddOf nan (decodeFloats f x) = rw ed (fit-odd f x) in
-          (r .approx ∙ rw (xa, xd), r .details ∙ rw (xa, xd))
+  -- and the schedule makes the level of them
+  pub run-level : (w : Wavelet) {a′ d′ : List ℕ} → Ran f (stepsOf f w) a d a′ d′ → (a′ ≡ low f w x) × (d′ ≡ high f w x)
+  unfolding low high approxs details
+  run-level w r =
+      let xa : decodeFloats f a ≡ evenOf nan (decodeFloats f x) = rw ea (fit-even f x) in
+      let xd : decodeFloats f d ≡ oddOf nan (decodeFloats f x) = rw ed (fit-odd f x) in
+      (r .approx ∙ rw (xa, xd), r .details ∙ rw (xa, xd))
 
 -- the two ends of a forward call. s is what the checks said, r its numbers, and b whether it is done
 module _ (w : Wavelet) (f : Format) (x a d : List ℕ) {s : Refusal} {r : Answer} {b : Bool} (es : s ≡ sayForward w (width f) (length x) (length a) (length d)) (er : r ≡ answerOf s) (eb : b ≡ done s) where

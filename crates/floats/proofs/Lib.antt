@@ -6,3 +6,4 @@ pub mod Splits
 pub mod Levels
 pub mod Lanes
 pub mod RunsOn
+pub mod Figures

@@ -1,18 +1,17 @@
 -- Schedules on two bands, once over the format: lengths stay, one step more, and what a whole schedule leaves. Assumes nothing.
 use mathlib.Core.List.{List, [], _∷_, _++_, map}
-use mathlib.Core.Path.{_≡_, refl, sym, ap, _∙_}
-use Prim.Native.Nat.{ℕ, _+_, _*_, _/_, _≤_, _<_}
+use mathlib.Core.Path.{_≡_, refl, sym, _∙_}
+use Prim.Native.Nat.{ℕ, _+_, _/_, _≤_, _<_}
 use native.Mathlib.Numerals.{add-one}
 use lib.Ieee.{Float, nan, Format}
 use lib.ListN.{length, getD, take, length-map, List·getD-map}
 use lib.Seq.{take-suc, take-all}
-use Rattle.samples.specs.Words.{Holds}
 use Rattle.samples.specs.Floats.{width, decodeFloats, encodeFloats}
-use Rattle.samples.proofs.Words.{length-tabulate, holds, holds-on}
-use Rattle.samples.proofs.FloatLaws.{length-decodeFloats, length-encodeFloats}
+use Rattle.samples.proofs.Words.{length-tabulate, holds}
+use Rattle.samples.proofs.FloatLaws.{length-decodeFloats}
 use Rattle.floats.specs.Steps.{lift, odds, evens, scaled, Step, oddly, evenly, scaling, stepA, stepD, runA, runD}
 use Rattle.floats.specs.Loops.{Stored, Bands, Ran}
-use Rattle.floats.proofs.Fits.{Fit, fit-decode, fit-runA, fit-runD}
+use Rattle.floats.proofs.Fits.{stored-encode, fit-decode, fit-runA, fit-runD}
 
 module _ (f : Format) where
   length-stepA : (s : Step) (a d : List Float) → length (stepA f s a d) ≡ length a
@@ -44,12 +43,6 @@ module _ (f : Format) where
   runD-append [] ts a d = refl
   runD-append (s ∷ ss) ts a d = runD-append ss ts (stepA f s a d) (stepD f s a d)
 
-  -- the bytes of floats that are as many as s has, and that are read again, are stored
-  pub stored : (s : List ℕ) (xs : List Float) → Holds (width f) (length s / width f) s → length xs ≡ length (decodeFloats f s) → Fit f xs → (t : List ℕ) → t ≡ encodeFloats f xs → Stored f (length t / width f) t × (length t ≡ length s)
-  stored s xs h len fit t e =
-      let same : length t ≡ length s = ap length e ∙ length-encodeFloats f xs ∙ ap (λ n. width f * n) (len ∙ length-decodeFloats f s) ∙ sym (h .size) in
-      (record { holds = rw same (holds-on t h same); plain = rw e (ap (encodeFloats f) fit) }, same)
-
 module _ {f : Format} {a d : List ℕ} (b : Bands f a d) where
   pub ran-none : Ran f [] a d a d
   ran-none = record { approx = sym (b .approx .plain); details = sym (b .details .plain) }
@@ -62,28 +55,24 @@ module _ {f : Format} {a d : List ℕ} (b : Bands f a d) where
   ran-evens e = record { approx = e; details = sym (b .details .plain) }
 
   module _ {ss : List Step} {a′ d′ : List ℕ} (r : Ran f ss a d a′ d′) where
-    -- a schedule leaves bands of the same lengths
-    storedA : Stored f (length a′ / width f) a′ × (length a′ ≡ length a)
-    storedA = stored f a (runA f ss (decodeFloats f a) (decodeFloats f d)) (b .approx .holds) (length-runA f ss _ _) (fit-runA f ss _ _ (fit-decode f a) (fit-decode f d)) a′ (r .approx)
+    -- a schedule leaves as many floats
+    storedA : Stored f (length a / width f) a′
+    storedA = stored-encode f _ (runA f ss (decodeFloats f a) (decodeFloats f d)) a′ (r .approx) (length-runA f ss _ _ ∙ length-decodeFloats f a) (fit-runA f ss _ _ (fit-decode f a) (fit-decode f d))
 
-    storedD : Stored f (length d′ / width f) d′ × (length d′ ≡ length d)
-    storedD = stored f d (runD f ss (decodeFloats f a) (decodeFloats f d)) (b .details .holds) (length-runD f ss _ _) (fit-runD f ss _ _ (fit-decode f a) (fit-decode f d)) d′ (r .details)
+    storedD : Stored f (length d / width f) d′
+    storedD = stored-encode f _ (runD f ss (decodeFloats f a) (decodeFloats f d)) d′ (r .details) (length-runD f ss _ _ ∙ length-decodeFloats f d) (fit-runD f ss _ _ (fit-decode f a) (fit-decode f d))
 
     pub ran-bands : Bands f a′ d′
     ran-bands =
-        record {
-          approx = storedA .0;
-          details = storedD .0;
-          some = rw (storedD .1) (b .some);
-          fewer = rw (storedA .1, storedD .1) (b .fewer);
-          near = rw (storedA .1, storedD .1) (b .near);
-        }
+        let na = storedA .holds .count in
+        let nd = storedD .holds .count in
+        record { approx = rw na storedA; details = rw nd storedD; some = rw nd (b .some); fewer = rw (na, nd) (b .fewer); near = rw (na, nd) (b .near) }
 
     pub ran-lengthA : length a′ ≡ length a
-    ran-lengthA = storedA .1
+    ran-lengthA = storedA .holds .size ∙ sym (b .approx .holds .size)
 
     pub ran-lengthD : length d′ ≡ length d
-    ran-lengthD = storedD .1
+    ran-lengthD = storedD .holds .size ∙ sym (b .details .holds .size)
 
 -- the steps ss, and then the steps ts
 ran-then : {f : Format} (ss ts : List Step) {a d a₁ d₁ a₂ d₂ : List ℕ} → Ran f ss a d a₁ d₁ → Ran f ts a₁ d₁ a₂ d₂ → Ran f (ss ++ ts) a d a₂ d₂

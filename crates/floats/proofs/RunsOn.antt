@@ -7,14 +7,15 @@ use lib.Ieee.{Float, nan, Format}
 use lib.ListN.{length, getD, take, length-map}
 use lib.Seq.{take-all}
 use Rattle.samples.specs.Halves.{evenOf, oddOf}
-use Rattle.samples.specs.Floats.{decodeFloats, encodeFloats}
+use Rattle.samples.specs.Floats.{width, decodeFloats, encodeFloats}
 use Rattle.samples.proofs.Halves.{length-even, length-odd, length-joined, joined-halves, even-joined, odd-joined}
 use Rattle.samples.proofs.FloatLaws.{length-decodeFloats}
 use Rattle.floats.specs.Steps.{Step, oddly, evenly, scaling, runA, runD}
+use Rattle.floats.specs.Loops.{Stored}
 use Rattle.floats.specs.Lanes.{lane, scaledLanes, runOn, Lanes, RanOn}
-use Rattle.floats.proofs.Fits.{Fit, fit-even, fit-odd, fit-joined, fit-runA, fit-runD}
+use Rattle.floats.proofs.Fits.{Fit, stored-encode, fit-even, fit-odd, fit-joined, fit-runA, fit-runD}
 use Rattle.floats.proofs.Lanes.{lane-odds, lane-evens, lanes-scaled}
-use Rattle.floats.proofs.Runs.{length-runA, length-runD, runA-append, runD-append, stored, front-step}
+use Rattle.floats.proofs.Runs.{length-runA, length-runD, runA-append, runD-append, front-step}
 
 module _ (f : Format) where
   length-runOn : (ss : List Step) (x : List Float) → length (runOn f ss x) ≡ length x
@@ -57,17 +58,17 @@ module _ {f : Format} {x : List ℕ} (l : Lanes f x) where
   ranOn-scaled {p} {q} e = record { output = e ∙ ap (encodeFloats f) (lanes-scaled f (decodeFloats f x) p q) }
 
   module _ {ss : List Step} {x′ : List ℕ} (r : RanOn f ss x x′) where
-    -- a schedule leaves a list of the same length
+    -- a schedule leaves as many floats
+    storedOn : Stored f (length x / width f) x′
+    storedOn = stored-encode f _ (runOn f ss (decodeFloats f x)) x′ (r .output) (length-runOn f ss _ ∙ length-decodeFloats f x) (fit-runOn f ss x)
+
     pub ranOn-length : length x′ ≡ length x
-    ranOn-length = stored f x (runOn f ss (decodeFloats f x)) (l .stored .holds) (length-runOn f ss _) (fit-runOn f ss x) x′ (r .output) .1
+    ranOn-length = storedOn .holds .size ∙ sym (l .stored .holds .size)
 
     pub ranOn-lanes : Lanes f x′
-    ranOn-lanes =
-        record {
-          stored = stored f x (runOn f ss (decodeFloats f x)) (l .stored .holds) (length-runOn f ss _) (fit-runOn f ss x) x′ (r .output) .0;
-          long = rw ranOn-length (l .long);
-        }
+    ranOn-lanes = let n = storedOn .holds .count in record { stored = rw n storedOn; long = rw n (l .long) }
 
+-- the steps ss, and then the steps ts
 ranOn-then : {f : Format} (ss ts : List Step) {x x₁ x₂ : List ℕ} → RanOn f ss x x₁ → RanOn f ts x₁ x₂ → RanOn f (ss ++ ts) x x₂
 ranOn-then {f} ss ts {x} {x₁} r q =
     let e : decodeFloats f x₁ ≡ runOn f ss (decodeFloats f x) = rw (r .output) (fit-runOn f ss x) in

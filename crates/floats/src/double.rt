@@ -1,4 +1,4 @@
-// The steps at f64, on two bands. single.rt has the same at f32.
+// The steps at f64: on two bands, as the forward call runs them, and on both bands in one list, as the inverse does. single.rt has the same at f32.
 ghost use mathlib.Core.Path.{_≡_};
 ghost use mathlib.Core.Bool.{cond};
 ghost use mathlib.Core.List.{[], _∷_, map};

@@ -1,4 +1,4 @@
-// The steps at f32, on two bands. double.rt has the same at f64.
+// The steps at f32: on two bands, as the forward call runs them, and on both bands in one list, as the inverse does. double.rt has the same at f64.
 ghost use mathlib.Core.Path.{_≡_};
 ghost use mathlib.Core.Bool.{cond};
 ghost use mathlib.Core.List.{[], _∷_, map};
