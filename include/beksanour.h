@@ -139,6 +139,41 @@ bk_answer bk_cdf97_inverse_f32(const uint8_t *approx, size_t approx_bytes, const
 bk_answer bk_cdf97_inverse_f64(const uint8_t *approx, size_t approx_bytes, const uint8_t *details, size_t details_bytes,
                                uint8_t *output, size_t output_bytes);
 
+/*
+ * Many levels of the samples in `signal`: the next level's input is this level's approximations. Into `output`, as many samples
+ * as there are in `signal`: the deepest approximations, then the details, deepest first. 0 levels means 1. `work1` and `work2`
+ * are room; what their first n samples hold after a done call is not said, and what is beyond them is as it was.
+ *
+ * Refused, in this order:
+ *   9 (0, length)   a slice's byte length is no multiple of the width: the first of signal, output, work1, work2
+ *   6               over 16,777,216 samples
+ *   1 (n, 3)        integers, 0 or 1 levels: fewer than 3 samples
+ *   4               else: fewer levels in the recording than asked
+ *   3 (got, n)      output does not hold n samples
+ *   7 (have, n)     work1 holds fewer than n samples, then work2
+ */
+bk_answer bk_cdf53_multi_dwt_i8(const uint8_t *signal, size_t signal_bytes, uint32_t levels, uint8_t *output,
+                                size_t output_bytes, uint8_t *work1, size_t work1_bytes, uint8_t *work2,
+                                size_t work2_bytes);
+bk_answer bk_cdf53_multi_dwt_i16(const uint8_t *signal, size_t signal_bytes, uint32_t levels, uint8_t *output,
+                                 size_t output_bytes, uint8_t *work1, size_t work1_bytes, uint8_t *work2,
+                                 size_t work2_bytes);
+bk_answer bk_cdf53_multi_dwt_i32(const uint8_t *signal, size_t signal_bytes, uint32_t levels, uint8_t *output,
+                                 size_t output_bytes, uint8_t *work1, size_t work1_bytes, uint8_t *work2,
+                                 size_t work2_bytes);
+bk_answer bk_cdf53_multi_dwt_f32(const uint8_t *signal, size_t signal_bytes, uint32_t levels, uint8_t *output,
+                                 size_t output_bytes, uint8_t *work1, size_t work1_bytes, uint8_t *work2,
+                                 size_t work2_bytes);
+bk_answer bk_cdf53_multi_dwt_f64(const uint8_t *signal, size_t signal_bytes, uint32_t levels, uint8_t *output,
+                                 size_t output_bytes, uint8_t *work1, size_t work1_bytes, uint8_t *work2,
+                                 size_t work2_bytes);
+bk_answer bk_cdf97_multi_dwt_f32(const uint8_t *signal, size_t signal_bytes, uint32_t levels, uint8_t *output,
+                                 size_t output_bytes, uint8_t *work1, size_t work1_bytes, uint8_t *work2,
+                                 size_t work2_bytes);
+bk_answer bk_cdf97_multi_dwt_f64(const uint8_t *signal, size_t signal_bytes, uint32_t levels, uint8_t *output,
+                                 size_t output_bytes, uint8_t *work1, size_t work1_bytes, uint8_t *work2,
+                                 size_t work2_bytes);
+
 #ifdef __cplusplus
 }
 #endif

@@ -6,6 +6,7 @@
 # The desk's answer must be the Rust's, and document 01's where it adds a refusal of its own, and the suite's where it
 # knows one; a request that none of them answers, or that is no call to either server, is a difference too. The shortest
 # request that differs is kept in target/tests/differs.txt, a table for tests/ask.py.
+# What a call must leave alone of lent slices is looked at too.
 import argparse
 import os
 import random
@@ -17,20 +18,41 @@ from ask import agree
 from suites import LIMIT, SUITES, WIDTHS
 
 NO_ANSWER = "no answer"
-# For each verb: how many slices, from the first, have a limit, and which is the first lent one.
-SLICES = {"forward": (1, 1), "inverse": (3, 2)}
+# For each verb: how many slices, from the first, have a limit; how many, at the end, are lent; how many of those are
+# work areas, which the Rust does not have.
+SLICES = {"forward": (1, 2, 0), "inverse": (3, 1, 0), "multi_dwt": (1, 3, 2)}
 
 
-# What document 01 adds to the Rust: 9 for a byte length, then 6 for a length above its limit; else None.
-def additions(request):
+def taken_apart(request):
     name, *words = request.split(" ")
-    if name.endswith("_depth"):
-        return "6 0 0" if int(words[0]) > LIMIT else None
     verb, kind = name.split("_", 1)[1].rsplit("_", 1)
-    width, lengths, (limited, lent) = WIDTHS[kind], [len(word) // 2 for word in words], SLICES[verb]
+    return verb, WIDTHS[kind], [word for word in words if word.startswith("x")]
+
+
+# What document 01 adds to the Rust: 9 for a byte length, 6 for a length above its limit, and where the Rust has nothing
+# else to say 7 for a work area; else None.
+def additions(request, rust):
+    if "_depth " in request:
+        return "6 0 0" if int(request.split(" ")[1]) > LIMIT else None
+    verb, width, slices = taken_apart(request)
+    lengths, (limited, lent, works) = [len(word) // 2 for word in slices], SLICES[verb]
     refusals = [f"9 0 {length}" for length in lengths if length % width]
     refusals += ["6 0 0" for length in lengths[:limited] if length > LIMIT * width]
-    return " ".join([refusals[0], *words[lent:]]) if refusals else None
+    if works and rust == "-":
+        refusals += [f"7 {length // width} {lengths[0] // width}" for length in lengths[-works:] if length < lengths[0]]
+    return " ".join([refusals[0], *slices[-lent:]]) if refusals else None
+
+
+# Whether the desk left alone what it must: after a refusal every lent slice, else work areas beyond the signal's length.
+def spared(request, said):
+    if "_depth " in request:
+        return True
+    verb, _, slices = taken_apart(request)
+    _, lent, works = SLICES[verb]
+    before, after = slices[-lent:], said.split(" ")[3:]
+    if not said.startswith("0 "):
+        return before == after
+    return all(was[len(slices[0]):] == now[len(slices[0]):] for was, now in zip(before[lent - works:], after[lent - works:]))
 
 
 class Server:
@@ -64,7 +86,7 @@ class Tally:
         self.first, self.shortest = [], None
 
     def count(self, request, said, rust, wanted):
-        own = additions(request)
+        own = additions(request, rust)
         known = {"the Rust": None if rust == "-" else rust, "document 01": own, "the way back": wanted}
         known = {who: answer for who, answer in known.items() if answer is not None}
         self.requests += 1
@@ -73,7 +95,9 @@ class Tally:
         for who, answer in known.items() or [("nobody", "an answer")]:
             if not (said[0].isdigit() and agree(answer, said)):
                 self.differ(request, said, who, answer)
-                break
+                return
+        if not spared(request, said):
+            self.differ(request, said, "document 01", "the same bytes in what is not written")
 
     def differ(self, request, said, who, answer):
         self.differences += 1

@@ -279,6 +279,42 @@ def floats(random, size):
         yield from there_and_back(random, verb, boundaries(random, FLOATS, FLOAT_LENGTHS, rounds))
 
 
+# multi_dwt of all filters.
+def multi(random, size):
+    if size == "large":
+        # a recording of the limit in the narrowest samples, as deep as it goes, and one that is longer
+        for n, levels in (LIMIT, 23), (LIMIT + 1, 1):
+            yield from one_by_one([multi_call(random, INTEGERS[0], random.randbytes(n), levels)])
+        return
+    rounds = {"small": 1, "full": 12}[size]
+    yield [("cdf53_multi_dwt_i8 x0003fc0107 2 x0000000000 x0000000000 x0000000000", "0 0 0 xff03f80500 - -")]  # P5
+    yield from plain(levels_of_lengths(random, rounds))
+    yield from plain(wrong_rooms(random, 3000 * rounds))
+
+
+# Lent slices are longer by so many bytes: the output, and the work areas, which start longer than they need be.
+def multi_call(random, filter, data, levels, longer=(0, 8, 16)):
+    lent = [random.randbytes(max(0, len(data) + more)) for more in longer]
+    return f"{filter.wavelet}_multi_dwt_{filter.kind} {words([data])} {levels} {words(lent)}"
+
+
+# Lengths around every boundary of depth, with levels to 8 and beyond any depth.
+def levels_of_lengths(random, rounds):
+    for _, filter, n in product(range(rounds), INTEGERS + FLOATS, FLOAT_LENGTHS):
+        for levels in *range(9), n.bit_length(), 23, 24, 2**32 - 1:
+            data = random.choice(list(drawn(random, filter.kind, min(n, 70)))) if n <= 70 else any_bits(random, filter.kind, n)
+            yield multi_call(random, filter, data, levels)
+
+
+# Slices of wrong lengths by samples and by bytes, and work areas that are exactly full or one short.
+def wrong_rooms(random, count):
+    for _ in range(count):
+        filter, n = random.choice(INTEGERS + FLOATS), random.choice([0, 1, 2, 3, 4, 5, 8, 9, 33])
+        data = random.randbytes(n * filter.width + random.choice([0, 0, 0, 1]))
+        steps = [0, 0, 0, -filter.width, filter.width, 1, -1]
+        yield multi_call(random, filter, data, random.randrange(5), random.choices(steps, k=3))
+
+
 # A call, then the other on what the desk answered, which must give back what document 01 says.
 def there_and_back(random, verb, inputs):
     for chunk in chunks(inputs, lambda item: len(item[1]) + 40):
@@ -398,4 +434,5 @@ SUITES = {
     "depth": depth,
     "integer": integer,
     "floats": floats,
+    "multi": multi,
 }

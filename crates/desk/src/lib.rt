@@ -6,9 +6,12 @@ ghost use Rattle.sizes.specs.Levels.{sayDepth};
 ghost use Rattle.cdf53i.specs.Bands.{low, high, back};
 ghost use Rattle.floats.specs.Bands as bands;
 ghost use lib.Ieee.{binary32, binary64};
+ghost use Rattle.dwt.specs.Calls.{Multi};
 use answers::err::Answer;
 use cdf53i::cdf53i::execute_forward;
 use cdf53i::cdf53i::execute_inverse;
+use dwt::filter::Filter;
+use dwt::levels::multi_dwt;
 use floats::cdf53f;
 use floats::cdf97f;
 use sizes::Wavelet;
@@ -148,4 +151,144 @@ pub extern "C" fn bk_cdf97_inverse_f64(approx: &[u8], details: &[u8], output: &m
     ensures { λ r. ⌜ Inverse Wavelet.Cdf97 8 (bands.back binary64 Wavelet.Cdf97) (now (approx .entry)) (now (details .entry)) (now (output .entry)) r (now (output .exit)) ⌝ }
 {
     cdf97f::execute_inverse_f64(approx, details, output)
+}
+
+#[no_mangle]
+pub extern "C" fn bk_cdf53_multi_dwt_i8(
+    signal: &[u8],
+    levels: u32,
+    output: &mut [u8],
+    work1: &mut [u8],
+    work2: &mut [u8],
+) -> Answer
+    ensures { λ r. ⌜ Multi Filter.Cdf53I8 levels (now (signal .entry)) (now (output .entry)) (now (work1 .entry)) (now (work2 .entry)) r (now (output .exit)) (now (work1 .exit)) (now (work2 .exit)) ⌝ }
+{
+    multi_dwt(
+        Filter::Cdf53I8,
+        levels as usize,
+        signal,
+        output,
+        work1,
+        work2,
+    )
+}
+
+#[no_mangle]
+pub extern "C" fn bk_cdf53_multi_dwt_i16(
+    signal: &[u8],
+    levels: u32,
+    output: &mut [u8],
+    work1: &mut [u8],
+    work2: &mut [u8],
+) -> Answer
+    ensures { λ r. ⌜ Multi Filter.Cdf53I16 levels (now (signal .entry)) (now (output .entry)) (now (work1 .entry)) (now (work2 .entry)) r (now (output .exit)) (now (work1 .exit)) (now (work2 .exit)) ⌝ }
+{
+    multi_dwt(
+        Filter::Cdf53I16,
+        levels as usize,
+        signal,
+        output,
+        work1,
+        work2,
+    )
+}
+
+#[no_mangle]
+pub extern "C" fn bk_cdf53_multi_dwt_i32(
+    signal: &[u8],
+    levels: u32,
+    output: &mut [u8],
+    work1: &mut [u8],
+    work2: &mut [u8],
+) -> Answer
+    ensures { λ r. ⌜ Multi Filter.Cdf53I32 levels (now (signal .entry)) (now (output .entry)) (now (work1 .entry)) (now (work2 .entry)) r (now (output .exit)) (now (work1 .exit)) (now (work2 .exit)) ⌝ }
+{
+    multi_dwt(
+        Filter::Cdf53I32,
+        levels as usize,
+        signal,
+        output,
+        work1,
+        work2,
+    )
+}
+
+#[no_mangle]
+pub extern "C" fn bk_cdf53_multi_dwt_f32(
+    signal: &[u8],
+    levels: u32,
+    output: &mut [u8],
+    work1: &mut [u8],
+    work2: &mut [u8],
+) -> Answer
+    ensures { λ r. ⌜ Multi Filter.Cdf53F32 levels (now (signal .entry)) (now (output .entry)) (now (work1 .entry)) (now (work2 .entry)) r (now (output .exit)) (now (work1 .exit)) (now (work2 .exit)) ⌝ }
+{
+    multi_dwt(
+        Filter::Cdf53F32,
+        levels as usize,
+        signal,
+        output,
+        work1,
+        work2,
+    )
+}
+
+#[no_mangle]
+pub extern "C" fn bk_cdf53_multi_dwt_f64(
+    signal: &[u8],
+    levels: u32,
+    output: &mut [u8],
+    work1: &mut [u8],
+    work2: &mut [u8],
+) -> Answer
+    ensures { λ r. ⌜ Multi Filter.Cdf53F64 levels (now (signal .entry)) (now (output .entry)) (now (work1 .entry)) (now (work2 .entry)) r (now (output .exit)) (now (work1 .exit)) (now (work2 .exit)) ⌝ }
+{
+    multi_dwt(
+        Filter::Cdf53F64,
+        levels as usize,
+        signal,
+        output,
+        work1,
+        work2,
+    )
+}
+
+#[no_mangle]
+pub extern "C" fn bk_cdf97_multi_dwt_f32(
+    signal: &[u8],
+    levels: u32,
+    output: &mut [u8],
+    work1: &mut [u8],
+    work2: &mut [u8],
+) -> Answer
+    ensures { λ r. ⌜ Multi Filter.Cdf97F32 levels (now (signal .entry)) (now (output .entry)) (now (work1 .entry)) (now (work2 .entry)) r (now (output .exit)) (now (work1 .exit)) (now (work2 .exit)) ⌝ }
+{
+    multi_dwt(
+        Filter::Cdf97F32,
+        levels as usize,
+        signal,
+        output,
+        work1,
+        work2,
+    )
+}
+
+#[no_mangle]
+pub extern "C" fn bk_cdf97_multi_dwt_f64(
+    signal: &[u8],
+    levels: u32,
+    output: &mut [u8],
+    work1: &mut [u8],
+    work2: &mut [u8],
+) -> Answer
+    ensures { λ r. ⌜ Multi Filter.Cdf97F64 levels (now (signal .entry)) (now (output .entry)) (now (work1 .entry)) (now (work2 .entry)) r (now (output .exit)) (now (work1 .exit)) (now (work2 .exit)) ⌝ }
+{
+    multi_dwt(
+        Filter::Cdf97F64,
+        levels as usize,
+        signal,
+        output,
+        work1,
+        work2,
+    )
 }

@@ -1,17 +1,21 @@
 -- One level forward and back: what a done call has passed, the two ends of each call, and that two results which a statement allows are equal.
 -- Assumes nothing, and looks into no filter.
-use mathlib.Core.Bool.{true, false}
+use mathlib.Core.Bool.{true, false, not}
 use mathlib.Core.List.{List, _∷_}
 use mathlib.Core.Path.{_≡_, refl, sym, ap, _∙_}
-use Prim.Native.Nat.{ℕ, _+_, _*_, _/_, _≤_}
+use Prim.Native.Nat.{ℕ, _+_, _*_, _/_, _%_, _≤_, _<_}
+use native.Mathlib.Nat.{mul-mod-right, mul-div-right}
 use native.Mathlib.Omega.{arith}
+use borrow.Author.Tests.{le-ltb}
+use lib.Dec.{eqb}
 use lib.ListN.{length}
 use Rattle.answers.specs.declared.err.Answer.{Answer}
 use Rattle.answers.specs.declared.err.Refusal.{Refusal}
 use Rattle.answers.specs.declared.err.Refusal.the-variants.{Done}
 use Rattle.answers.specs.Answers.{answerOf, done}
 use Rattle.answers.specs.Checks.{ragged}
-use Rattle.answers.proofs.Passed.{passing, whole, roomy, right}
+use Rattle.answers.proofs.Passed.{passing, through, whole, roomy, right}
+use Rattle.answers.proofs.Chain.{same}
 use Rattle.answers.proofs.Endings.{left-done, left-refused}
 use Rattle.sizes.specs.declared.Wavelet.{Wavelet}
 use Rattle.sizes.specs.declared.Wavelet.the-variants.{Cdf53, Cdf97}
@@ -52,6 +56,59 @@ inverse-ready w k a d o h =
       details = whole k d (p .1 .0) ∙ ap (λ n. k * n) (e .2);
     }
 
+-- and a call on lengths that fit is done
+whole-passes : (k n b : ℕ) → b ≡ k * n → not (eqb (b % k) 0) ≡ false
+whole-passes k n b e = same (b % k) 0 (rw e (mul-mod-right k n))
+
+count-is : (k n b : ℕ) → 0 < k → b ≡ k * n → b / k ≡ n
+count-is k n b p e = rw e (mul-div-right n p)
+
+pub forward-fits : (w : Wavelet) (k n x a d : ℕ) → 0 < k → Level w k n x a d → done (sayForward w k x a d) ≡ true
+unfolding sayForward
+forward-fits w k n x a d p l =
+    ap done
+    (through (ragged k x ∷ ragged k a ∷ ragged k d ∷ forwardChecks w (x / k) (a / k) (d / k)) (Done 0 0)
+    (rw (count-is k n x p (l .samples), count-is k (ups n) a p (l .approx), count-is k (downs n) d p (l .details)) (
+      whole-passes k n x (l .samples),
+      (
+        whole-passes k (ups n) a (l .approx),
+        (
+          whole-passes k (downs n) d (l .details),
+          (le-ltb mostSamples n (l .short), (le-ltb n (smallestOf w) (l .long), (same (ups n) (ups n) refl, (same (downs n) (downs n) refl, tt)))),
+        ),
+      ),
+    )))
+
+expects : (w : Wavelet) (n : ℕ) → smallestOf w ≤ n → (n ≡ ups n + downs n) × (ups n ≡ expectedApprox n) × (downs n ≡ expectedDetails w n)
+expects Cdf53 n h = (omega arith, omega arith, omega arith)
+expects Cdf97 n h = (omega arith, omega arith, omega arith)
+
+pub inverse-fits : (w : Wavelet) (k n x a d : ℕ) → 0 < k → Level w k n x a d → done (sayInverse w k a d x) ≡ true
+unfolding sayInverse
+inverse-fits w k n x a d p l =
+    let e = expects w n (l .long) in
+    ap done
+    (through (ragged k a ∷ ragged k d ∷ ragged k x ∷ inverseChecks w (a / k) (d / k) (x / k)) (Done 0 0)
+    (rw (count-is k n x p (l .samples), count-is k (ups n) a p (l .approx), count-is k (downs n) d p (l .details)) (
+      whole-passes k (ups n) a (l .approx),
+      (
+        whole-passes k (downs n) d (l .details),
+        (
+          whole-passes k n x (l .samples),
+          (
+            le-ltb mostSamples (ups n) (omega (arith, l .short)),
+            (
+              le-ltb mostSamples (downs n) (omega (arith, l .short)),
+              (
+                le-ltb mostSamples n (l .short),
+                (same n (ups n + downs n) (e .0), (same (ups n) (expectedApprox n) (e .1), (same (downs n) (expectedDetails w n) (e .2), tt))),
+              ),
+            ),
+          ),
+        ),
+      ),
+    )))
+
 module _ (w : Wavelet) (k : ℕ) (low high : List ℕ → List ℕ) (x a d : List ℕ) where
   abbrev said : Refusal
   said = sayForward w k (length x) (length a) (length d)
@@ -67,6 +124,12 @@ module _ (w : Wavelet) (k : ℕ) (low high : List ℕ → List ℕ) (x a d : Lis
       let t : done said ≡ false = rw es at z in
       record { answer = er ∙ ap answerOf es; approx = sym (left-refused said (low x) a t); details = sym (left-refused said (high x) d t) }
 
+  -- what a call on lengths that fit leaves
+  pub forward-ran : (n : ℕ) (r : Answer) (a′ d′ : List ℕ) → 0 < k → Level w k n (length x) (length a) (length d) → Forward w k low high x a d r a′ d′ → (a′ ≡ low x) × (d′ ≡ high x)
+  forward-ran n r a′ d′ p l h =
+      let t = forward-fits w k n (length x) (length a) (length d) p l in
+      (h .approx ∙ left-done said (low x) a t, h .details ∙ left-done said (high x) d t)
+
   -- two results that the statement allows are equal
   pub forward-decides : (r s : Answer) (a₁ d₁ a₂ d₂ : List ℕ) → Forward w k low high x a d r a₁ d₁ → Forward w k low high x a d s a₂ d₂ → (r ≡ s) × (a₁ ≡ a₂) × (d₁ ≡ d₂)
   forward-decides r s a₁ d₁ a₂ d₂ p q = (p .answer ∙ sym (q .answer), p .approx ∙ sym (q .approx), p .details ∙ sym (q .details))
@@ -80,6 +143,9 @@ module _ (w : Wavelet) (k : ℕ) (back : List ℕ → List ℕ → List ℕ) (a 
 
   pub inverse-refused : (s : Refusal) (r : Answer) → s ≡ saidBack → r ≡ answerOf s → done s ≡ false → Inverse w k back a d o r o
   inverse-refused s r es er z = let t : done saidBack ≡ false = rw es at z in record { answer = er ∙ ap answerOf es; output = sym (left-refused saidBack (back a d) o t) }
+
+  pub inverse-ran : (n : ℕ) (r : Answer) (o′ : List ℕ) → 0 < k → Level w k n (length o) (length a) (length d) → Inverse w k back a d o r o′ → o′ ≡ back a d
+  inverse-ran n r o′ p l h = h .output ∙ left-done saidBack (back a d) o (inverse-fits w k n (length o) (length a) (length d) p l)
 
   pub inverse-decides : (r s : Answer) (o₁ o₂ : List ℕ) → Inverse w k back a d o r o₁ → Inverse w k back a d o s o₂ → (r ≡ s) × (o₁ ≡ o₂)
   inverse-decides r s o₁ o₂ p q = (p .answer ∙ sym (q .answer), p .output ∙ sym (q .output))

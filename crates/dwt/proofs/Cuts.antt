@@ -1,0 +1,25 @@
+-- Bytes of the two bands of n samples. Assumes nothing.
+use mathlib.Core.Path.{_≡_, ap, _∙_}
+use Prim.Native.Nat.{ℕ, _+_, _*_, _≤_, _<_}
+use native.Mathlib.Nat.{mul-add}
+use native.Mathlib.Omega.{arith}
+use Rattle.sizes.specs.Bands.{ups, downs}
+use Rattle.dwt.specs.declared.filter.Filter.{Filter}
+use Rattle.dwt.specs.declared.filter.Filter.the-variants.{Cdf53I8, Cdf53I16, Cdf53I32, Cdf53F32, Cdf53F64, Cdf97F32, Cdf97F64}
+use Rattle.dwt.specs.Filters.{widthOf}
+use Rattle.dwt.specs.Calls.{Cut}
+
+pub width-pos : (f : Filter) → 0 < widthOf f
+width-pos Cdf53I8 = omega arith
+width-pos Cdf53I16 = omega arith
+width-pos Cdf53I32 = omega arith
+width-pos Cdf53F32 = omega arith
+width-pos Cdf53F64 = omega arith
+width-pos Cdf97F32 = omega arith
+width-pos Cdf97F64 = omega arith
+
+pub split-width : (k n : ℕ) → k * n ≡ k * ups n + k * downs n
+split-width k n = let e : n ≡ ups n + downs n = omega arith in ap (λ m. k * m) e ∙ mul-add k (ups n) (downs n)
+
+pub cut-at : (f : Filter) (n r : ℕ) → r ≡ widthOf f * ups n → Cut f n r
+cut-at f n r e = let s = split-width (widthOf f) n in record { place = e; within = omega arith; rest = omega arith }

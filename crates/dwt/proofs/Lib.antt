@@ -1,0 +1,5 @@
+pub mod Filters
+pub mod Lists
+pub mod Cuts
+pub mod PyramidLaws
+pub mod Multi

@@ -1,0 +1,24 @@
+-- One level of a pyramid. Assumes nothing, and looks into no filter.
+use mathlib.Core.Path.{_≡_, refl, sym, ap, _∙_, subst}
+use mathlib.Core.List.{List, [], _∷_, _++_, append-nil}
+use Prim.Native.Nat.{ℕ, zero, suc, _+_, _-_, _*_, _/_, _≤_, _<_}
+use native.Mathlib.Omega.{arith}
+use lib.ListN.{length, take, drop}
+use lib.Seq.{take-at, drop-at, length-take-le}
+use Rattle.dwt.specs.declared.filter.Filter.{Filter}
+use Rattle.dwt.specs.Filters.{lowOf, highOf}
+use Rattle.dwt.specs.Pyramids.{pyramid}
+
+pub pyramid-none : (f : Filter) (l : ℕ) (x : List ℕ) → l ≡ 0 → pyramid f l x ≡ x
+unfolding pyramid
+pyramid-none f l x e = ap (λ (k : ℕ). pyramid f k x) e
+
+-- the levels below wrote r over the front of what one level left
+pub pyramid-more : (f : Filter) (l : ℕ) (x o t r : List ℕ) (cut : ℕ) → (l ≡ 0 → ⊥) → cut ≤ length o → length (lowOf f x) ≡ cut
+    → r ≡ pyramid f (l - 1) (take cut (lowOf f x ++ t)) → r ++ drop cut (take cut o ++ highOf f x) ≡ pyramid f l x
+unfolding pyramid
+pyramid-more f l x o t r cut p h e q =
+    let s : suc (l - 1) ≡ l = omega arith in
+    ap (λ (k : List ℕ). r ++ k) (drop-at (take cut o) (highOf f x) cut (length-take-le cut o h))
+    ∙ ap (λ (k : List ℕ). k ++ highOf f x) (q ∙ ap (λ (k : List ℕ). pyramid f (l - 1) k) (take-at (lowOf f x) t cut e))
+    ∙ ap (λ (k : ℕ). pyramid f k x) s

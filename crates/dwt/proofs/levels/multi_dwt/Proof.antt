@@ -1,0 +1,55 @@
+-- `multi_dwt` meets its contract: the checks, then the levels where they let by. Assumes nothing, and looks into no filter.
+use borrow.Author.Needs.{needs}
+use mathlib.Core.Path.{_≡_, _∙_, sym, ap}
+use Prim.Native.Nat.{_*_, _/_}
+use lib.ListN.{length}
+use Rattle.answers.specs.Answers.{done}
+use Rattle.sizes.specs.Levels.{levelsOf}
+use Rattle.dwt.specs.Filters.{widthOf}
+use Rattle.dwt.specs.Pyramids.{pyramid}
+use Rattle.dwt.specs.Calls.{Ready, sayMulti}
+use Rattle.dwt.proofs.Multi.{multi-ready, multi-done, multi-refused}
+use Rattle.dwt.proofs.levels.multi_dwt.Statement.{statement}
+use Rattle.dwt.proofs.levels.multi_dwt.Tie as tie
+
+run-requires : tie.Need-run-requires
+run-requires c κs =
+    let a = c .before .before .before .before .before .before .before .before .before .before .before .before .before .args in
+    rw (c .before .before .before .at-least-one .ensures, c .before .before .before .before .width .ensures .0)
+    (multi-ready (a .f) (a .levels) (length (a .signal .now)) (length (a .out .now)) (length (a .one .now)) (length (a .two .now))
+    (rw (c .before .before .before .before .before .before .before .before .check-multi .ensures) at (sym (c .before .before .before .before .before .before .is-done .ensures) ∙ c .before .before .before .before .before .if1 .taken)))
+
+returns : tie.Need-returns
+returns c =
+    let a = c .before .before .before .before .before .before .before .before .before .before .before .before .before .before .before .before .before .before .before .before .args in
+    let x = length (a .signal .now) in
+    let n = x / c .before .before .before .before .before .before .before .before .before .before .before .width .result in
+    let t = sym (c .before .before .before .before .before .before .before .before .before .before .before .before .before .is-done .ensures) ∙ c .before .before .before .before .before .before .before .before .before .before .before .before .if1 .taken in
+    let ready = multi-ready (a .f) (a .levels) x (length (a .out .now)) (length (a .one .now)) (length (a .two .now)) (rw (c .before .before .before .before .before .before .before .before .before .before .before .before .before .before .before .check-multi .ensures) at t) in
+    let e = c .before .before .before .before .before .before .run .ensures in
+    multi-done (a .f) (a .levels) (a .signal .now) (a .out .now) (a .one .now) (a .two .now) (c .before .before .before .before .before .before .before .before .before .before .before .before .before .before .before .check-multi .result) _ n _ _ _ (c .before .before .before .before .before .before .before .before .before .before .before .before .before .before .before .check-multi .ensures) (c .before .before .before .before .before .before .before .before .before .before .before .before .before .before .numbers .ensures) t
+    (ap (λ k. widthOf (a .f) * (x / k)) (c .before .before .before .before .before .before .before .before .before .before .before .width .ensures .0) ∙ sym (ready .0 .whole))
+    (e .0 ∙ ap (λ l. pyramid (a .f) l (a .signal .now)) (c .before .before .before .before .before .before .before .before .before .before .at-least-one .ensures)) (e .1 .0) (e .1 .1)
+
+returns-2 : tie.Need-returns-2
+returns-2 c =
+    let a = c .before .before .before .before .before .before .before .before .args in
+    multi-refused (a .f) (a .levels) (a .signal .now) (a .out .now) (a .one .now) (a .two .now) (c .before .before .before .check-multi .result) _ (c .before .before .before .check-multi .ensures) (c .before .before .numbers .ensures)
+    (sym (c .before .is-done .ensures) ∙ c .if1 .left)
+
+pub multi-dwt-spec : {M : Type 1} → statement M
+multi-dwt-spec =
+    tie.close
+    (tie.spec
+    (λ c κs. search needs)
+    (λ c κs. search needs)
+    (λ c κs. search needs)
+    (λ c κs. search needs)
+    (λ c. search needs)
+    (λ c κs. search needs)
+    run-requires
+    (λ c. search needs)
+    (λ c. search needs)
+    (λ c. search needs)
+    returns
+    returns-2)

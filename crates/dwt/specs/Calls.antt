@@ -1,0 +1,94 @@
+-- The drivers' checks, each a list in document 01's order, and what each call promises. Over the filter.
+-- Assumes nothing: these are definitions.
+use mathlib.Core.Bool.{Bool, cond, not}
+use mathlib.Core.List.{List, [], _∷_}
+use mathlib.Core.Path.{_≡_}
+use Prim.Native.Nat.{ℕ, _+_, _-_, _*_, _/_, _≤_, _<_}
+use lib.Dec.{ltb, leb, eqb}
+use lib.ListN.{length}
+use Rattle.answers.specs.declared.err.Answer.{Answer}
+use Rattle.answers.specs.declared.err.Refusal.{Refusal}
+use Rattle.answers.specs.declared.err.Refusal.the-variants.{Done, MinFilterSize, ApproxSizeNotMatches, OutputSizeIsNotValid, BufferWasTooSmallForLevel, TooLong}
+use Rattle.answers.specs.Answers.{answerOf}
+use Rattle.answers.specs.Checks.{Check, firstOf, ragged, tight, left, Spared}
+use Rattle.sizes.specs.Bands.{mostSamples, ups, downs}
+use Rattle.sizes.specs.Levels.{places, depthOf, levelsOf}
+use Rattle.dwt.specs.declared.filter.Filter.{Filter}
+use Rattle.dwt.specs.declared.filter.Filter.the-variants.{Cdf53I8, Cdf53I16, Cdf53I32, Cdf53F32, Cdf53F64, Cdf97F32, Cdf97F64}
+use Rattle.dwt.specs.Filters.{widthOf, waveletOf, lowOf, highOf}
+use Rattle.dwt.specs.Pyramids.{approxAt, pyramid}
+
+-- "for 0 or 1 levels and n too short, 1 in integer 5/3 and 4 in the float filters"
+abbrev pub short : Filter → ℕ → Refusal
+short Cdf53I8 n = MinFilterSize n 3
+short Cdf53I16 n = MinFilterSize n 3
+short Cdf53I32 n = MinFilterSize n 3
+short Cdf53F32 n = BufferWasTooSmallForLevel
+short Cdf53F64 n = BufferWasTooSmallForLevel
+short Cdf97F32 n = BufferWasTooSmallForLevel
+short Cdf97F64 n = BufferWasTooSmallForLevel
+
+-- "`multi_dwt`: 6; for 0 or 1 levels and n too short ..; for more levels 4; 3; 7, 7", by samples: n of the signal, m of the output, u and v of the work areas
+abbrev pub multiChecks : Filter → ℕ → ℕ → ℕ → ℕ → ℕ → List Check
+multiChecks f l n m u v =
+    (ltb mostSamples n, TooLong)
+    ∷ (ltb (depthOf (waveletOf f) n) (levelsOf l), cond (leb l 1) (short f n) BufferWasTooSmallForLevel)
+    ∷ (not (eqb m n), OutputSizeIsNotValid m n)
+    ∷ tight u n
+    ∷ tight v n
+    ∷ []
+
+-- the same by byte lengths
+unfoldable pub sayMulti : Filter → ℕ → ℕ → ℕ → ℕ → ℕ → Refusal
+sayMulti f l n m u v =
+    firstOf (ragged (widthOf f) n ∷ ragged (widthOf f) m ∷ ragged (widthOf f) u ∷ ragged (widthOf f) v
+    ∷ multiChecks f l (n / widthOf f) (m / widthOf f) (u / widthOf f) (v / widthOf f))
+    (Done 0 0)
+
+-- the answer r, and the output and the work areas that `multi_dwt` leaves
+pub record Multi (f : Filter) (l : ℕ) (x o u v : List ℕ) (r : Answer) (o′ u′ v′ : List ℕ) : Type 0 where
+  pub answer : r ≡ answerOf (sayMulti f l (length x) (length o) (length u) (length v))
+  pub output : o′ ≡ left (sayMulti f l (length x) (length o) (length u) (length v)) (pyramid f (levelsOf l) x) o
+  pub first : Spared (sayMulti f l (length x) (length o) (length u) (length v)) (length x) u u′
+  pub second : Spared (sayMulti f l (length x) (length o) (length u) (length v)) (length x) v v′
+
+-- "`dwt`: 6, 4 (n too short, or depth below the levels), 2, 2 as forward with the last level's input length, 7, 7"
+abbrev pub dwtChecks : Filter → ℕ → ℕ → ℕ → ℕ → ℕ → ℕ → List Check
+dwtChecks f l n a d u v =
+    let m = places (levelsOf l - 1) n in
+    (ltb mostSamples n, TooLong)
+    ∷ (ltb (depthOf (waveletOf f) n) (levelsOf l), BufferWasTooSmallForLevel)
+    ∷ (not (eqb a (ups m)), ApproxSizeNotMatches a m)
+    ∷ (not (eqb d (downs m)), ApproxSizeNotMatches d m)
+    ∷ tight u n
+    ∷ tight v n
+    ∷ []
+
+unfoldable pub sayDwt : Filter → ℕ → ℕ → ℕ → ℕ → ℕ → ℕ → Refusal
+sayDwt f l n a d u v =
+    firstOf (ragged (widthOf f) n ∷ ragged (widthOf f) a ∷ ragged (widthOf f) d ∷ ragged (widthOf f) u ∷ ragged (widthOf f) v
+    ∷ dwtChecks f l (n / widthOf f) (a / widthOf f) (d / widthOf f) (u / widthOf f) (v / widthOf f))
+    (Done 0 0)
+
+-- the answer r, and the bands of the last level and the work areas that `dwt` leaves
+pub record Dwt (f : Filter) (l : ℕ) (x a d u v : List ℕ) (r : Answer) (a′ d′ u′ v′ : List ℕ) : Type 0 where
+  pub answer : r ≡ answerOf (sayDwt f l (length x) (length a) (length d) (length u) (length v))
+  pub approx : a′ ≡ left (sayDwt f l (length x) (length a) (length d) (length u) (length v)) (lowOf f (approxAt f (levelsOf l - 1) x)) a
+  pub details : d′ ≡ left (sayDwt f l (length x) (length a) (length d) (length u) (length v)) (highOf f (approxAt f (levelsOf l - 1) x)) d
+  pub first : Spared (sayDwt f l (length x) (length a) (length d) (length u) (length v)) (length x) u u′
+  pub second : Spared (sayDwt f l (length x) (length a) (length d) (length u) (length v)) (length x) v v′
+
+-- what the checks leave for the levels: n samples, l levels within the depth, and byte lengths of the signal and of two work areas
+pub record Ready (f : Filter) (l n x u v : ℕ) : Type 0 where
+  pub some : 0 < l
+  pub deep : l ≤ depthOf (waveletOf f) n
+  pub short : n ≤ mostSamples
+  pub whole : x ≡ widthOf f * n
+  pub first : widthOf f * n ≤ u
+  pub second : widthOf f * n ≤ v
+
+-- r is the byte at which the details of n samples start
+pub record Cut (f : Filter) (n r : ℕ) : Type 0 where
+  pub place : r ≡ widthOf f * ups n
+  pub within : r ≤ widthOf f * n
+  pub rest : widthOf f * n ≡ r + widthOf f * downs n

@@ -1,0 +1,22 @@
+-- Many levels, from document 01: "the next level's input is this level's approximations". On bytes, for any filter, by recursion on the levels.
+-- Assumes nothing: these are definitions.
+use mathlib.Core.List.{List, [], _∷_, _++_}
+use Prim.Native.Nat.{ℕ, zero, suc, _*_}
+use lib.ListN.{take, drop}
+use Rattle.dwt.specs.declared.filter.Filter.{Filter}
+use Rattle.dwt.specs.Filters.{widthOf, lowOf, highOf, backOf}
+
+-- the approximations after l levels
+unfoldable pub approxAt : Filter → ℕ → List ℕ → List ℕ
+approxAt f zero x = x
+approxAt f (suc l) x = approxAt f l (lowOf f x)
+
+-- "`multi_dwt` fills one slice of n: deepest approximations, then details deepest first"
+unfoldable pub pyramid : Filter → ℕ → List ℕ → List ℕ
+pyramid f zero x = x
+pyramid f (suc l) x = pyramid f l (lowOf f x) ++ highOf f x
+
+-- the samples of approximations a and details d, joined deepest first, of which each level has as many as the list of lengths says
+unfoldable pub samplesOf : Filter → List ℕ → List ℕ → List ℕ → List ℕ
+samplesOf f a d [] = a
+samplesOf f a d (m ∷ ms) = samplesOf f (backOf f a (take (widthOf f * m) d)) (drop (widthOf f * m) d) ms

@@ -1,0 +1,80 @@
+ghost use mathlib.Core.Path.{_≡_};
+ghost use Prim.Native.Nat.{_<_};
+ghost use Rattle.sizes.specs.Calls.{Forward, Inverse};
+ghost use Rattle.dwt.specs.Filters.{widthOf, waveletOf, lowOf, highOf, backOf};
+use answers::err::Answer;
+use cdf53i::cdf53i as integer;
+use floats::cdf53f;
+use floats::cdf97f;
+use sizes::Wavelet;
+
+// The seven filters.
+pub enum Filter {
+    Cdf53I8,
+    Cdf53I16,
+    Cdf53I32,
+    Cdf53F32,
+    Cdf53F64,
+    Cdf97F32,
+    Cdf97F64,
+}
+
+// Bytes of a sample.
+pub fn width(f: Filter) -> usize
+    ensures { λ r. ⌜ (r ≡ widthOf f) × (0 < r) ⌝ }
+{
+    match f {
+        Filter::Cdf53I8 => 1,
+        Filter::Cdf53I16 => 2,
+        Filter::Cdf53I32 => 4,
+        Filter::Cdf53F32 => 4,
+        Filter::Cdf53F64 => 8,
+        Filter::Cdf97F32 => 4,
+        Filter::Cdf97F64 => 8,
+    }
+}
+
+// Its length rules.
+pub fn wavelet(f: Filter) -> Wavelet
+    ensures { λ r. ⌜ r ≡ waveletOf f ⌝ }
+{
+    match f {
+        Filter::Cdf97F32 => Wavelet::Cdf97,
+        Filter::Cdf97F64 => Wavelet::Cdf97,
+        Filter::Cdf53I8 => Wavelet::Cdf53,
+        Filter::Cdf53I16 => Wavelet::Cdf53,
+        Filter::Cdf53I32 => Wavelet::Cdf53,
+        Filter::Cdf53F32 => Wavelet::Cdf53,
+        Filter::Cdf53F64 => Wavelet::Cdf53,
+    }
+}
+
+// One level forward of any filter.
+pub fn execute_forward(f: Filter, input: &[u8], approx: &mut [u8], details: &mut [u8]) -> Answer
+    ensures { λ r. ⌜ Forward (waveletOf f) (widthOf f) (lowOf f) (highOf f) (now (input .entry)) (now (approx .entry)) (now (details .entry)) r (now (approx .exit)) (now (details .exit)) ⌝ }
+{
+    match f {
+        Filter::Cdf53I8 => integer::execute_forward(1, input, approx, details),
+        Filter::Cdf53I16 => integer::execute_forward(2, input, approx, details),
+        Filter::Cdf53I32 => integer::execute_forward(4, input, approx, details),
+        Filter::Cdf53F32 => cdf53f::execute_forward_f32(input, approx, details),
+        Filter::Cdf53F64 => cdf53f::execute_forward_f64(input, approx, details),
+        Filter::Cdf97F32 => cdf97f::execute_forward_f32(input, approx, details),
+        Filter::Cdf97F64 => cdf97f::execute_forward_f64(input, approx, details),
+    }
+}
+
+// One level back of any filter.
+pub fn execute_inverse(f: Filter, approx: &[u8], details: &[u8], output: &mut [u8]) -> Answer
+    ensures { λ r. ⌜ Inverse (waveletOf f) (widthOf f) (backOf f) (now (approx .entry)) (now (details .entry)) (now (output .entry)) r (now (output .exit)) ⌝ }
+{
+    match f {
+        Filter::Cdf53I8 => integer::execute_inverse(1, approx, details, output),
+        Filter::Cdf53I16 => integer::execute_inverse(2, approx, details, output),
+        Filter::Cdf53I32 => integer::execute_inverse(4, approx, details, output),
+        Filter::Cdf53F32 => cdf53f::execute_inverse_f32(approx, details, output),
+        Filter::Cdf53F64 => cdf53f::execute_inverse_f64(approx, details, output),
+        Filter::Cdf97F32 => cdf97f::execute_inverse_f32(approx, details, output),
+        Filter::Cdf97F64 => cdf97f::execute_inverse_f64(approx, details, output),
+    }
+}
