@@ -53,6 +53,13 @@ then-stop (p ∷ l) m s h = pick (p .0) (λ g. then-stop l m s g) h
     pick true f h = refl
     pick false f h = f h
 
+-- r is what the first part says: where it lets by, what the rest says is said of all, and where it refuses, r is
+pub say-rest : (l m : List Check) (s : Refusal) {r t : Refusal} → Refusing l → r ≡ firstOf l (Done 0 0) → done r ≡ true → t ≡ firstOf m s → t ≡ firstOf (l ++ m) s
+say-rest l m s q e h g = g ∙ sym (then-rest l m s q (sym (ap done e) ∙ h))
+
+pub say-stop : (l m : List Check) (s : Refusal) {r : Refusal} → r ≡ firstOf l (Done 0 0) → done r ≡ false → r ≡ firstOf (l ++ m) s
+say-stop l m s e h = e ∙ sym (then-stop l m s (sym (ap done e) ∙ h))
+
 -- what a byte length that is not ragged tells
 pub whole : (k b : ℕ) → not (eqb (b % k) 0) ≡ false → b ≡ k * (b / k)
 whole k b h =

@@ -3,3 +3,4 @@ pub mod Lists
 pub mod Cuts
 pub mod PyramidLaws
 pub mod Multi
+pub mod Rises

@@ -1,3 +1,4 @@
 pub mod Filters
 pub mod Pyramids
 pub mod Calls
+pub mod Backward

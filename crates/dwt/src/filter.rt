@@ -1,5 +1,5 @@
 ghost use mathlib.Core.Path.{_≡_};
-ghost use Prim.Native.Nat.{_<_};
+ghost use Prim.Native.Nat.{_*_, _<_, _^_};
 ghost use Rattle.sizes.specs.Calls.{Forward, Inverse};
 ghost use Rattle.dwt.specs.Filters.{widthOf, waveletOf, lowOf, highOf, backOf};
 use answers::err::Answer;
@@ -32,6 +32,14 @@ pub fn width(f: Filter) -> usize
         Filter::Cdf97F32 => 4,
         Filter::Cdf97F64 => 8,
     }
+}
+
+// Bytes of n samples.
+pub fn bytes_of(f: Filter, n: usize) -> usize
+    requires { ⌜ widthOf f * n < 2 ^ 63 ⌝ }
+    ensures { λ r. ⌜ r ≡ widthOf f * n ⌝ }
+{
+    width(f) * n
 }
 
 // Its length rules.

@@ -1,0 +1,29 @@
+-- `level_lengths` meets its contract: a link for each check. Assumes nothing.
+use borrow.Author.Needs.{needs}
+use mathlib.Core.Path.{refl, _∙_, sym, ap}
+use Prim.Native.Nat.{_+_}
+use Rattle.answers.specs.declared.err.Refusal.the-variants.{ApproxSizeNotMatches}
+use Rattle.answers.proofs.Chain.{by, stop, same, other}
+use Rattle.sizes.specs.Bands.{expectedApprox, expectedDetails}
+use Rattle.dwt.proofs.back.level_lengths.Statement.{statement}
+use Rattle.dwt.proofs.back.level_lengths.Tie as tie
+
+pub level-lengths-spec : {M : Type 1} → statement M
+level-lengths-spec =
+    tie.close
+    (tie.spec
+    (λ c. search needs)
+    (λ c κs. search needs)
+    (λ c.
+    let e = c .before .dwt-size .ensures .0 in
+    let a = c .before .before .args in
+    stop _ (other (a .a) (expectedApprox (a .a + a .m)) (λ h. c .if1 .taken (h ∙ sym e))) (ap (λ n. ApproxSizeNotMatches n (a .a)) e))
+    (λ c.
+    let s = c .before .before .before .dwt-size .ensures in
+    let a = c .before .before .before .before .args in
+    by _ (same (a .a) (expectedApprox (a .a + a .m)) (c .before .before .if1 .left ∙ s .0))
+    (stop _ (other (a .m) (expectedDetails (a .w) (a .a + a .m)) (λ h. c .if2 .taken (h ∙ sym (s .1)))) (ap (λ n. ApproxSizeNotMatches n (a .a)) (s .0))))
+    (λ c.
+    let s = c .before .before .before .dwt-size .ensures in
+    let a = c .before .before .before .before .args in
+    by _ (same (a .a) (expectedApprox (a .a + a .m)) (c .before .before .if1 .left ∙ s .0)) (by _ (same (a .m) (expectedDetails (a .w) (a .a + a .m)) (c .if2 .left ∙ s .1)) refl)))

@@ -1,0 +1,91 @@
+-- The checks of `multi_idwt`, as a list in document 01's order, and what the call promises. Over the filter.
+-- Assumes nothing: these are definitions.
+use mathlib.Core.Bool.{not}
+use mathlib.Core.List.{List, [], _∷_, _++_}
+use mathlib.Core.Path.{_≡_}
+use Prim.Native.Nat.{ℕ, _+_, _*_, _/_, _≤_, _<_}
+use lib.Dec.{ltb, eqb}
+use lib.ListN.{length}
+use Rattle.answers.specs.declared.err.Answer.{Answer}
+use Rattle.answers.specs.declared.err.Refusal.{Refusal}
+use Rattle.answers.specs.declared.err.Refusal.the-variants.{Done, ApproxSizeNotMatches, OutputSizeIsNotValid, ZeroedBaseSize, TooLong, BadCount}
+use Rattle.answers.specs.Answers.{answerOf}
+use Rattle.answers.specs.Checks.{Check, firstOf, ragged, tight, left, Spared}
+use Rattle.sizes.specs.declared.Wavelet.{Wavelet}
+use Rattle.sizes.specs.Bands.{mostSamples, ups, downs, smallestOf, expectedApprox, expectedDetails}
+use Rattle.samples.specs.Words.{wordsOf}
+use Rattle.dwt.specs.declared.filter.Filter.{Filter}
+use Rattle.dwt.specs.Filters.{widthOf, waveletOf}
+use Rattle.dwt.specs.Pyramids.{samplesOf}
+
+-- "more than 23 lengths"
+abbrev pub mostLevels : ℕ
+mostLevels = 23
+
+-- how many details the lengths add up to
+unfoldable pub total : List ℕ → ℕ
+total [] = 0
+total (m ∷ ms) = m + total ms
+
+-- "6 (output, approximations or details slice, or more than 23 lengths), 5", by samples: a and d of the bands, c lengths, n of the output
+abbrev pub sizeChecks : ℕ → ℕ → ℕ → ℕ → List Check
+sizeChecks a d c n =
+    (ltb mostSamples n, TooLong)
+    ∷ (ltb mostSamples a, TooLong)
+    ∷ (ltb mostSamples d, TooLong)
+    ∷ (ltb mostLevels c, TooLong)
+    ∷ (eqb c 0, ZeroedBaseSize)
+    ∷ (eqb a 0, ZeroedBaseSize)
+    ∷ []
+
+-- "2 .. as in inverse": a level of a approximations and m details
+abbrev pub levelChecks : Wavelet → ℕ → ℕ → List Check
+levelChecks w a m =
+    (not (eqb a (expectedApprox (a + m))), ApproxSizeNotMatches (expectedApprox (a + m)) a)
+    ∷ (not (eqb m (expectedDetails w (a + m))), ApproxSizeNotMatches (expectedApprox (a + m)) a)
+    ∷ []
+
+-- "level by level from the deepest": what a level restores is the next one's approximations
+unfoldable pub bandChecks : Wavelet → ℕ → List ℕ → List Check
+bandChecks w a [] = []
+bandChecks w a (m ∷ ms) = levelChecks w a m ++ bandChecks w (a + m) ms
+
+-- "3, 7, 7": n of the output against all, which is the restored length, u and v of the work areas
+abbrev pub roomChecks : ℕ → ℕ → ℕ → ℕ → List Check
+roomChecks all n u v = (not (eqb n all), OutputSizeIsNotValid n all) ∷ tight u all ∷ tight v all ∷ []
+
+-- all of them; ms are the lengths
+abbrev pub backChecks : Filter → ℕ → ℕ → List ℕ → ℕ → ℕ → ℕ → List Check
+backChecks f a d ms n u v = sizeChecks a d (length ms) n ++ ((not (eqb (total ms) d), BadCount 0 (total ms)) ∷ (bandChecks (waveletOf f) a ms ++ roomChecks (a + d) n u v))
+
+-- the byte lengths that are to be whole: approximations, details and lengths, then output and work areas
+abbrev pub wholeChecks : ℕ → ℕ → ℕ → ℕ → ℕ → ℕ → ℕ → List Check
+wholeChecks k a d c n u v = ragged k a ∷ ragged k d ∷ ragged 4 c ∷ ragged k n ∷ ragged k u ∷ ragged k v ∷ []
+
+-- what `multi_idwt` says, by byte lengths; ls is the slice of lengths, each a u32
+unfoldable pub sayBack : Filter → ℕ → ℕ → List ℕ → ℕ → ℕ → ℕ → Refusal
+sayBack f a d ls n u v =
+    firstOf
+    (wholeChecks (widthOf f) a d (length ls) n u v ++ backChecks f (a / widthOf f) (d / widthOf f) (wordsOf 4 ls) (n / widthOf f) (u / widthOf f) (v / widthOf f))
+    (Done 0 0)
+
+-- the answer r, and the output and the work areas that `multi_idwt` leaves
+pub record MultiBack (f : Filter) (a d ls o u v : List ℕ) (r : Answer) (o′ u′ v′ : List ℕ) : Type 0 where
+  pub answer : r ≡ answerOf (sayBack f (length a) (length d) ls (length o) (length u) (length v))
+  pub output : o′ ≡ left (sayBack f (length a) (length d) ls (length o) (length u) (length v)) (samplesOf f a d (wordsOf 4 ls)) o
+  pub first : Spared (sayBack f (length a) (length d) ls (length o) (length u) (length v)) (length a + length d) u u′
+  pub second : Spared (sayBack f (length a) (length d) ls (length o) (length u) (length v)) (length a + length d) v v′
+
+-- a approximations and details of the lengths ms are the bands of levels, from the deepest
+unfoldable pub Fits : Wavelet → ℕ → List ℕ → Type 0
+Fits w a [] = Unit {0}
+Fits w a (m ∷ ms) = (smallestOf w ≤ a + m) × (a ≡ ups (a + m)) × (m ≡ downs (a + m)) × Fits w (a + m) ms
+
+-- what the checks leave for the levels: a approximations and details of the lengths ms, and byte lengths of the details, of two work areas and of the output
+pub record Rising (f : Filter) (a : ℕ) (ms : List ℕ) (d u v o : ℕ) : Type 0 where
+  pub fits : Fits (waveletOf f) a ms
+  pub short : a + total ms ≤ mostSamples
+  pub details : d ≡ widthOf f * total ms
+  pub first : widthOf f * (a + total ms) ≤ u
+  pub second : widthOf f * (a + total ms) ≤ v
+  pub output : o ≡ widthOf f * (a + total ms)
