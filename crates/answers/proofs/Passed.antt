@@ -32,6 +32,19 @@ passing (p ∷ rest) s r h =
     let q = passed (p .0) (p .1) (firstOf rest s) (r .0) h in
     (q .0, passing rest s (r .1) (q .1))
 
+-- of two lists, both
+pub both-refuse : (l m : List Check) → Refusing l → Refusing m → Refusing (l ++ m)
+both-refuse [] m r q = q
+both-refuse (p ∷ l) m r q = (r .0, both-refuse l m (r .1) q)
+
+pub both-pass : (l m : List Check) → Passing (l ++ m) → Passing l × Passing m
+both-pass [] m h = (tt, h)
+both-pass (p ∷ l) m h = let b = both-pass l m (h .1) in ((h .0, b .0), b .1)
+
+pub pass-both : (l m : List Check) → Passing l → Passing m → Passing (l ++ m)
+pass-both [] m h g = g
+pass-both (p ∷ l) m h g = (h .0, pass-both l m (h .1) g)
+
 -- and a call whose checks all let by says s
 pub through : (l : List Check) (s : Refusal) → Passing l → firstOf l s ≡ s
 through [] s h = refl

@@ -4,3 +4,4 @@ pub mod Cuts
 pub mod PyramidLaws
 pub mod Multi
 pub mod Rises
+pub mod Backs

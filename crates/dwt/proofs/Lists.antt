@@ -29,6 +29,13 @@ copied s d e =
     let h : length d ≤ length s = omega arith in
     ap (λ (l : List ℕ). take (length s) s ++ l) (drop-of-length-le d h) ∙ append-nil (take (length s) s) ∙ take-all (length s) s (omega arith)
 
+-- a copy over the front: what the front holds, and what comes after
+pub copied-front : (s d : List ℕ) (n : ℕ) → n ≡ length s → take n (take (length s) s ++ drop (length s) d) ≡ s
+copied-front s d n e = ap (λ (j : ℕ). take j (take (length s) s ++ drop (length s) d)) e ∙ take-at (take (length s) s) (drop (length s) d) (length s) (length-take-le (length s) s (omega arith)) ∙ take-all (length s) s (omega arith)
+
+pub copied-after : (s d : List ℕ) (n : ℕ) → length s ≤ n → drop n (take (length s) s ++ drop (length s) d) ≡ drop n d
+copied-after s d n h = later (length s) n (take (length s) s ++ drop (length s) d) d h (drop-at (take (length s) s) (drop (length s) d) (length s) (length-take-le (length s) s (omega arith)))
+
 -- a part up to the end is what is left
 pub end-is : (a : ℕ) (xs : List ℕ) → take (length xs - a) (drop a xs) ≡ drop a xs
 end-is a xs = take-all (length xs - a) (drop a xs) (simp length-drop (omega arith))

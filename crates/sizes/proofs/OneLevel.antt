@@ -23,7 +23,7 @@ use Rattle.sizes.specs.Bands.{mostSamples, ups, downs, smallestOf, expec
 use Rattle.sizes.specs.Calls.{forwardChecks, sayForward, inverseChecks, sayInverse, Level, Forward, Inverse}
 
 -- lengths that an inverse expects are those of a level
-expected : (w : Wavelet) (a d n : ℕ) → n ≡ a + d → a ≡ expectedApprox n → d ≡ expectedDetails w n → (smallestOf w ≤ n) × (a ≡ ups n) × (d ≡ downs n)
+pub expected : (w : Wavelet) (a d n : ℕ) → n ≡ a + d → a ≡ expectedApprox n → d ≡ expectedDetails w n → (smallestOf w ≤ n) × (a ≡ ups n) × (d ≡ downs n)
 expected Cdf53 a d n e p q = (omega arith, omega arith, omega arith)
 expected Cdf97 a d n e p q = (omega arith, omega arith, omega arith)
 
@@ -79,7 +79,8 @@ forward-fits w k n x a d p l =
       ),
     )))
 
-expects : (w : Wavelet) (n : ℕ) → smallestOf w ≤ n → (n ≡ ups n + downs n) × (ups n ≡ expectedApprox n) × (downs n ≡ expectedDetails w n)
+-- and the other way
+pub expects : (w : Wavelet) (n : ℕ) → smallestOf w ≤ n → (n ≡ ups n + downs n) × (ups n ≡ expectedApprox n) × (downs n ≡ expectedDetails w n)
 expects Cdf53 n h = (omega arith, omega arith, omega arith)
 expects Cdf97 n h = (omega arith, omega arith, omega arith)
 
