@@ -1,9 +1,10 @@
 ghost use mathlib.Core.Bool.{true};
+ghost use mathlib.Core.List.{_++_};
 ghost use mathlib.Core.Path.{_≡_};
 ghost use Rattle.sizes.specs.Calls.{Forward, Inverse};
-ghost use Prim.Native.Nat.{_+_, _-_, _/_, _<_};
-ghost use lib.ListN.{length};
-ghost use Rattle.sizes.specs.Bands.{downs};
+ghost use Prim.Native.Nat.{_+_, _-_, _*_, _/_, _<_};
+ghost use lib.ListN.{length, drop};
+ghost use Rattle.sizes.specs.Bands.{ups, downs};
 ghost use Rattle.samples.specs.Words.{tabulate, Holds};
 ghost use Rattle.samples.specs.Integers.{isWidth, wrap, decode, encode};
 ghost use Rattle.cdf53i.specs.Lift.{approx, evens};
@@ -61,6 +62,38 @@ fn forward(k: usize, x: &[u8], a: &mut [u8], d: &mut [u8])
 {
     predict(k, x, d);
     update(k, x, a, d);
+}
+
+// The approximations of the samples in x and the stored details in d, to the front of x: place i is written once place 2 i, which is not before it, was read.
+fn update_within(k: usize, x: &mut [u8], d: &[u8])
+    requires { ⌜ Input k (now x) ⌝ }
+    requires { ⌜ Holds k (downs (length (now x) / k)) (now d) ⌝ }
+    ensures { λ _. ⌜ now (x .exit) ≡ encode k (tabulate (evens (decode k (now (x .entry)))) (approx (wrap k) (decode k (now (x .entry))) (decode k (now (d .entry))))) ++ drop (k * ups (length (now (x .entry)) / k)) (now (x .entry)) ⌝ }
+{
+    let n = x.len() / k;
+    let m = n / 2;
+    let last = (n + 1) / 2 - 1;
+    let mut left = 0;
+    let mut i = 0;
+    while i < last {
+        let v = approx_at(k, x, d, i, left, i);
+        put(k, x, i, v);
+        left = i;
+        i += 1;
+    }
+    let v = approx_at(k, x, d, last, left, m - 1);
+    put(k, x, last, v);
+}
+
+// One level of the samples in x, approximations to the front of x itself, for a caller that has no third place: the rest of x stays.
+pub fn forward_within(k: usize, x: &mut [u8], d: &mut [u8])
+    requires { ⌜ Input k (now x) ⌝ }
+    requires { ⌜ Holds k (downs (length (now x) / k)) (now d) ⌝ }
+    ensures { λ _. ⌜ now (x .exit) ≡ low k (now (x .entry)) ++ drop (k * ups (length (now (x .entry)) / k)) (now (x .entry)) ⌝ }
+    ensures { λ _. ⌜ now (d .exit) ≡ high k (now (x .entry)) ⌝ }
+{
+    predict(k, x, d);
+    update_within(k, x, d);
 }
 
 // Even sample i, of the word e, and the odd one after it into x; the word of the next even sample is the result. Called in one place, so that it is inlined.

@@ -1,6 +1,10 @@
+// One level of any of the seven filters: the one place where a driver chooses among them.
+ghost use mathlib.Core.List.{_++_};
 ghost use mathlib.Core.Path.{_≡_};
 ghost use Prim.Native.Nat.{_*_, _<_, _^_};
-ghost use Rattle.sizes.specs.Calls.{Forward, Inverse};
+ghost use lib.ListN.{length, drop};
+ghost use Rattle.sizes.specs.Bands.{ups};
+ghost use Rattle.sizes.specs.Calls.{Level, Forward, Inverse};
 ghost use Rattle.dwt.specs.Filters.{widthOf, waveletOf, lowOf, highOf, backOf};
 use answers::err::Answer;
 use cdf53i::cdf53i as integer;
@@ -84,5 +88,22 @@ pub fn execute_inverse(f: Filter, approx: &[u8], details: &[u8], output: &mut [u
         Filter::Cdf53F64 => cdf53f::execute_inverse_f64(approx, details, output),
         Filter::Cdf97F32 => cdf97f::execute_inverse_f32(approx, details, output),
         Filter::Cdf97F64 => cdf97f::execute_inverse_f64(approx, details, output),
+    }
+}
+
+// One level forward of the n samples in x, approximations to the front of x itself, for a caller that has no third place: the rest of x stays.
+pub fn execute_within(f: Filter, n: usize, x: &mut [u8], d: &mut [u8])
+    requires { ⌜ Level (waveletOf f) (widthOf f) n (length (now x)) (widthOf f * ups n) (length (now d)) ⌝ }
+    ensures { λ _. ⌜ now (x .exit) ≡ lowOf f (now (x .entry)) ++ drop (widthOf f * ups n) (now (x .entry)) ⌝ }
+    ensures { λ _. ⌜ now (d .exit) ≡ highOf f (now (x .entry)) ⌝ }
+{
+    match f {
+        Filter::Cdf53I8 => integer::forward_within(1, x, d),
+        Filter::Cdf53I16 => integer::forward_within(2, x, d),
+        Filter::Cdf53I32 => integer::forward_within(4, x, d),
+        Filter::Cdf53F32 => cdf53f::forward_within_f32(x, d),
+        Filter::Cdf53F64 => cdf53f::forward_within_f64(x, d),
+        Filter::Cdf97F32 => cdf97f::forward_within_f32(x, d),
+        Filter::Cdf97F64 => cdf97f::forward_within_f64(x, d),
     }
 }

@@ -1,3 +1,4 @@
+// `multi_dwt`: the levels down, each one's details straight to their place in the output.
 ghost use mathlib.Core.List.{[], _∷_, _++_};
 ghost use mathlib.Core.Path.{_≡_};
 ghost use Prim.Native.Nat.{_*_, _<_, _≤_, _^_};

@@ -4,6 +4,7 @@ pub mod Turns
 pub mod Runs
 pub mod Splits
 pub mod Levels
+pub mod Insides
 pub mod Lanes
 pub mod RunsOn
 pub mod Figures

@@ -17,6 +17,12 @@ pub record Lent (f : Format) (x a d : List ℕ) : Type 0 where
   pub approx : Holds (width f) (ups (length x / width f)) a
   pub details : Holds (width f) (downs (length x / width f)) d
 
+-- the same where the approximations are to go to the front of x itself
+pub record LentWithin (f : Format) (x d : List ℕ) : Type 0 where
+  pub long : 3 ≤ length x / width f
+  pub samples : Holds (width f) (length x / width f) x
+  pub details : Holds (width f) (downs (length x / width f)) d
+
 -- s is n floats, each by the pattern that it is written by: a NaN by its one pattern
 pub record Stored (f : Format) (n : ℕ) (s : List ℕ) : Type 0 where
   pub holds : Holds (width f) n s

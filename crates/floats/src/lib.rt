@@ -5,3 +5,4 @@ mod double;
 mod mla;
 mod places;
 mod single;
+mod within;

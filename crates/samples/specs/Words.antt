@@ -40,3 +40,8 @@ pub record Front (k n i : ℕ) (g : ℕ → ℕ) (s : List ℕ) : Type 0 where
 -- from word i on s is still t: what such a loop keeps true where it reads what it overwrites
 pub record Rest (k i : ℕ) (t s : List ℕ) : Type 0 where
   pub rest : drop (k * i) s ≡ drop (k * i) t
+
+-- both: the first i of the n words of s are g 0, .., g (i - 1), the others are still those of t. What a loop keeps true that writes what it reads
+pub record Within (k n i : ℕ) (g : ℕ → ℕ) (t s : List ℕ) : Type 0 where
+  pub front : Front k n i g s
+  pub rest : Rest k i t s
