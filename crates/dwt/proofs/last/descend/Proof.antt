@@ -57,8 +57,7 @@ loop-again c =
     let b = below (c .before .before .before .before .before .before .before) in
     let u : ups (l .m) ≡ l .m - l .m / 2 = omega arith in
     let s : suc (l .i) ≡ l .i + 1 = omega arith in
-    let x = take (k * a .n) (a .one .now) in
-    (
+    let x = take (k * a .n) (a .one .now) in (
       omega arith,
       places-turn (l .i) (a .n) (l .m) (l .m - l .m / 2) (l .inv .1) refl,
       ap (λ (j : ℕ). take (k * j) (w .last .1 .1 .0)) (sym u) ∙ w .ensures .0 ∙ ap (lowOf (a .f)) (l .inv .2) ∙ sym (approx-after (a .f) (l .i) x) ∙ ap (λ (j : ℕ). approxAt (a .f) j x) s,
@@ -74,8 +73,7 @@ returns c =
     let k = widthOf (a .f) in
     let l = c .before .loop in
     let e : l .i ≡ a .levels = omega (arith, l .inv .0, c .loop-test) in
-    let x = take (k * a .n) (a .one .now) in
-    (
+    let x = take (k * a .n) (a .one .now) in (
       ap (λ (j : ℕ). take (k * j) (l .one)) (sym (l .inv .1 ∙ ap (λ (j : ℕ). places j (a .n)) e)) ∙ l .inv .2 ∙ ap (λ (j : ℕ). approxAt (a .f) j x) e,
       (l .inv .3, l .inv .4),
     )

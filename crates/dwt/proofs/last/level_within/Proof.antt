@@ -36,8 +36,7 @@ returns c =
     let long : length r ≡ k * a .n = w .kept .1 .1 .0 ∙ one-part (c .before .before .before .before .before .before .before) in
     let cut : length d ≡ c .before .before .before .before .before .before .before .bytes-of2 .result = w .kept .1 .1 .1 .0 ∙ two-part (c .before .before .before .before .before .before .before) ∙ sym (c .before .before .before .before .before .before .before .bytes-of2 .ensures) in
     let room = rooms (c .before .before .before .before .before .before .before .before) in
-    let low = front-long (lowOf (a .f) x) x r (k * ups (a .n)) (w .ensures .0) (w .kept .1 .1 .0) (omega (arith, one-part (c .before .before .before .before .before .before .before), room)) in
-    (
+    let low = front-long (lowOf (a .f) x) x r (k * ups (a .n)) (w .ensures .0) (w .kept .1 .1 .0) (omega (arith, one-part (c .before .before .before .before .before .before .before), room)) in (
       ap (λ (j : ℕ). take (k * ups (a .n)) (r ++ drop j (a .one .now))) e
           ∙ front-back (a .one .now) r (k * ups (a .n)) (k * a .n) (room .1) long .0
           ∙ ap (take (k * ups (a .n))) (w .ensures .0)
