@@ -3,5 +3,4 @@ pub mod cdf53f;
 pub mod cdf97f;
 mod double;
 mod mla;
-mod places;
 mod single;
