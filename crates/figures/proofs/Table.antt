@@ -8,10 +8,11 @@ use Rattle.samples.specs.Integers.{val, residue, wrap, decode, encode}
 use Rattle.cdf53i.specs.Lift.{detail, details, approx, approxs, even, odd, sample, restored}
 use Rattle.cdf53i.specs.Bands.{low, high, back}
 use Rattle.cdf53i.specs.T800 as t800
-use Rattle.figures.specs.Worked.{OneLevel, Worked}
+use Rattle.dwt.specs.Pyramids.{approxAt, pyramid, samplesOf}
+use Rattle.figures.specs.Worked.{OneLevel, TwoLevels, Worked}
 
 pub worked : Worked
-unfolding leAt leBytes tabulate wordAt wordsOf bytesOf val residue wrap decode encode detail details approx approxs even odd sample restored low high back t800.pse t800.extended t800.high
+unfolding leAt leBytes tabulate wordAt wordsOf bytesOf val residue wrap decode encode detail details approx approxs even odd sample restored low high back approxAt pyramid samplesOf t800.pse t800.extended t800.high
 worked =
     record {
       p1 = record { low = refl; high = refl; back = refl };
@@ -19,6 +20,6 @@ worked =
       p3 = record { low = refl; high = refl; back = refl };
       p3-t800 = refl;
       p4 = record { low = refl; high = refl; back = refl };
-      p5-level1 = record { low = refl; high = refl; back = refl };
-      p5-level2 = record { low = refl; high = refl; back = refl };
+      p5 = record { down = refl; back = refl };
+      p5-level1 = refl;
     }
