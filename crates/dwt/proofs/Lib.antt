@@ -5,3 +5,8 @@ pub mod PyramidLaws
 pub mod Multi
 pub mod Rises
 pub mod Backs
+pub mod Lengths
+pub mod Trips
+pub mod Undone
+pub mod Fitting
+pub mod ThereAndBack
