@@ -2,14 +2,15 @@
 -- Assumes nothing.
 use mathlib.Core.List.{List, [], _∷_, _++_}
 use mathlib.Core.Path.{_≡_, refl, sym, ap, _∙_}
-use Prim.Native.Nat.{ℕ, zero, suc, _+_, _-_, _*_, _/_}
-use native.Mathlib.Nat.{mul-add, mul-zero, mul-div-right}
+use Prim.Native.Nat.{ℕ, zero, suc, _+_, _*_, _/_, _≤_}
+use native.Mathlib.Nat.{mul-add, mul-zero}
 use native.Mathlib.Omega.{arith}
 use lib.Ieee.{binary32, binary64}
-use lib.ListN.{length, length-append}
+use lib.ListN.{length, getD, length-append}
 use Rattle.sizes.specs.declared.Wavelet.the-variants.{Cdf53, Cdf97}
 use Rattle.sizes.specs.Bands.{ups, downs}
 use Rattle.sizes.specs.Levels.{places}
+use Rattle.samples.proofs.Words.{holds}
 use Rattle.cdf53i.proofs.Lengths as integer
 use Rattle.floats.proofs.Lengths as float
 use Rattle.dwt.specs.declared.filter.Filter.{Filter}
@@ -48,9 +49,9 @@ back-size Cdf53F64 a d = float.length-back binary64 Cdf53 a d
 back-size Cdf97F32 a d = float.length-back binary32 Cdf97 a d
 back-size Cdf97F64 a d = float.length-back binary64 Cdf97 a d
 
--- n samples in whole bytes
+-- how many samples whole bytes are
 counted : (f : Filter) (s : List ℕ) (n : ℕ) → length s ≡ widthOf f * n → length s / widthOf f ≡ n
-counted f s n e = rw e (mul-div-right n (width-pos f))
+counted f s n e = holds (width-pos f) s n e .count
 
 module _ (f : Filter) where
   -- the approximations of n samples
@@ -91,6 +92,13 @@ pub total-append : (ms ns : List ℕ) → total (ms ++ ns) ≡ total ms + total 
 unfolding total
 total-append [] ns = omega arith
 total-append (m ∷ ms) ns = omega (arith, total-append ms ns)
+
+-- none of them is more than all
+pub at-most-total : (ms : List ℕ) (i : ℕ) → getD ms i 0 ≤ total ms
+unfolding total
+at-most-total [] i = omega arith
+at-most-total (m ∷ ms) zero = omega arith
+at-most-total (m ∷ ms) (suc i) = omega (arith, at-most-total ms i)
 
 -- l levels have l lengths
 pub length-lengths : (l n : ℕ) → length (lengthsOf l n) ≡ l

@@ -4,22 +4,22 @@
 -- Assumes nothing.
 use mathlib.Core.Bool.{true}
 use mathlib.Core.List.{List, _++_}
-use mathlib.Core.Path.{_≡_, sym, ap, _∙_}
-use Prim.Native.Nat.{ℕ, suc, _+_, _-_, _*_, _/_, _≤_, _<_}
-use native.Mathlib.Nat.{mul-add}
+use mathlib.Core.Path.{_≡_, refl, sym, ap, _∙_}
+use Prim.Native.Nat.{ℕ, suc, _+_, _-_, _*_, _/_, _%_, _^_, _≤_, _<_}
+use native.Mathlib.Nat.{mul-add, mod-eq-of-lt}
 use native.Mathlib.Omega.{arith}
 use borrow.Author.Tests.{ne-eqb}
-use lib.ListN.{length, take, drop}
+use lib.ListN.{length, getD, take, drop}
 use Rattle.answers.specs.declared.err.Answer.{Answer}
 use Rattle.answers.specs.declared.err.Refusal.{Refusal}
 use Rattle.answers.specs.declared.err.Refusal.the-variants.{Done}
 use Rattle.answers.specs.Answers.{answerOf, done}
 use Rattle.answers.proofs.Endings.{left-done}
-use Rattle.sizes.specs.Bands.{downs}
+use Rattle.sizes.specs.Bands.{mostSamples, downs}
 use Rattle.sizes.specs.Levels.{places, depthOf, levelsOf}
 use Rattle.samples.specs.Le.{Bytes}
-use Rattle.samples.specs.Words.{wordsOf}
-use Rattle.samples.proofs.Words.{length-words}
+use Rattle.samples.specs.Words.{tabulate, wordsOf, bytesOf}
+use Rattle.samples.proofs.Words.{tabulate-same, tabulate-getD, length-words, length-bytes, words-bytes}
 use Rattle.dwt.specs.declared.filter.Filter.{Filter}
 use Rattle.dwt.specs.Filters.{widthOf, waveletOf, lowOf, highOf}
 use Rattle.dwt.specs.Pyramids.{approxAt, pyramid, samplesOf, detailsAt, lengthsOf, roundTrip}
@@ -27,7 +27,7 @@ use Rattle.dwt.specs.Calls.{sayMulti, Multi, sayDwt, Dwt, Ready}
 use Rattle.dwt.specs.Backward.{total, sayBack, MultiBack}
 use Rattle.dwt.proofs.Multi.{multi-ready}
 use Rattle.dwt.proofs.Backs.{back-ready}
-use Rattle.dwt.proofs.Lengths.{length-approx, length-details, places-total}
+use Rattle.dwt.proofs.Lengths.{length-approx, length-details, length-lengths, places-total, at-most-total}
 use Rattle.dwt.proofs.Trips.{approx-deeper, approx-part, details-part, level-part, samples-trip, length-samples}
 use Rattle.dwt.proofs.Undone.{Integers, undoes, trip-is, pyramid-again}
 use Rattle.dwt.proofs.Fitting.{lengths-fit, fits-depth, back-fits, multi-fits}
@@ -41,6 +41,33 @@ pub record Area (k b : ℕ) (s : List ℕ) : Type 0 where
 pub record LengthsIn (l n : ℕ) (ls : List ℕ) : Type 0 where
   pub lengths : wordsOf 4 ls ≡ lengthsOf l n
   pub size : length ls ≡ 4 * l
+
+-- there are such: the bytes of the lengths
+pub lengths-in : (l n : ℕ) → n ≤ mostSamples → LengthsIn l n (bytesOf 4 (lengthsOf l n))
+lengths-in l n h =
+    record {
+      lengths =
+          ap (λ (us : List ℕ). wordsOf 4 (bytesOf 4 us)) (sym table)
+          ∙ words-bytes 4 (omega arith) j g
+          ∙ tabulate-same j (λ i. g i % 256 ^ 4) g (λ i q. mod-eq-of-lt (small i))
+          ∙ table;
+      size = length-bytes 4 ms ∙ ap (λ (i : ℕ). 4 * i) (length-lengths l n);
+    }
+  where
+    ms : List ℕ
+    ms = lengthsOf l n
+
+    j : ℕ
+    j = length ms
+
+    g : ℕ → ℕ
+    g i = getD ms i 0
+
+    table : tabulate j g ≡ ms
+    table = tabulate-getD ms 0
+
+    small : (i : ℕ) → g i < 256 ^ 4
+    small i = let c : 256 ^ 4 ≡ 4294967296 = refl in omega (arith, at-most-total ms i, places-total l n)
 
 -- ---- `multi_dwt` is done with the samples x
 
