@@ -71,15 +71,12 @@ bytes-of k [] = record { byte = λ i. omega arith }
 bytes-of k (u ∷ us) = bytes-join (leBytes k u) (bytesOf k us) (record { byte = bytes-leBytes k u }) (bytes-of k us)
 
 module _ (k : ℕ) where
-  -- what the filter stores is bytes, whatever it was given
+  -- the approximations are bytes, whatever the filter was given
   pub bytes-low : (x : List ℕ) → Bytes (low k x)
   unfolding low encode
   bytes-low x = bytes-of k _
 
-  pub bytes-high : (x : List ℕ) → Bytes (high k x)
-  unfolding high encode
-  bytes-high x = bytes-of k _
-
+  -- and so are the samples
   pub bytes-back : (a d : List ℕ) → Bytes (back k a d)
   unfolding back encode
   bytes-back a d = bytes-of k _

@@ -88,6 +88,7 @@ module _ (f : Filter) where
 
 -- ---- lengths of levels
 
+-- of two lists joined
 pub total-append : (ms ns : List ℕ) → total (ms ++ ns) ≡ total ms + total ns
 unfolding total
 total-append [] ns = omega arith

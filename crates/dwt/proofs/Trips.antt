@@ -60,10 +60,11 @@ module _ (f : Filter) where
       ∙ length-append (approxAt f l x) (detailsAt f l x)
       ∙ rw (length-approx f l x n e, length-details f l x n e, e) (sym s ∙ ap (λ (m : ℕ). widthOf f * m) (places-total l n))
 
-  -- where the two parts stand
+  -- where its approximations stand
   pub approx-part : (l : ℕ) (x : List ℕ) (n : ℕ) → length x ≡ widthOf f * n → take (widthOf f * places l n) (pyramid f l x) ≡ approxAt f l x
   approx-part l x n e = rw (pyramid-parts l x) (take-at (approxAt f l x) (detailsAt f l x) (widthOf f * places l n) (length-approx f l x n e))
 
+  -- where its details stand
   pub details-part : (l : ℕ) (x : List ℕ) (n : ℕ) → length x ≡ widthOf f * n → drop (widthOf f * places l n) (pyramid f l x) ≡ detailsAt f l x
   details-part l x n e = rw (pyramid-parts l x) (drop-at (approxAt f l x) (detailsAt f l x) (widthOf f * places l n) (length-approx f l x n e))
 

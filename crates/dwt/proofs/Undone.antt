@@ -39,6 +39,7 @@ pub record Undoing (k : ℕ) (low high : List ℕ → List ℕ) (back : List ℕ
   pub low-bytes : (x : List ℕ) → Bytes (low x)
   pub back-bytes : (a d : List ℕ) → Bytes (back a d)
 
+-- of a filter
 abbrev pub Undoes : Filter → Type 0
 Undoes f = Undoing (widthOf f) (lowOf f) (highOf f) (backOf f)
 
@@ -129,11 +130,14 @@ module _ (f : Filter) (u : Undoes f) where
 
   -- bands a and d of n approximations and of details of the lengths ms
   module _ (ms : List ℕ) (a d : List ℕ) (n : ℕ) (p : Bytes a) (q : Bytes d) (ea : length a ≡ widthOf f * n) (ed : length d ≡ widthOf f * total ms) (h : Fits (waveletOf f) n ms) where
+    -- the approximations of their samples are a
     pub approx-again : approxAt f (length ms) (samplesOf f a d ms) ≡ a
     approx-again = again ms a d n p q ea ed h .0
 
+    -- the details are d
     pub details-again : detailsAt f (length ms) (samplesOf f a d ms) ≡ d
     details-again = again ms a d n p q ea ed h .1
 
+    -- the pyramid is both
     pub pyramid-again : pyramid f (length ms) (samplesOf f a d ms) ≡ a ++ d
     pyramid-again = pyramid-parts f (length ms) (samplesOf f a d ms) ∙ ap₂ (λ (y z : List ℕ). y ++ z) approx-again details-again

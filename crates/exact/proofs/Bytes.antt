@@ -25,28 +25,34 @@ use Rattle.exact.proofs.Level.{details-exact, approximations-exact, inv
 module _ (f : Format) where
   -- ---- one level, any wavelet
 
+  -- the floats of the approximations
   pub decode-low : (w : Wavelet) (s : List ℕ) → decodeFloats f (low f w s) ≡ approxs f w (decodeFloats f s)
   unfolding low approxs
   decode-low w s = fit-runA f (stepsOf f w) _ _ (fit-even f s) (fit-odd f s)
 
+  -- of the details
   pub decode-high : (w : Wavelet) (s : List ℕ) → decodeFloats f (high f w s) ≡ details f w (decodeFloats f s)
   unfolding high details
   decode-high w s = fit-runD f (stepsOf f w) _ _ (fit-even f s) (fit-odd f s)
 
+  -- and of the samples of two bands
   pub decode-back : (w : Wavelet) (a d : List ℕ) → decodeFloats f (back f w a d) ≡ restored f w (decodeFloats f a) (decodeFloats f d)
   unfolding back restored
   decode-back w a d = fit-joined f _ _ (fit-runA f (backOf f w) _ _ (fit-decode f a) (fit-decode f d)) (fit-runD f (backOf f w) _ _ (fit-decode f a) (fit-decode f d))
 
 -- ---- one level of the 5/3 filter of the format
 
+-- its approximations
 pub low-53 : (f : Format) (s : List ℕ) → lowOf (filter53 f) s ≡ low f Cdf53 s
 low-53 binary32 s = refl
 low-53 binary64 s = refl
 
+-- its details
 pub high-53 : (f : Format) (s : List ℕ) → highOf (filter53 f) s ≡ high f Cdf53 s
 high-53 binary32 s = refl
 high-53 binary64 s = refl
 
+-- the samples of two bands
 pub back-53 : (f : Format) (a d : List ℕ) → filter.backOf (filter53 f) a d ≡ back f Cdf53 a d
 back-53 binary32 a d = refl
 back-53 binary64 a d = refl

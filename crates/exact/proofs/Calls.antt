@@ -53,6 +53,7 @@ module _ (f : Format) (l : ℕ) (x : List ℕ) {o u v : List ℕ} {r : Answer} {
     (lengths : LengthsIn (levelsOf l) (samplesIn f x) ls) (output : length p ≡ length x) (first : Area (widthOf (filter53 f)) (length x) s) (second : Area (widthOf (filter53 f)) (length x) t)
     (back : MultiBack (filter53 f) (deepest f (levelsOf l) x o′) (allDetails f (levelsOf l) x o′) ls p s t q p′ s′ t′)
   where
+    -- it is done, and each of the two gives what the exact case promises
     pub exact-call : 4 * levelsOf l ≤ prec f → Inputs (most f (levelsOf l)) (decodeFloats f x) → (q ≡ answerOf (Done 0 0)) × ExactBytes f (levelsOf l) x o′ p′
     exact-call few inputs = (
       trip .0,

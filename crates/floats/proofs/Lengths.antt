@@ -18,20 +18,24 @@ use Rattle.floats.proofs.Runs.{length-runA, length-runD}
 module _ (f : Format) (w : Wavelet) where
   -- ---- of floats
 
+  -- the approximations
   pub length-approxs : (x : List Float) → length (approxs f w x) ≡ ups (length x)
   unfolding approxs
   length-approxs x = length-runA f (stepsOf f w) _ _ ∙ length-even nan x
 
+  -- the details
   pub length-details : (x : List Float) → length (details f w x) ≡ downs (length x)
   unfolding details
   length-details x = length-runD f (stepsOf f w) _ _ ∙ length-odd nan x
 
+  -- the samples of two bands
   pub length-restored : (a d : List Float) → length (restored f w a d) ≡ length a + length d
   unfolding restored
   length-restored a d = length-joined nan _ _ ∙ rw (length-runA f (backOf f w) a d, length-runD f (backOf f w) a d)
 
-  -- ---- of bytes: the approximations of a list of bytes
+  -- ---- of bytes
 
+  -- the approximations of a list of bytes
   pub length-low : (x : List ℕ) → length (low f w x) ≡ width f * ups (length x / width f)
   unfolding low
   length-low x = length-encodeFloats f _ ∙ ap (λ n. width f * n) (length-approxs (decodeFloats f x) ∙ ap ups (length-decodeFloats f x))
