@@ -6,3 +6,4 @@ pub mod Insides
 pub mod Undo
 pub mod Round
 pub mod Ready
+pub mod Lengths

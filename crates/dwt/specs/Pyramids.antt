@@ -3,6 +3,7 @@
 use mathlib.Core.List.{List, [], _∷_, _++_}
 use Prim.Native.Nat.{ℕ, zero, suc, _*_}
 use lib.ListN.{take, drop}
+use Rattle.sizes.specs.Bands.{ups, downs}
 use Rattle.dwt.specs.declared.filter.Filter.{Filter}
 use Rattle.dwt.specs.Filters.{widthOf, lowOf, highOf, backOf}
 
@@ -20,3 +21,18 @@ pyramid f (suc l) x = pyramid f l (lowOf f x) ++ highOf f x
 unfoldable pub samplesOf : Filter → List ℕ → List ℕ → List ℕ → List ℕ
 samplesOf f a d [] = a
 samplesOf f a d (m ∷ ms) = samplesOf f (backOf f a (take (widthOf f * m) d)) (drop (widthOf f * m) d) ms
+
+-- "details deepest first": all that l levels make
+unfoldable pub detailsAt : Filter → ℕ → List ℕ → List ℕ
+detailsAt f zero x = []
+detailsAt f (suc l) x = detailsAt f l (lowOf f x) ++ highOf f x
+
+-- how many details each of l levels of n samples has, deepest first
+unfoldable pub lengthsOf : ℕ → ℕ → List ℕ
+lengthsOf zero n = []
+lengthsOf (suc l) n = lengthsOf l (ups n) ++ (downs n ∷ [])
+
+-- l levels forward, and back again
+unfoldable pub roundTrip : Filter → ℕ → List ℕ → List ℕ
+roundTrip f zero x = x
+roundTrip f (suc l) x = backOf f (roundTrip f l (lowOf f x)) (highOf f x)

@@ -17,30 +17,14 @@ use Rattle.answers.proofs.Order.{lt-or-le}
 use Rattle.samples.specs.Words.{tabulate}
 use Rattle.samples.specs.Halves.{evenOf, oddOf, joined}
 use Rattle.samples.proofs.Words.{length-tabulate, getD-tabulate}
+use Rattle.samples.proofs.Halves.{length-even, length-odd, at-even, at-odd}
 use Rattle.floats.specs.Steps.{oddAt, evenAt, odds, evens, lift}
 use Rattle.floats.specs.Filters.{decimal, steps53, back53}
 use Rattle.floats.specs.Bands.{approxs, details, restored}
 use Rattle.exact.specs.Exact.{Whole, Are, Room, detail, approx, details2, approximations8}
 use Rattle.exact.proofs.Scalar.{detail-exact, approx-exact, even-back, odd-back, minus-half, quarter, minus-quarter, half}
 
--- ---- halves of a list, and how long the bands are
-
-module _ {A : Type 0} (z : A) where
-  pub length-even : (x : List A) → length (evenOf z x) ≡ (length x + 1) / 2
-  unfolding evenOf
-  length-even x = length-tabulate _ _
-
-  pub length-odd : (x : List A) → length (oddOf z x) ≡ length x / 2
-  unfolding oddOf
-  length-odd x = length-tabulate _ _
-
-  at-even : (x : List A) (i : ℕ) → i < (length x + 1) / 2 → getD (evenOf z x) i z ≡ getD x (2 * i) z
-  unfolding evenOf
-  at-even x i l = getD-tabulate _ _ i z l
-
-  at-odd : (x : List A) (i : ℕ) → i < length x / 2 → getD (oddOf z x) i z ≡ getD x (2 * i + 1) z
-  unfolding oddOf
-  at-odd x i l = getD-tabulate _ _ i z l
+-- ---- how long the bands are
 
 pub length-details2 : (z : List ℤ) → length (details2 z) ≡ length z / 2
 unfolding details2 odds
@@ -87,13 +71,13 @@ module _ (k b : ℕ) where
       from-even i l h =
           let q : i / 2 < (length z + 1) / 2 = omega arith in
           let p : 2 * (i / 2) ≡ i = omega arith in
-          rw (eq-eqb (i % 2) 0 (omega arith)) (rw (at-even (pos 0) z (i / 2) q, p) at (ra .each (i / 2) (rw (length-even (pos 0) z) q)))
+          rw (eq-eqb (i % 2) 0 (omega arith)) (rw (at-even (pos 0) z (i / 2) (omega arith), p) at (ra .each (i / 2) (rw (length-even (pos 0) z) q)))
 
       from-odd : (i : ℕ) → i < length z → 1 ≤ i % 2 → Whole k b (at i) (getD z i (pos 0))
       from-odd i l h =
           let q : i / 2 < length z / 2 = omega arith in
           let p : 2 * (i / 2) + 1 ≡ i = omega arith in
-          rw (ne-eqb (i % 2) 0 (λ n. omega arith)) (rw (at-odd (pos 0) z (i / 2) q, p) at (rd .each (i / 2) (rw (length-odd (pos 0) z) q)))
+          rw (ne-eqb (i % 2) 0 (λ n. omega arith)) (rw (at-odd (pos 0) z (i / 2) (omega arith), p) at (rd .each (i / 2) (rw (length-odd (pos 0) z) q)))
 
 -- a step on floats that is exact at each entry is exact on lists
 module _ (k₁ b₁ k₂ b₂ k₃ b₃ : ℕ) (g : Float → Float → Float → Float) (h : ℤ → ℤ → ℤ → ℤ)
@@ -113,10 +97,10 @@ abbrev Small : ℕ → List ℤ → Type 0
 Small b z = (i : ℕ) → i < length z → natAbs (getD z i (pos 0)) ≤ b
 
 small-even : (b : ℕ) (z : List ℤ) → Small b z → Small b (evenOf (pos 0) z)
-small-even b z small i l = let q : i < (length z + 1) / 2 = rw (length-even (pos 0) z) at l in rw (at-even (pos 0) z i q) (small (2 * i) (omega arith))
+small-even b z small i l = let q : i < (length z + 1) / 2 = rw (length-even (pos 0) z) at l in rw (at-even (pos 0) z i (omega arith)) (small (2 * i) (omega arith))
 
 small-odd : (b : ℕ) (z : List ℤ) → Small b z → Small b (oddOf (pos 0) z)
-small-odd b z small i l = let q : i < length z / 2 = rw (length-odd (pos 0) z) at l in rw (at-odd (pos 0) z i q) (small (2 * i + 1) (omega arith))
+small-odd b z small i l = let q : i < length z / 2 = rw (length-odd (pos 0) z) at l in rw (at-odd (pos 0) z i (omega arith)) (small (2 * i + 1) (omega arith))
 
 -- ---- one level is exact, and its inverse gives the inputs back
 

@@ -5,3 +5,4 @@ pub mod Level
 pub mod Many
 pub mod Inputs
 pub mod Bytes
+pub mod Calls

@@ -8,3 +8,4 @@ pub mod Insides
 pub mod Lanes
 pub mod RunsOn
 pub mod Figures
+pub mod Lengths
