@@ -404,24 +404,22 @@ def exact_levels(random, rounds):
 
 # Many levels, then back from what the desk answered, as in there_and_back.
 def levels_and_back(random, verb, inputs):
-    there, back = LEVELS_CALLS[verb], LEVELS_CALLS[LEVELS_BACK[verb]]
     for chunk in chunks(inputs, lambda item: len(item[1]) + 40):
-        answers = yield [(there(random, *item), None) for item in chunk]
+        answers = yield [(LEVELS_CALLS[verb](random, *item), None) for item in chunk]
         done = [pair for pair in zip(chunk, answers) if pair[1].startswith("0 0 0 ")]
-        yield [
-            (back(random, filter, unworded(answer.split(" ")[3]), levels), wanted_back(verb, filter, data, levels))
-            for (filter, data, levels), answer in done
-        ]
+        yield [back_again(random, verb, *pair) for pair in done]
+
+
+# The other way on what the desk answered, and what that must give back.
+def back_again(random, verb, item, answer):
+    filter, data, levels = item
+    request = LEVELS_CALLS[LEVELS_BACK[verb]](random, filter, unworded(answer.split(" ")[3]), levels)
+    given = restored(verb, filter, data, levels)
+    return request, given and f"0 0 0 {word(given)} - -"
 
 
 def unworded(word):
     return bytes.fromhex(word[1:])
-
-
-# What one level or many and then the other way give back, in one slice and two work areas.
-def wanted_back(verb, filter, data, levels):
-    given = restored(verb, filter, data, levels)
-    return given and f"0 0 0 {word(given)} - -"
 
 
 # Slices of wrong lengths by samples and by bytes, and work areas that are exactly full or one short.
