@@ -1,9 +1,9 @@
 -- Bytes of the two bands of n samples. Assumes nothing.
 use mathlib.Core.Path.{_≡_, ap, _∙_}
-use Prim.Native.Nat.{ℕ, _+_, _*_, _≤_, _<_}
+use Prim.Native.Nat.{ℕ, _+_, _*_, _^_, _≤_, _<_}
 use native.Mathlib.Nat.{mul-add}
 use native.Mathlib.Omega.{arith}
-use Rattle.sizes.specs.Bands.{ups, downs}
+use Rattle.sizes.specs.Bands.{mostSamples, ups, downs}
 use Rattle.dwt.specs.declared.filter.Filter.{Filter}
 use Rattle.dwt.specs.declared.filter.Filter.the-variants.{Cdf53I8, Cdf53I16, Cdf53I32, Cdf53F32, Cdf53F64, Cdf97F32, Cdf97F64}
 use Rattle.dwt.specs.Filters.{widthOf}
@@ -17,6 +17,16 @@ width-pos Cdf53F32 = omega arith
 width-pos Cdf53F64 = omega arith
 width-pos Cdf97F32 = omega arith
 width-pos Cdf97F64 = omega arith
+
+-- no number of samples takes too many bytes
+pub width-room : (f : Filter) (n : ℕ) → n ≤ mostSamples → widthOf f * n < 2 ^ 63
+width-room Cdf53I8 n h = omega arith
+width-room Cdf53I16 n h = omega arith
+width-room Cdf53I32 n h = omega arith
+width-room Cdf53F32 n h = omega arith
+width-room Cdf53F64 n h = omega arith
+width-room Cdf97F32 n h = omega arith
+width-room Cdf97F64 n h = omega arith
 
 pub split-width : (k n : ℕ) → k * n ≡ k * ups n + k * downs n
 split-width k n = let e : n ≡ ups n + downs n = omega arith in ap (λ m. k * m) e ∙ mul-add k (ups n) (downs n)

@@ -5,3 +5,4 @@ pub mod PyramidLaws
 pub mod Multi
 pub mod Rises
 pub mod Backs
+pub mod Lasts

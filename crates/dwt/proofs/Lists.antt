@@ -5,7 +5,7 @@ use Prim.Native.Nat.{ℕ, _+_, _-_, _*_, _/_, _≤_, _<_}
 use native.Mathlib.Nat.{add-sub-of-le}
 use native.Mathlib.Omega.{arith}
 use lib.ListN.{length, take, drop, length-take, length-drop, length-append, drop-of-length-le}
-use lib.Seq.{take-all, take-at, drop-at, drop-drop, length-take-le}
+use lib.Seq.{take-all, take-at, drop-at, drop-drop, length-take-le, take-append-le}
 
 -- a part up to the end comes back
 pub put-end : (a : ℕ) (xs ys : List ℕ) → a ≤ length xs → take a xs ++ (ys ++ drop (length xs - a) (drop a xs)) ≡ take a xs ++ ys
@@ -28,6 +28,14 @@ pub copied : (s d : List ℕ) → length s ≡ length d → take (length s) s ++
 copied s d e =
     let h : length d ≤ length s = omega arith in
     ap (λ (l : List ℕ). take (length s) s ++ l) (drop-of-length-le d h) ∙ append-nil (take (length s) s) ∙ take-all (length s) s (omega arith)
+
+-- a front that comes back, at a place in it and at one past it
+pub front-back : (x r : List ℕ) (j n : ℕ) → j ≤ n → length r ≡ n → (take j (r ++ drop n x) ≡ take j r) × (drop n (r ++ drop n x) ≡ drop n x)
+front-back x r j n h e = (take-append-le j r (drop n x) (omega arith), drop-at r (drop n x) n e)
+
+-- the length of a front that was written over the first j
+pub front-long : (l x r : List ℕ) (j : ℕ) → r ≡ l ++ drop j x → length r ≡ length x → j ≤ length x → length l ≡ j
+front-long l x r j e h k = let g = ap length e ∙ length-append l (drop j x) in omega (arith, g, length-drop j x)
 
 -- a copy over the front: what the front holds, and what comes after
 pub copied-front : (s d : List ℕ) (n : ℕ) → n ≡ length s → take n (take (length s) s ++ drop (length s) d) ≡ s

@@ -7,7 +7,7 @@ use lib.ListN.{length, take, drop}
 use lib.Seq.{take-at, drop-at, length-take-le}
 use Rattle.dwt.specs.declared.filter.Filter.{Filter}
 use Rattle.dwt.specs.Filters.{lowOf, highOf}
-use Rattle.dwt.specs.Pyramids.{pyramid}
+use Rattle.dwt.specs.Pyramids.{approxAt, pyramid}
 
 pub pyramid-none : (f : Filter) (l : ℕ) (x : List ℕ) → l ≡ 0 → pyramid f l x ≡ x
 unfolding pyramid
@@ -22,3 +22,9 @@ pyramid-more f l x o t r cut p h e q =
     ap (λ (k : List ℕ). r ++ k) (drop-at (take cut o) (highOf f x) cut (length-take-le cut o h))
     ∙ ap (λ (k : List ℕ). k ++ highOf f x) (q ∙ ap (λ (k : List ℕ). pyramid f (l - 1) k) (take-at (lowOf f x) t cut e))
     ∙ ap (λ (k : ℕ). pyramid f k x) s
+
+-- one level more, at the end
+pub approx-after : (f : Filter) (l : ℕ) (x : List ℕ) → approxAt f (suc l) x ≡ lowOf f (approxAt f l x)
+unfolding approxAt
+approx-after f zero x = refl
+approx-after f (suc l) x = approx-after f l (lowOf f x)

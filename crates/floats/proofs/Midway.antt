@@ -3,17 +3,17 @@ use mathlib.Core.Bool.{cond}
 use mathlib.Core.List.{List}
 use mathlib.Core.Logic.{⊎-elim}
 use mathlib.Core.Path.{_≡_, sym, ap, _∙_}
-use Prim.Native.Nat.{ℕ, _+_, _≤_, _<_}
+use Prim.Native.Nat.{ℕ, _+_, _/_, _≤_, _<_}
 use native.Mathlib.Omega.{arith}
 use borrow.Author.Tests.{lt-ltb, le-ltb}
-use lib.Dec.{ltb}
-use lib.Ieee.{Float, nan, Format}
+use lib.Dec.{T, ltb}
+use lib.Ieee.{Float, nan, Format, fits}
 use lib.ListN.{length, getD}
 use Rattle.answers.proofs.Order.{lt-or-le}
 use Rattle.samples.specs.Words.{tabulate, Holds}
-use Rattle.samples.specs.Floats.{width, floatAt, putFloat, decodeFloats, encodeFloats}
+use Rattle.samples.specs.Floats.{width, floatAt, putFloat, decodeFloats, encodeFloats, Plain}
 use Rattle.samples.proofs.Words.{tabulate-same, tabulate-getD, holds-on}
-use Rattle.samples.proofs.FloatLaws.{length-putFloat, length-decodeFloats, floatAt-encode, put-encode}
+use Rattle.samples.proofs.FloatLaws.{length-putFloat, length-decodeFloats, floatAt-encode, plain-encode, put-encode}
 use Rattle.floats.specs.Loops.{Stored}
 use Rattle.floats.proofs.Fits.{getD-fits}
 
@@ -90,13 +90,39 @@ module _ {f : Format} {n : ℕ} where
     pub midway-all : n ≤ j → s ≡ encodeFloats f (tabulate n new)
     midway-all h = m .bytes ∙ ap (encodeFloats f) (tabulate-same n (mix new old j) new (λ i l. mix-new new old j i (omega arith)))
 
--- a float that is not passed yet, or that stays, is still the old one
+-- a float that is not passed yet, or that stays, is still the old one, and stands as it is written
 module _ {f : Format} {n j : ℕ} {new : ℕ → Float} {s : List ℕ} (t : List ℕ) (m : Midway f n j new (floatsOf f t) s) (i : ℕ) (l : i < n) where
-  same : mix new (floatsOf f t) j i ≡ floatsOf f t i → floatAt f s i ≡ floatsOf f t i
-  same e = rw (m .bytes) (floatAt-encode f n (mix new (floatsOf f t) j) i l (rw e (getD-fits f t i)) ∙ e)
+  module _ (e : mix new (floatsOf f t) j i ≡ floatsOf f t i) where
+    fit : T (fits f (mix new (floatsOf f t) j i))
+    fit = rw e (getD-fits f t i)
 
-  pub midway-later : j ≤ i → floatAt f s i ≡ floatsOf f t i
-  midway-later k = same (mix-old new (floatsOf f t) j i k)
+    same : floatAt f s i ≡ floatsOf f t i
+    same = rw (m .bytes) (floatAt-encode f n (mix new (floatsOf f t) j) i l fit ∙ e)
 
-  pub midway-kept : new i ≡ floatsOf f t i → floatAt f s i ≡ floatsOf f t i
-  midway-kept e = same (⊎-elim (λ k. mix-new new (floatsOf f t) j i k ∙ e) (λ k. mix-old new (floatsOf f t) j i k) (lt-or-le i j))
+    plain : Plain f s i
+    plain = rw (m .bytes) (plain-encode f n (mix new (floatsOf f t) j) i l fit)
+
+  module _ (k : j ≤ i) where
+    pub midway-later : floatAt f s i ≡ floatsOf f t i
+    midway-later = same (mix-old new (floatsOf f t) j i k)
+
+    pub later-plain : Plain f s i
+    later-plain = plain (mix-old new (floatsOf f t) j i k)
+
+  module _ (e : new i ≡ floatsOf f t i) where
+    stays : mix new (floatsOf f t) j i ≡ floatsOf f t i
+    stays = ⊎-elim (λ k. mix-new new (floatsOf f t) j i k ∙ e) (λ k. mix-old new (floatsOf f t) j i k) (lt-or-le i j)
+
+    pub midway-kept : floatAt f s i ≡ floatsOf f t i
+    midway-kept = same stays
+
+    pub kept-plain : Plain f s i
+    kept-plain = plain stays
+
+-- what reading or writing such a float asks; and of any float of a band
+module _ {f : Format} {n : ℕ} {s : List ℕ} where
+  pub midway-ready : {j i : ℕ} {new : ℕ → Float} (t : List ℕ) → Midway f n j new (floatsOf f t) s → j ≤ i → i < n → (i < length s / width f) × Plain f s i
+  midway-ready {i = i} t m k l = (rw (m .holds .count) l, later-plain t m i l k)
+
+  pub stored-ready : {i : ℕ} → Stored f n s → i < n → (i < length s / width f) × Plain f s i
+  stored-ready h l = midway-ready s (midway-none (floatsOf f s) h) (omega arith) l

@@ -1,7 +1,7 @@
 // Float 5/3, one level. Ported from osclet's src/cdf53f.rs.
 ghost use mathlib.Core.Path.{_≡_};
 ghost use mathlib.Core.List.{_++_, map};
-ghost use Prim.Native.Nat.{_+_, _*_, _/_};
+ghost use Prim.Native.Nat.{_*_, _/_};
 ghost use lib.Ieee.{binary32, binary64};
 ghost use lib.ListN.{length, drop};
 ghost use Rattle.sizes.specs.Bands.{ups};

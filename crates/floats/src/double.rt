@@ -1,24 +1,18 @@
 // The steps at f64: on two bands, as the forward call runs them, and on both bands in one list, as the inverse does. single.rt has the same at f32.
 ghost use mathlib.Core.Path.{_≡_};
-ghost use mathlib.Core.Bool.{cond};
 ghost use mathlib.Core.List.{[], _∷_, map};
-ghost use Prim.Native.Nat.{_/_, _%_, _<_};
-ghost use lib.Dec.{eqb};
+ghost use Prim.Native.Nat.{_/_, _<_};
 ghost use lib.ListN.{length};
-ghost use lib.Ieee.{binary64, nan};
+ghost use lib.Ieee.{binary64, nan, mul};
 ghost use Rattle.samples.specs.Halves.{evenOf, oddOf, joined};
-ghost use Rattle.samples.specs.Floats.{decodeFloats, encodeFloats};
+ghost use Rattle.samples.specs.Floats.{floatAt, putFloat, decodeFloats, encodeFloats, Plain};
 ghost use Rattle.floats.specs.Steps.{odds, evens, lift, scaled};
 ghost use Rattle.floats.specs.Loops.{Lent, Stored, Bands, Ran};
 ghost use Rattle.floats.specs.Lanes.{lane, scaledLanes, Lanes, RanOn};
 ghost use Rattle.floats.specs.Kinds.{kind64};
 use crate::mla::fmla_f64;
-use crate::places::left_of;
-use crate::places::next;
-use crate::places::previous;
-use crate::places::right_of;
-use crate::places::within;
-use samples::floats::get_f64;
+use samples::floats::copy_f64;
+use samples::floats::get_plain_f64;
 use samples::floats::put_f64;
 
 // A step, with its factors.
@@ -38,47 +32,72 @@ pub fn split_f64(x: &[u8], a: &mut [u8], d: &mut [u8])
     let m = n / 2;
     let mut i = 0;
     while i < m {
-        put_f64(a, i, get_f64(x, 2 * i));
-        put_f64(d, i, get_f64(x, 2 * i + 1));
+        copy_f64(a, i, x, 2 * i);
+        copy_f64(d, i, x, 2 * i + 1);
         i += 1;
     }
     if n % 2 == 1 {
-        put_f64(a, m, get_f64(x, 2 * m));
+        copy_f64(a, m, x, 2 * m);
     }
 }
 
-// "Odds c": each detail from the approximations on either side.
+// Float i of s from its neighbours.
+fn lift_at_f64(s: &mut [u8], i: usize, left: f64, right: f64, c: f64)
+    requires { ⌜ i < length (now s) / 8 ⌝ }
+    requires { ⌜ Plain binary64 (now s) i ⌝ }
+    ensures { λ _. ⌜ now (s .exit) ≡ putFloat binary64 (now (s .entry)) i (lift binary64 c left right (floatAt binary64 (now (s .entry)) i)) ⌝ }
+{
+    let x = get_plain_f64(s, i);
+    put_f64(s, i, fmla_f64(left + right, c, x));
+}
+
+// "Odds c": each detail from the approximations on either side. The mirrored end stays out of the loop, so that LLVM takes several floats at a time.
 fn dwt97_forward_update_odd_f64(a: &[u8], d: &mut [u8], c: f64)
     requires { ⌜ Bands binary64 (now a) (now d) ⌝ }
     ensures { λ _. ⌜ now (d .exit) ≡ encodeFloats binary64 (odds (lift binary64 c) nan (decodeFloats binary64 (now (a .entry))) (decodeFloats binary64 (now (d .entry)))) ⌝ }
 {
     let na = a.len() / 8;
-    let nd = d.len() / 8;
+    let last = d.len() / 8 - 1;
     let mut i = 0;
-    while i < nd {
-        let left = get_f64(a, i);
-        let right = get_f64(a, next(i, na));
-        let x = get_f64(d, i);
-        put_f64(d, i, fmla_f64(left + right, c, x));
+    while i < last {
+        let left = get_plain_f64(a, i);
+        let right = get_plain_f64(a, i + 1);
+        lift_at_f64(d, i, left, right, c);
         i += 1;
     }
+    let left = get_plain_f64(a, last);
+    let right = get_plain_f64(a, na - 1);
+    lift_at_f64(d, last, left, right, c);
 }
 
-// "Evens c": each approximation from the details on either side.
+// "Evens c": each approximation from the details on either side. The right neighbour is the next left one, so that the first place needs no turn of its own.
 fn dwt97_forward_update_even_f64(a: &mut [u8], d: &[u8], c: f64)
     requires { ⌜ Bands binary64 (now a) (now d) ⌝ }
     ensures { λ _. ⌜ now (a .exit) ≡ encodeFloats binary64 (evens (lift binary64 c) nan (decodeFloats binary64 (now (a .entry))) (decodeFloats binary64 (now (d .entry)))) ⌝ }
 {
     let na = a.len() / 8;
     let nd = d.len() / 8;
+    let mut left = get_plain_f64(d, 0);
     let mut i = 0;
-    while i < na {
-        let left = get_f64(d, previous(i));
-        let right = get_f64(d, within(i, nd));
-        let x = get_f64(a, i);
-        put_f64(a, i, fmla_f64(left + right, c, x));
+    while i < nd {
+        let right = get_plain_f64(d, i);
+        lift_at_f64(a, i, left, right, c);
+        left = right;
         i += 1;
     }
+    if nd < na {
+        lift_at_f64(a, nd, left, left, c);
+    }
+}
+
+// Float i of s times k.
+fn scale_at_f64(s: &mut [u8], i: usize, k: f64)
+    requires { ⌜ i < length (now s) / 8 ⌝ }
+    requires { ⌜ Plain binary64 (now s) i ⌝ }
+    ensures { λ _. ⌜ now (s .exit) ≡ putFloat binary64 (now (s .entry)) i (mul binary64 (floatAt binary64 (now (s .entry)) i) k) ⌝ }
+{
+    let x = get_plain_f64(s, i);
+    put_f64(s, i, x * k);
 }
 
 // Each float of a band times k.
@@ -89,8 +108,7 @@ fn dwt97_scale_f64(s: &mut [u8], k: f64)
     let n = s.len() / 8;
     let mut i = 0;
     while i < n {
-        let x = get_f64(s, i);
-        put_f64(s, i, x * k);
+        scale_at_f64(s, i, k);
         i += 1;
     }
 }
@@ -145,12 +163,12 @@ pub fn join_f64(a: &[u8], d: &[u8], x: &mut [u8])
     let m = n / 2;
     let mut i = 0;
     while i < m {
-        put_f64(x, 2 * i, get_f64(a, i));
-        put_f64(x, 2 * i + 1, get_f64(d, i));
+        copy_f64(x, 2 * i, a, i);
+        copy_f64(x, 2 * i + 1, d, i);
         i += 1;
     }
     if n % 2 == 1 {
-        put_f64(x, 2 * m, get_f64(a, m));
+        copy_f64(x, 2 * m, a, m);
     }
 }
 
@@ -161,21 +179,17 @@ fn lift_lane_f64(x: &mut [u8], start: usize, c: f64)
     ensures { λ _. ⌜ now (x .exit) ≡ encodeFloats binary64 (lane binary64 c start (decodeFloats binary64 (now (x .entry)))) ⌝ }
 {
     let n = x.len() / 8;
+    let mut left = get_plain_f64(x, 1 - start);
     let mut j = start;
-    while j < n {
-        let left = get_f64(x, left_of(j));
-        let right = get_f64(x, right_of(j, n));
-        let y = get_f64(x, j);
-        put_f64(x, j, fmla_f64(left + right, c, y));
+    while j + 1 < n {
+        let right = get_plain_f64(x, j + 1);
+        lift_at_f64(x, j, left, right, c);
+        left = right;
         j += 2;
     }
-}
-
-// The factor of place j: one for the even places and one for the odd.
-fn factor_f64(j: usize, even: f64, odd: f64) -> f64
-    ensures { λ r. ⌜ r ≡ cond (eqb (j % 2) 0) even odd ⌝ }
-{
-    if j % 2 == 0 { even } else { odd }
+    if j < n {
+        lift_at_f64(x, j, left, left, c);
+    }
 }
 
 // A scaling where both bands stand in x.
@@ -184,11 +198,15 @@ fn scale_lanes_f64(x: &mut [u8], k: f64, l: f64)
     ensures { λ _. ⌜ now (x .exit) ≡ encodeFloats binary64 (scaledLanes binary64 k l (decodeFloats binary64 (now (x .entry)))) ⌝ }
 {
     let n = x.len() / 8;
-    let mut j = 0;
-    while j < n {
-        let y = get_f64(x, j);
-        put_f64(x, j, y * factor_f64(j, k, l));
-        j += 1;
+    let m = n / 2;
+    let mut i = 0;
+    while i < m {
+        scale_at_f64(x, 2 * i, k);
+        scale_at_f64(x, 2 * i + 1, l);
+        i += 1;
+    }
+    if n % 2 == 1 {
+        scale_at_f64(x, 2 * m, k);
     }
 }
 

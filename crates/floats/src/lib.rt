@@ -3,6 +3,5 @@ pub mod cdf53f;
 pub mod cdf97f;
 mod double;
 mod mla;
-mod places;
 mod single;
 mod within;

@@ -1,24 +1,18 @@
 // The steps at f32: on two bands, as the forward call runs them, and on both bands in one list, as the inverse does. double.rt has the same at f64.
 ghost use mathlib.Core.Path.{_≡_};
-ghost use mathlib.Core.Bool.{cond};
 ghost use mathlib.Core.List.{[], _∷_, map};
-ghost use Prim.Native.Nat.{_/_, _%_, _<_};
-ghost use lib.Dec.{eqb};
+ghost use Prim.Native.Nat.{_/_, _<_};
 ghost use lib.ListN.{length};
-ghost use lib.Ieee.{binary32, nan};
+ghost use lib.Ieee.{binary32, nan, mul};
 ghost use Rattle.samples.specs.Halves.{evenOf, oddOf, joined};
-ghost use Rattle.samples.specs.Floats.{decodeFloats, encodeFloats};
+ghost use Rattle.samples.specs.Floats.{floatAt, putFloat, decodeFloats, encodeFloats, Plain};
 ghost use Rattle.floats.specs.Steps.{odds, evens, lift, scaled};
 ghost use Rattle.floats.specs.Loops.{Lent, Stored, Bands, Ran};
 ghost use Rattle.floats.specs.Lanes.{lane, scaledLanes, Lanes, RanOn};
 ghost use Rattle.floats.specs.Kinds.{kind32};
 use crate::mla::fmla_f32;
-use crate::places::left_of;
-use crate::places::next;
-use crate::places::previous;
-use crate::places::right_of;
-use crate::places::within;
-use samples::floats::get_f32;
+use samples::floats::copy_f32;
+use samples::floats::get_plain_f32;
 use samples::floats::put_f32;
 
 // A step, with its factors.
@@ -38,47 +32,72 @@ pub fn split_f32(x: &[u8], a: &mut [u8], d: &mut [u8])
     let m = n / 2;
     let mut i = 0;
     while i < m {
-        put_f32(a, i, get_f32(x, 2 * i));
-        put_f32(d, i, get_f32(x, 2 * i + 1));
+        copy_f32(a, i, x, 2 * i);
+        copy_f32(d, i, x, 2 * i + 1);
         i += 1;
     }
     if n % 2 == 1 {
-        put_f32(a, m, get_f32(x, 2 * m));
+        copy_f32(a, m, x, 2 * m);
     }
 }
 
-// "Odds c": each detail from the approximations on either side.
+// Float i of s from its neighbours.
+fn lift_at_f32(s: &mut [u8], i: usize, left: f32, right: f32, c: f32)
+    requires { ⌜ i < length (now s) / 4 ⌝ }
+    requires { ⌜ Plain binary32 (now s) i ⌝ }
+    ensures { λ _. ⌜ now (s .exit) ≡ putFloat binary32 (now (s .entry)) i (lift binary32 c left right (floatAt binary32 (now (s .entry)) i)) ⌝ }
+{
+    let x = get_plain_f32(s, i);
+    put_f32(s, i, fmla_f32(left + right, c, x));
+}
+
+// "Odds c": each detail from the approximations on either side. The mirrored end stays out of the loop, so that LLVM takes several floats at a time.
 fn dwt97_forward_update_odd_f32(a: &[u8], d: &mut [u8], c: f32)
     requires { ⌜ Bands binary32 (now a) (now d) ⌝ }
     ensures { λ _. ⌜ now (d .exit) ≡ encodeFloats binary32 (odds (lift binary32 c) nan (decodeFloats binary32 (now (a .entry))) (decodeFloats binary32 (now (d .entry)))) ⌝ }
 {
     let na = a.len() / 4;
-    let nd = d.len() / 4;
+    let last = d.len() / 4 - 1;
     let mut i = 0;
-    while i < nd {
-        let left = get_f32(a, i);
-        let right = get_f32(a, next(i, na));
-        let x = get_f32(d, i);
-        put_f32(d, i, fmla_f32(left + right, c, x));
+    while i < last {
+        let left = get_plain_f32(a, i);
+        let right = get_plain_f32(a, i + 1);
+        lift_at_f32(d, i, left, right, c);
         i += 1;
     }
+    let left = get_plain_f32(a, last);
+    let right = get_plain_f32(a, na - 1);
+    lift_at_f32(d, last, left, right, c);
 }
 
-// "Evens c": each approximation from the details on either side.
+// "Evens c": each approximation from the details on either side. The right neighbour is the next left one, so that the first place needs no turn of its own.
 fn dwt97_forward_update_even_f32(a: &mut [u8], d: &[u8], c: f32)
     requires { ⌜ Bands binary32 (now a) (now d) ⌝ }
     ensures { λ _. ⌜ now (a .exit) ≡ encodeFloats binary32 (evens (lift binary32 c) nan (decodeFloats binary32 (now (a .entry))) (decodeFloats binary32 (now (d .entry)))) ⌝ }
 {
     let na = a.len() / 4;
     let nd = d.len() / 4;
+    let mut left = get_plain_f32(d, 0);
     let mut i = 0;
-    while i < na {
-        let left = get_f32(d, previous(i));
-        let right = get_f32(d, within(i, nd));
-        let x = get_f32(a, i);
-        put_f32(a, i, fmla_f32(left + right, c, x));
+    while i < nd {
+        let right = get_plain_f32(d, i);
+        lift_at_f32(a, i, left, right, c);
+        left = right;
         i += 1;
     }
+    if nd < na {
+        lift_at_f32(a, nd, left, left, c);
+    }
+}
+
+// Float i of s times k.
+fn scale_at_f32(s: &mut [u8], i: usize, k: f32)
+    requires { ⌜ i < length (now s) / 4 ⌝ }
+    requires { ⌜ Plain binary32 (now s) i ⌝ }
+    ensures { λ _. ⌜ now (s .exit) ≡ putFloat binary32 (now (s .entry)) i (mul binary32 (floatAt binary32 (now (s .entry)) i) k) ⌝ }
+{
+    let x = get_plain_f32(s, i);
+    put_f32(s, i, x * k);
 }
 
 // Each float of a band times k.
@@ -89,8 +108,7 @@ fn dwt97_scale_f32(s: &mut [u8], k: f32)
     let n = s.len() / 4;
     let mut i = 0;
     while i < n {
-        let x = get_f32(s, i);
-        put_f32(s, i, x * k);
+        scale_at_f32(s, i, k);
         i += 1;
     }
 }
@@ -145,12 +163,12 @@ pub fn join_f32(a: &[u8], d: &[u8], x: &mut [u8])
     let m = n / 2;
     let mut i = 0;
     while i < m {
-        put_f32(x, 2 * i, get_f32(a, i));
-        put_f32(x, 2 * i + 1, get_f32(d, i));
+        copy_f32(x, 2 * i, a, i);
+        copy_f32(x, 2 * i + 1, d, i);
         i += 1;
     }
     if n % 2 == 1 {
-        put_f32(x, 2 * m, get_f32(a, m));
+        copy_f32(x, 2 * m, a, m);
     }
 }
 
@@ -161,21 +179,17 @@ fn lift_lane_f32(x: &mut [u8], start: usize, c: f32)
     ensures { λ _. ⌜ now (x .exit) ≡ encodeFloats binary32 (lane binary32 c start (decodeFloats binary32 (now (x .entry)))) ⌝ }
 {
     let n = x.len() / 4;
+    let mut left = get_plain_f32(x, 1 - start);
     let mut j = start;
-    while j < n {
-        let left = get_f32(x, left_of(j));
-        let right = get_f32(x, right_of(j, n));
-        let y = get_f32(x, j);
-        put_f32(x, j, fmla_f32(left + right, c, y));
+    while j + 1 < n {
+        let right = get_plain_f32(x, j + 1);
+        lift_at_f32(x, j, left, right, c);
+        left = right;
         j += 2;
     }
-}
-
-// The factor of place j: one for the even places and one for the odd.
-fn factor_f32(j: usize, even: f32, odd: f32) -> f32
-    ensures { λ r. ⌜ r ≡ cond (eqb (j % 2) 0) even odd ⌝ }
-{
-    if j % 2 == 0 { even } else { odd }
+    if j < n {
+        lift_at_f32(x, j, left, left, c);
+    }
 }
 
 // A scaling where both bands stand in x.
@@ -184,11 +198,15 @@ fn scale_lanes_f32(x: &mut [u8], k: f32, l: f32)
     ensures { λ _. ⌜ now (x .exit) ≡ encodeFloats binary32 (scaledLanes binary32 k l (decodeFloats binary32 (now (x .entry)))) ⌝ }
 {
     let n = x.len() / 4;
-    let mut j = 0;
-    while j < n {
-        let y = get_f32(x, j);
-        put_f32(x, j, y * factor_f32(j, k, l));
-        j += 1;
+    let m = n / 2;
+    let mut i = 0;
+    while i < m {
+        scale_at_f32(x, 2 * i, k);
+        scale_at_f32(x, 2 * i + 1, l);
+        i += 1;
+    }
+    if n % 2 == 1 {
+        scale_at_f32(x, 2 * m, k);
     }
 }
 

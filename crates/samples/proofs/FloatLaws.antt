@@ -10,9 +10,10 @@ use lib.Dec.{T, lit<, ltb, ltb→lt, lt→ltb, not-T}
 use lib.ListN.{length, getD, length-map}
 use lib.Ieee.{Float, nan, inf, fin, Format, binary32, binary64, hid, ones, top, isNan, nanBits, ofBits, toBits, fits, ne, div}
 use lib.Ieee.Bits.{nanBits-is, nanBits-above, ofBits-toBits, toBits-ofBits, toBits-lt, ofBits-fits}
+use lib.Ieee.Fits.{nan-fits}
 use lib.Ieee.Compare.{nan-differs, differs-from-itself}
 use Rattle.samples.specs.Words.{tabulate, wordAt, wordsOf, bytesOf}
-use Rattle.samples.specs.Floats.{width, floatAt, putFloat, decodeFloats, encodeFloats, canonical}
+use Rattle.samples.specs.Floats.{width, floatAt, putFloat, decodeFloats, encodeFloats, canonical, Plain}
 use Rattle.samples.proofs.Words.{length-tabulate, getD-tabulate, set-tabulate, tabulate-same, map-tabulate, put-same, put-other, length-put, length-words, length-bytes, put-bytes, word-bytes, words-bytes}
 
 -- ---- NaN both ways
@@ -112,15 +113,22 @@ module _ (f : Format) where
       (tabulate-same n (λ i. ofBits f (toBits f (g i) % 256 ^ width f)) g
       (λ i h. ap (ofBits f) (mod-eq-of-lt (bits-lt f (g i) (t i h))) ∙ ofBits-toBits f (g i) (t i h)))
 
-  -- float i of the bytes of floats, where it fits the format
+  -- word i of the bytes of floats, where the float fits the format
+  word-encode : (n : ℕ) (g : ℕ → Float) (i : ℕ) → i < n → T (fits f (g i)) → wordAt (width f) (encodeFloats f (tabulate n g)) i ≡ toBits f (g i)
+  word-encode n g i h t =
+      rw (encodeFloats-tabulate n g)
+      (word-bytes (width f) (tabulate n (λ j. toBits f (g j))) i (rw (length-tabulate n (λ j. toBits f (g j))) h)
+      ∙ ap (λ u. u % 256 ^ width f) (getD-tabulate n (λ j. toBits f (g j)) i 0 h)
+      ∙ mod-eq-of-lt (bits-lt f (g i) t))
+
+  -- so float i is read, and stands as it is written
   pub floatAt-encode : (n : ℕ) (g : ℕ → Float) (i : ℕ) → i < n → T (fits f (g i)) → floatAt f (encodeFloats f (tabulate n g)) i ≡ g i
   unfolding floatAt
-  floatAt-encode n g i h t =
-      let w : wordAt (width f) (bytesOf (width f) (tabulate n (λ j. toBits f (g j)))) i ≡ toBits f (g i) =
-      word-bytes (width f) (tabulate n (λ j. toBits f (g j))) i (rw (length-tabulate n (λ j. toBits f (g j))) h)
-      ∙ ap (λ u. u % 256 ^ width f) (getD-tabulate n (λ j. toBits f (g j)) i 0 h)
-      ∙ mod-eq-of-lt (bits-lt f (g i) t) in
-      rw (encodeFloats-tabulate n g, w) (ofBits-toBits f (g i) t)
+  floatAt-encode n g i h t = rw (word-encode n g i h t) (ofBits-toBits f (g i) t)
+
+  pub plain-encode : (n : ℕ) (g : ℕ → Float) (i : ℕ) → i < n → T (fits f (g i)) → Plain f (encodeFloats f (tabulate n g)) i
+  unfolding canonical
+  plain-encode n g i h t = rw (word-encode n g i h t) (ap (toBits f) (ofBits-toBits f (g i) t))
 
   -- a float put into the bytes of floats
   pub put-encode : (n : ℕ) (g h : ℕ → Float) (i : ℕ) (x : Float) → i < n → h i ≡ x → ((j : ℕ) → j < n → (j ≡ i → ⊥) → h j ≡ g j)
@@ -143,6 +151,13 @@ module _ (f : Format) where
   pub canonical-nan : (n : ℕ) → T (nanBits f n) → canonical f n ≡ toBits f nan
   unfolding canonical
   canonical-nan n t = ap (toBits f) (only-nan (ofBits f n) (subst T (nanBits-is f n) t))
+
+  -- a pattern that is written as it was read is a NaN's only where it is the fixed one
+  pub plain-no-nan : (n : ℕ) → canonical f n ≡ n → (n ≡ toBits f nan → ⊥) → T (not (nanBits f n))
+  plain-no-nan n e ne = not-T (nanBits f n) (λ t. ne (sym e ∙ canonical-nan n t))
+
+  pub plain-nan : (n : ℕ) → n ≡ toBits f nan → ofBits f n ≡ nan
+  plain-nan n e = ap (ofBits f) e ∙ ofBits-toBits f nan (nan-fits f)
 
 -- the fixed patterns
 pub nan-pattern : (toBits binary32 nan ≡ 0x7FC0_0000) × (toBits binary64 nan ≡ 0x7FF8_0000_0000_0000)

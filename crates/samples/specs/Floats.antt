@@ -2,6 +2,7 @@
 -- 0x7FC0_0000 or 0x7FF8_0000_0000_0000, which is what `toBits` gives.
 -- Assumes nothing: these are definitions.
 use mathlib.Core.List.{List, map}
+use mathlib.Core.Path.{_≡_}
 use Prim.Native.Nat.{ℕ}
 use lib.Ieee.{Float, Format, binary32, binary64, ofBits, toBits}
 use Rattle.samples.specs.Words.{wordAt, putAt, wordsOf, bytesOf}
@@ -28,3 +29,7 @@ encodeFloats f xs = bytesOf (width f) (map (toBits f) xs)
 -- a pattern as it is written again after it was read: itself, unless it is a NaN's
 unfoldable pub canonical : Format → ℕ → ℕ
 canonical f n = toBits f (ofBits f n)
+
+-- float i of s stands by the pattern that it is written by
+abbrev pub Plain : Format → List ℕ → ℕ → Type 0
+Plain f s i = canonical f (wordAt (width f) s i) ≡ wordAt (width f) s i

@@ -95,8 +95,7 @@ up-up-requires t c κs =
 up-returns : (t : ℕ) → up-lts.Need-returns (claims t) (up-at t) up.Post
 up-returns t c =
     let a = c .before .before .before .before .before .before .before .before .before .before .before .before .before .before .args in
-    let z = none t (c .before .before .before .before .before) in
-    (
+    let z = none t (c .before .before .before .before .before) in (
       c .before .before .restore .ensures
           ∙ ap (λ (j : ℕ). backOf (a .f) (take j (a .from .now)) (a .details .now)) (c .before .before .before .before .before .before .before .before .bytes-of .ensures)
           ∙ sym (samples-last (a .f) _ (a .details .now) _ _ _ (split t (c .before .before .before .before .before .before .before)) z (rise-last (rising t (c .before .before .before .before .before .before .before)) z .0)),
@@ -113,8 +112,7 @@ up-returns-2 t c =
     let cut = c .before .before .before .before .before .before .before .before .before .before .before .before .before .before .before .before .before .bytes-of3 .result in
     let long : length r ≡ k * (a .n + m) = c .before .before .before .before .before .before .before .before .before .before .before .before .before .restore2 .kept .1 .1 .1 .1 .0 ∙ there t (c .before .before .before .before .before .before .before .before .before .before .before .before .before .before .before .before .before) in
     let d = take (length (a .details .now) - c .before .before .before .before .before .before .before .before .before .before .before .before .before .before .before .before .before .before .before .bytes-of2 .result) (drop (c .before .before .before .before .before .before .before .before .before .before .before .before .before .before .before .before .before .before .before .bytes-of2 .result) (a .details .now)) in
-    let e = c .before .before .before .before .before .before .up .ensures in
-    (
+    let e = c .before .before .before .before .before .before .up .ensures in (
       e .0
           ∙ ap (λ (x : List ℕ). samplesOf (a .f) x d rest) (take-at r (drop cut (a .to .now)) (k * (a .n + m)) long)
           ∙ ap (λ (x : List ℕ). samplesOf (a .f) r x rest) (end-is (c .before .before .before .before .before .before .before .before .before .before .before .before .before .before .before .before .before .before .before .bytes-of2 .result) (a .details .now))

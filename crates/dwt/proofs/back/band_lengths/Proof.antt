@@ -40,8 +40,7 @@ returns c =
 
 loop-again : tie.Need-loop-again Inv-loop μ-loop
 loop-again c =
-    let l = c .before .before .before .before .before .loop in
-    (
+    let l = c .before .before .before .before .before .loop in (
       omega arith,
       left (c .before .before .before),
       l .inv .2 ∙ bands-more (c .before .before .before .before .before .before .before .args .w) (l .n) (wordsOf 4 (c .before .before .before .before .before .before .before .args .lengths .now)) (l .i) (c .before .before .before .length-at .result) (there (c .before .before .before)) (c .before .before .before .length-at .ensures .0) (c .before .before .level-lengths .ensures) (sym (c .before .is-done .ensures) ∙ not-false _ (c .if1 .left)),

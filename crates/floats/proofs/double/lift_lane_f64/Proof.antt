@@ -1,28 +1,26 @@
--- `lift_lane_f64` meets its contract. The invariant: the floats before j are new, or stay as they are. Assumes nothing.
-use borrow.Author.Needs.{needs}
-use mathlib.Core.Path.{_≡_, refl}
-use Prim.Native.Nat.{_+_, _-_, _%_, _≤_}
+-- `lift_lane_f64` meets its contract. The invariant: the floats before j are new, or stay as they are, and left is the one before j. Assumes nothing.
+use Prim.Native.Nat.{_+_, _-_, _≤_}
 use native.Mathlib.Omega.{arith}
 use lib.Ieee.{binary64}
-use Rattle.floats.proofs.Midway.{Midway, floatsOf}
-use Rattle.floats.proofs.Lanes.{laneOf, lane-none, lane-turn, lane-all, lane-less}
+use Rattle.floats.proofs.Midway.{midway-ready, stored-ready}
+use Rattle.floats.proofs.Lanes.{LaneTo, lane-none, lane-ready, lane-next, lane-last, lane-all, lane-less}
 use Rattle.floats.proofs.double.lift_lane_f64.Statement.{statement}
 use Rattle.floats.proofs.double.lift_lane_f64.Tie as tie
 
 abbrev Inv-loop : tie.InvT-loop
-Inv-loop x₀ start c n j₀ x j = (j % 2 ≡ start) × (j ≤ n + 1) × Midway binary64 n j (laneOf binary64 x₀ c start) (floatsOf binary64 x₀) x
+Inv-loop x₀ start c n left₀ j₀ x left j = (j ≤ n + 1) × LaneTo binary64 x₀ c start j left x
 
 abbrev μ-loop : tie.MeasureT-loop
-μ-loop x₀ start c n j₀ x j = n + 1 - j
+μ-loop x₀ start c n left₀ j₀ x left j = n + 1 - j
 
 loop-again : tie.Need-loop-again Inv-loop μ-loop
-loop-again c =
-    let l = c .before .before .before .before .before .before .before .before .before .before .before .before .before .before .loop in (
-      omega arith,
-      omega arith,
-      lane-turn binary64 _ (c .before .before .before .before .before .before .before .before .before .before .before .before .before .before .before .before .args .c) (c .before .before .before .before .before .before .before .before .before .before .before .before .before .before .before .before .args .start) (l .inv .2) refl (c .before .before .before .before .before .before .before .before .before .before .before .before .before .before .before .before .pre .0 .long) (c .before .before .before .before .before .before .before .before .before .before .before .before .before .loop-test .taken) (l .inv .0)
-          (rw (c .before .before .before .before .before .before .before .before .before .before .before .left-of .ensures) at (c .before .before .before .before .before .before .before .before .before .before .get-f64 .ensures)) (rw (c .before .before .before .before .before .before .before .before .right-of .ensures) at (c .before .before .before .before .before .before .before .get-f642 .ensures)) (c .before .before .before .before .before .get-f643 .ensures) (c .before .before .before .fmla-f64 .ensures) (c .before .before .put-f64 .ensures),
-    )
+loop-again c = (
+  omega arith,
+  lane-next binary64 _ (c .before .before .before .before .before .before .before .before .before .before .before .args .c) (c .before .before .before .before .before .before .before .before .before .before .before .args .start) (c .before .before .before .before .before .before .before .loop .inv .1) (c .before .before .before .before .before .before .before .before .before .before .before .pre .0 .long) (c .before .before .before .before .before .before .loop-test .taken) (c .before .before .before .before .get-plain-f642 .ensures) (c .before .before .lift-at-f64 .ensures),
+)
+
+returns : tie.Need-returns Inv-loop μ-loop
+returns c = lane-last binary64 _ (c .before .before .before .before .before .before .before .before .before .before .args .c) (c .before .before .before .before .before .before .before .before .before .before .args .start) (c .before .before .before .before .before .before .loop .inv .1) (c .before .before .before .before .before .before .before .before .before .before .pre .0 .long) (c .before .before .before .before .if1 .taken) (c .before .before .before .before .before .loop-test .left) (c .before .before .lift-at-f642 .ensures)
 
 pub lift-lane-f64-spec : {M : Type 1} → statement M
 lift-lane-f64-spec =
@@ -30,16 +28,18 @@ lift-lane-f64-spec =
     (tie.spec
     Inv-loop
     μ-loop
-    (λ c. (omega arith, omega arith, lane-none binary64 _ (c .before .args .c) (c .before .args .start) (c .before .pre .1) (c .before .pre .0 .stored)))
-    (λ c κs. search needs)
-    (λ c κs. search needs)
-    (λ c κs. search needs)
-    (λ c κs. search needs)
-    (λ c κs. search needs)
-    (λ c κs. search needs)
-    (λ c κs. search needs)
-    (λ c. search needs)
-    (λ c. lane-less _ _ (c .before .before .before .before .before .before .before .before .before .before .before .before .before .loop-test .taken))
+    (λ c. omega arith)
+    (λ c κs. stored-ready (c .before .before .pre .0 .stored) (omega (arith, c .before .before .pre .0 .long)))
+    (λ c. (omega arith, lane-none binary64 _ (c .before .before .before .args .c) (c .before .before .before .args .start) (c .before .before .before .pre .1) (c .before .before .before .pre .0 .long) (c .before .before .before .pre .0 .stored) (c .get-plain-f64 .ensures)))
+    (λ c. omega arith)
+    (λ c. omega arith)
+    (λ c κs. lane-ready binary64 _ (c .before .before .before .before .before .before .args .c) (c .before .before .before .before .before .before .args .start) (c .before .before .loop .inv .1) (c .before .loop-test .taken))
+    (λ c κs. midway-ready _ (c .before .before .before .before .loop .inv .1 .2) (omega arith) (omega arith))
+    (λ c. omega arith)
+    (λ c. lane-less _ _ (omega arith))
     loop-again
-    (λ c. omega (arith, c .before .before .before .pre .0 .stored .holds .size))
-    (λ c. lane-all binary64 _ _ _ (c .before .loop .inv .2) (c .loop-test .left)))
+    (λ c κs. midway-ready _ (c .before .before .before .loop .inv .1 .2) (omega arith) (c .before .if1 .taken))
+    (λ c. omega (arith, c .before .before .before .before .before .before .before .before .before .before .pre .0 .stored .holds .size))
+    returns
+    (λ c. omega (arith, c .before .before .before .before .before .before .pre .0 .stored .holds .size))
+    (λ c. lane-all binary64 _ _ _ (c .before .before .loop .inv .1) (c .if1 .left)))

@@ -1,24 +1,32 @@
--- `scale_lanes_f64` meets its contract. The invariant: the first j floats are new. Assumes nothing.
-use borrow.Author.Needs.{needs}
-use Prim.Native.Nat.{_-_, _≤_}
+-- `scale_lanes_f64` meets its contract. The invariant: the first 2 i floats are new. An odd number of floats ends in one of an even place. Assumes nothing.
+use Prim.Native.Nat.{_*_, _-_, _≤_}
 use native.Mathlib.Omega.{arith}
 use lib.Ieee.{binary64}
-use Rattle.floats.proofs.Midway.{Midway, floatsOf, midway-none}
-use Rattle.floats.proofs.Lanes.{lanesOf, lanes-turn, lanes-all}
+use Rattle.floats.proofs.Midway.{Midway, floatsOf, midway-none, midway-ready}
+use Rattle.floats.proofs.Lanes.{LanesTo, lanes-even, lanes-pair, lanes-last, lanes-all}
 use Rattle.floats.proofs.double.scale_lanes_f64.Statement.{statement}
 use Rattle.floats.proofs.double.scale_lanes_f64.Tie as tie
 
 abbrev Inv-loop : tie.InvT-loop
-Inv-loop x₀ k l n j₀ x j = (j ≤ n) × Midway binary64 n j (lanesOf binary64 x₀ k l) (floatsOf binary64 x₀) x
+Inv-loop x₀ k l n m i₀ x i = (i ≤ m) × LanesTo binary64 x₀ k l (2 * i) x
 
 abbrev μ-loop : tie.MeasureT-loop
-μ-loop x₀ k l n j₀ x j = n - j
+μ-loop x₀ k l n m i₀ x i = m - i
 
 loop-again : tie.Need-loop-again Inv-loop μ-loop
-loop-again c = (
-  omega arith,
-  lanes-turn binary64 _ (c .before .before .before .before .before .before .before .before .before .before .args .k) (c .before .before .before .before .before .before .before .before .before .before .args .l) (c .before .before .before .before .before .before .before .before .loop .inv .1) (c .before .before .before .before .before .before .before .loop-test .taken) (c .before .before .before .before .before .get-f64 .ensures) (c .before .before .before .factor-f64 .ensures) (c .before .before .put-f64 .ensures),
-)
+loop-again c =
+    let a = c .before .before .before .before .before .before .before .before .before .before .before .args in
+    (omega arith, lanes-pair binary64 _ (a .k) (a .l) _ (c .before .before .before .before .before .before .before .before .before .loop .inv .1) (omega arith) (c .before .before .before .before .before .before .scale-at-f64 .ensures) (c .before .before .scale-at-f642 .ensures))
+
+second : tie.Need-scale-at-f64-requires-2 Inv-loop μ-loop
+second c κs =
+    let a = c .before .before .before .before .before .before .before .before .args in
+    midway-ready _ (lanes-even binary64 _ (a .k) (a .l) _ (c .before .before .before .before .before .before .loop .inv .1) (omega arith) (c .before .before .before .scale-at-f64 .ensures)) (omega arith) (omega arith)
+
+returns : tie.Need-returns Inv-loop μ-loop
+returns c =
+    let a = c .before .before .before .before .before .before .before .before .args in
+    lanes-last binary64 _ (a .k) (a .l) (c .before .before .before .before .before .before .loop .inv .1) (omega arith) (omega arith) (c .before .before .scale-at-f643 .ensures)
 
 pub scale-lanes-f64-spec : {M : Type 1} → statement M
 scale-lanes-f64-spec =
@@ -27,11 +35,17 @@ scale-lanes-f64-spec =
     Inv-loop
     μ-loop
     (λ c. (omega arith, midway-none _ (c .before .pre .stored)))
-    (λ c κs. search needs)
-    (λ c κs. search needs)
-    (λ c κs. search needs)
-    (λ c. search needs)
+    (λ c. omega arith)
+    (λ c κs. midway-ready _ (c .before .before .loop .inv .1) (omega arith) (omega arith))
+    (λ c. omega arith)
+    (λ c. omega arith)
+    second
+    (λ c. omega arith)
     (λ c. omega arith)
     loop-again
-    (λ c. omega (arith, c .before .before .before .pre .stored .holds .size))
-    (λ c. lanes-all binary64 _ _ _ (c .before .loop .inv .1) (c .loop-test .left)))
+    (λ c. omega arith)
+    (λ c κs. midway-ready _ (c .before .before .before .loop .inv .1) (omega arith) (omega arith))
+    (λ c. omega (arith, c .before .before .before .before .before .before .before .before .pre .stored .holds .size))
+    returns
+    (λ c. omega (arith, c .before .before .before .before .pre .stored .holds .size))
+    (λ c. lanes-all binary64 _ _ _ (c .before .before .loop .inv .1) (omega arith)))

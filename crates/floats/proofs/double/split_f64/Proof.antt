@@ -17,20 +17,15 @@ abbrev μ-loop : tie.MeasureT-loop
 
 loop-again : tie.Need-loop-again Inv-loop μ-loop
 loop-again c =
-    let x = c .before .before .before .before .before .before .before .before .before .before .before .before .before .before .before .args .x .now in
-    let l = c .before .before .before .before .before .before .before .before .before .before .before .loop in (
-      omega arith,
-      evens-more binary64 x (l .inv .1) refl (omega arith) (c .before .before .before .before .before .before .before .before .get-f64 .ensures) (c .before .before .before .before .before .before .before .put-f64 .ensures),
-      odds-more binary64 x (l .inv .2) refl (omega arith) (c .before .before .before .get-f642 .ensures) (c .before .before .put-f642 .ensures),
-    )
+    let x = c .before .before .before .before .before .before .before .before .before .before .before .before .before .args .x .now in
+    let l = c .before .before .before .before .before .before .before .before .before .loop in
+    (omega arith, evens-more binary64 x (l .inv .1) refl (omega arith) refl (c .before .before .before .before .before .before .copy-f64 .ensures), odds-more binary64 x (l .inv .2) refl (omega arith) refl (c .before .before .copy-f642 .ensures))
 
 returns : tie.Need-returns Inv-loop μ-loop
 returns c =
-    let x = c .before .before .before .before .before .before .before .before .before .before .before .args .x .now in
-    let l = c .before .before .before .before .before .before .before .loop in (
-      evens-done binary64 x (evens-more binary64 x (l .inv .1) (omega arith) (omega arith) (c .before .before .before .get-f643 .ensures) (c .before .before .put-f643 .ensures)) (omega arith),
-      odds-done binary64 x (l .inv .2) (omega arith),
-    )
+    let x = c .before .before .before .before .before .before .before .before .before .before .args .x .now in
+    let l = c .before .before .before .before .before .before .loop in
+    (evens-done binary64 x (evens-more binary64 x (l .inv .1) (omega arith) (omega arith) refl (c .before .before .copy-f643 .ensures)) (omega arith), odds-done binary64 x (l .inv .2) (omega arith))
 
 returns-2 : tie.Need-returns-2 Inv-loop μ-loop
 returns-2 c =
@@ -47,19 +42,16 @@ split-f64-spec =
     (λ c. (omega arith, front-none _ (c .before .before .before .pre .approx), front-none _ (c .before .before .before .pre .details)))
     (λ c. search needs)
     (λ c κs. search needs)
-    (λ c κs. search needs)
     (λ c. search needs)
     (λ c. search needs)
-    (λ c κs. search needs)
     (λ c κs. search needs)
     (λ c. search needs)
     (λ c. omega arith)
     loop-again
     (λ c. search needs)
     (λ c κs. search needs)
-    (λ c κs. search needs)
-    (λ c. omega (arith, c .before .before .before .before .before .before .before .before .before .before .before .pre .approx .size))
-    (λ c. omega (arith, c .before .before .before .before .before .before .before .before .before .before .before .pre .details .size))
+    (λ c. omega (arith, c .before .before .before .before .before .before .before .before .before .before .pre .approx .size))
+    (λ c. omega (arith, c .before .before .before .before .before .before .before .before .before .before .pre .details .size))
     returns
     (λ c. omega (arith, c .before .before .before .before .before .before .pre .approx .size))
     (λ c. omega (arith, c .before .before .before .before .before .before .pre .details .size))

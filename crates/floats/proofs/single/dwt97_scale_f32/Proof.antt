@@ -1,9 +1,8 @@
 -- `dwt97_scale_f32` meets its contract. The invariant: the first i floats are new. Assumes nothing.
-use borrow.Author.Needs.{needs}
 use Prim.Native.Nat.{_-_, _≤_}
 use native.Mathlib.Omega.{arith}
 use lib.Ieee.{binary32}
-use Rattle.floats.proofs.Midway.{Midway, floatsOf, midway-none}
+use Rattle.floats.proofs.Midway.{Midway, floatsOf, midway-none, midway-ready}
 use Rattle.floats.proofs.Turns.{scaledOf, scaled-turn, scaled-all}
 use Rattle.floats.proofs.single.dwt97_scale_f32.Statement.{statement}
 use Rattle.floats.proofs.single.dwt97_scale_f32.Tie as tie
@@ -17,7 +16,7 @@ abbrev μ-loop : tie.MeasureT-loop
 loop-again : tie.Need-loop-again Inv-loop μ-loop
 loop-again c = (
   omega arith,
-  scaled-turn binary32 (c .before .before .before .before .before .before .before .before .before .args .k) (c .before .before .before .before .before .before .before .before .before .args .s .now) (c .before .before .before .before .before .before .before .loop .inv .1) (c .before .before .before .before .before .before .loop-test .taken) (c .before .before .before .before .get-f32 .ensures) (c .before .before .put-f32 .ensures),
+  scaled-turn binary32 (c .before .before .before .before .before .before .before .args .k) (c .before .before .before .before .before .before .before .args .s .now) (c .before .before .before .before .before .loop .inv .1) (c .before .before .before .before .loop-test .taken) (c .before .before .scale-at-f32 .ensures),
 )
 
 pub dwt97-scale-f32-spec : {M : Type 1} → statement M
@@ -27,9 +26,8 @@ dwt97-scale-f32-spec =
     Inv-loop
     μ-loop
     (λ c. (omega arith, midway-none _ (c .before .pre)))
-    (λ c κs. search needs)
-    (λ c κs. search needs)
-    (λ c. search needs)
+    (λ c κs. midway-ready _ (c .before .before .loop .inv .1) (omega arith) (c .before .loop-test .taken))
+    (λ c. omega arith)
     (λ c. omega arith)
     loop-again
     (λ c. omega (arith, c .before .before .before .pre .holds .size))

@@ -1,6 +1,7 @@
 -- `join_f32` meets its contract. The invariant: the first i approximations and the first i details are stored. An odd number of samples ends in an
 -- approximation. Assumes nothing.
 use borrow.Author.Needs.{needs}
+use mathlib.Core.Path.{refl}
 use Prim.Native.Nat.{_-_, _*_, _≤_}
 use native.Mathlib.Omega.{arith}
 use lib.Ieee.{binary32}
@@ -17,16 +18,14 @@ abbrev μ-loop : tie.MeasureT-loop
 
 loop-again : tie.Need-loop-again Inv-loop μ-loop
 loop-again c =
-    let pre = c .before .before .before .before .before .before .before .before .before .before .before .before .before .before .before .pre in (
-      omega arith,
-      join-pair binary32 _ _ _ (c .before .before .before .before .before .before .before .before .before .before .before .loop .inv .1) (omega arith) (omega arith) (omega arith) (c .before .before .before .before .before .before .before .before .get-f32 .ensures) (c .before .before .before .before .before .before .before .put-f32 .ensures) (c .before .before .before .get-f322 .ensures) (c .before .before .put-f322 .ensures),
-    )
+    let pre = c .before .before .before .before .before .before .before .before .before .before .before .before .before .pre in
+    (omega arith, join-pair binary32 _ _ _ (c .before .before .before .before .before .before .before .before .before .loop .inv .1) (omega arith) (omega arith) (omega arith) refl (c .before .before .before .before .before .before .copy-f32 .ensures) refl (c .before .before .copy-f322 .ensures))
 
 returns : tie.Need-returns Inv-loop μ-loop
 returns c =
-    let pre = c .before .before .before .before .before .before .before .before .before .before .before .pre in
+    let pre = c .before .before .before .before .before .before .before .before .before .before .pre in
     join-done binary32 _ _ _
-    (join-last binary32 _ _ _ (c .before .before .before .before .before .before .before .loop .inv .1) (omega arith) (omega arith) (omega arith) (c .before .before .before .get-f323 .ensures) (c .before .before .put-f323 .ensures))
+    (join-last binary32 _ _ _ (c .before .before .before .before .before .before .loop .inv .1) (omega arith) (omega arith) (omega arith) refl (c .before .before .copy-f323 .ensures))
     (omega arith)
     (omega arith)
 
@@ -39,18 +38,15 @@ join-f32-spec =
     (λ c. (omega arith, front-none _ (c .before .before .before .pre .samples)))
     (λ c. search needs)
     (λ c κs. search needs)
-    (λ c κs. search needs)
     (λ c. search needs)
     (λ c. search needs)
-    (λ c κs. search needs)
     (λ c κs. search needs)
     (λ c. search needs)
     (λ c. omega arith)
     loop-again
     (λ c. search needs)
     (λ c κs. search needs)
-    (λ c κs. search needs)
-    (λ c. omega (arith, c .before .before .before .before .before .before .before .before .before .before .before .pre .samples .size))
+    (λ c. omega (arith, c .before .before .before .before .before .before .before .before .before .before .pre .samples .size))
     returns
     (λ c. omega (arith, c .before .before .before .before .before .before .pre .samples .size))
     (λ c. let pre = c .before .before .before .before .before .before .pre in join-done binary32 _ _ _ (c .before .before .loop .inv .1) (omega arith) (omega arith)))

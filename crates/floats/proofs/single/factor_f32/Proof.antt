@@ -1,7 +1,0 @@
--- `factor_f32` meets its contract. Assumes nothing.
-use borrow.Author.Tests.{eq-eqb, ne-eqb}
-use Rattle.floats.proofs.single.factor_f32.Statement.{statement}
-use Rattle.floats.proofs.single.factor_f32.Tie as tie
-
-pub factor-f32-spec : {M : Type 1} → statement M
-factor-f32-spec = tie.close (tie.spec (λ c. rw (eq-eqb _ 0 (c .if1 .taken))) (λ c. rw (ne-eqb _ 0 (c .if1 .left))))
