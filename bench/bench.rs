@@ -85,6 +85,12 @@ trait Filter: DwtExecutor<<Self as Filter>::Sample> + Default {
         lengths: &[u8],
         lent: &mut Lent<Self::Sample>,
     ) -> Answer;
+    fn bk_dwt(
+        signal: &[Self::Sample],
+        levels: u32,
+        bands: [&mut [Self::Sample]; 2],
+        lent: &mut Lent<Self::Sample>,
+    ) -> Answer;
 }
 
 // Work areas, and the output.
@@ -117,7 +123,7 @@ struct Answer {
 // argument, which is how the library for Arm takes it (bench/host-staticlib): declared so, they are right on both.
 macro_rules! filters {
     ($($name: literal, $filter: ty, $sample: ty,
-       $forward: ident, $inverse: ident, $multi_dwt: ident, $multi_idwt: ident;)*) => {
+       $forward: ident, $inverse: ident, $multi_dwt: ident, $multi_idwt: ident, $dwt: ident;)*) => {
         unsafe extern "C" {
             $(
                 fn $forward(
@@ -146,6 +152,15 @@ macro_rules! filters {
                     details: *const $sample, details_length: usize,
                     lengths: *const u8, lengths_length: usize,
                     output: *mut $sample, output_length: usize,
+                    work1: *mut $sample, work1_length: usize,
+                    work2: *mut $sample, work2_length: usize,
+                ) -> *mut Answer;
+                fn $dwt(
+                    answer: *mut Answer,
+                    signal: *const $sample, signal_length: usize,
+                    levels: u32,
+                    approx: *mut $sample, approx_length: usize,
+                    details: *mut $sample, details_length: usize,
                     work1: *mut $sample, work1_length: usize,
                     work2: *mut $sample, work2_length: usize,
                 ) -> *mut Answer;
@@ -219,6 +234,28 @@ macro_rules! filters {
                 }
                 answer
             }
+
+            fn bk_dwt(
+                signal: &[$sample],
+                levels: u32,
+                [approx, details]: [&mut [$sample]; 2],
+                lent: &mut Lent<$sample>,
+            ) -> Answer {
+                let mut answer = Answer::default();
+                let Lent { from, to, .. } = lent;
+                unsafe {
+                    $dwt(
+                        &mut answer,
+                        signal.as_ptr(), size_of_val(signal),
+                        levels,
+                        approx.as_mut_ptr(), size_of_val(approx),
+                        details.as_mut_ptr(), size_of_val(details),
+                        from.as_mut_ptr(), size_of_val(&from[..]),
+                        to.as_mut_ptr(), size_of_val(&to[..]),
+                    );
+                }
+                answer
+            }
         })*
     };
 }
@@ -226,19 +263,19 @@ macro_rules! filters {
 // Integers with an intermediate wider than the sample, floats unfused, as document 01 has them.
 filters! {
     "5/3 i8", Cdf53Integer<i8, i32>, i8,
-        bk_cdf53_forward_i8, bk_cdf53_inverse_i8, bk_cdf53_multi_dwt_i8, bk_cdf53_multi_idwt_i8;
+        bk_cdf53_forward_i8, bk_cdf53_inverse_i8, bk_cdf53_multi_dwt_i8, bk_cdf53_multi_idwt_i8, bk_cdf53_dwt_i8;
     "5/3 i16", Cdf53Integer<i16, i32>, i16,
-        bk_cdf53_forward_i16, bk_cdf53_inverse_i16, bk_cdf53_multi_dwt_i16, bk_cdf53_multi_idwt_i16;
+        bk_cdf53_forward_i16, bk_cdf53_inverse_i16, bk_cdf53_multi_dwt_i16, bk_cdf53_multi_idwt_i16, bk_cdf53_dwt_i16;
     "5/3 i32", Cdf53Integer<i32, i64>, i32,
-        bk_cdf53_forward_i32, bk_cdf53_inverse_i32, bk_cdf53_multi_dwt_i32, bk_cdf53_multi_idwt_i32;
+        bk_cdf53_forward_i32, bk_cdf53_inverse_i32, bk_cdf53_multi_dwt_i32, bk_cdf53_multi_idwt_i32, bk_cdf53_dwt_i32;
     "5/3 f32", Cdf53<f32>, f32,
-        bk_cdf53_forward_f32, bk_cdf53_inverse_f32, bk_cdf53_multi_dwt_f32, bk_cdf53_multi_idwt_f32;
+        bk_cdf53_forward_f32, bk_cdf53_inverse_f32, bk_cdf53_multi_dwt_f32, bk_cdf53_multi_idwt_f32, bk_cdf53_dwt_f32;
     "5/3 f64", Cdf53<f64>, f64,
-        bk_cdf53_forward_f64, bk_cdf53_inverse_f64, bk_cdf53_multi_dwt_f64, bk_cdf53_multi_idwt_f64;
+        bk_cdf53_forward_f64, bk_cdf53_inverse_f64, bk_cdf53_multi_dwt_f64, bk_cdf53_multi_idwt_f64, bk_cdf53_dwt_f64;
     "9/7 f32", Cdf97<f32>, f32,
-        bk_cdf97_forward_f32, bk_cdf97_inverse_f32, bk_cdf97_multi_dwt_f32, bk_cdf97_multi_idwt_f32;
+        bk_cdf97_forward_f32, bk_cdf97_inverse_f32, bk_cdf97_multi_dwt_f32, bk_cdf97_multi_idwt_f32, bk_cdf97_dwt_f32;
     "9/7 f64", Cdf97<f64>, f64,
-        bk_cdf97_forward_f64, bk_cdf97_inverse_f64, bk_cdf97_multi_dwt_f64, bk_cdf97_multi_idwt_f64;
+        bk_cdf97_forward_f64, bk_cdf97_inverse_f64, bk_cdf97_multi_dwt_f64, bk_cdf97_multi_idwt_f64, bk_cdf97_dwt_f64;
 }
 
 // One level, into lent slices.
@@ -438,6 +475,30 @@ fn many_levels<F: Filter>(name: &str, levels: usize) {
     );
 }
 
+// The last level's bands.
+fn last_level<F: Filter>(name: &str, levels: usize) {
+    let ((rust, _), signal) = (sides::<F>(), drawn::<F>());
+    let [mut a, mut d] = [SAMPLES >> levels; 2].map(|n| vec![F::Sample::default(); n]);
+    let mut works = Lent::new();
+    let [driver, port] = best([
+        &mut || drop(black_box(rust.0.dwt(black_box(&signal), levels))),
+        &mut || {
+            check(F::bk_dwt(
+                black_box(&signal),
+                levels as u32,
+                black_box([&mut a, &mut d]),
+                black_box(&mut works),
+            ))
+        },
+    ]);
+    let last = rust.0.dwt(&signal, levels).unwrap();
+    assert!(
+        last.approximations == a && last.details == d,
+        "the two sides differ"
+    );
+    say(F::NAME, &format!("{name}, dwt"), Some(driver), None, port);
+}
+
 // glibc gives the pages of a large block back when it is freed, and the Rust, which allocates, then waits for
 // new ones in some cases and not in others. Once a larger block was freed it keeps them.
 fn keep_pages() {
@@ -448,6 +509,7 @@ fn cases<F: Filter>() {
     one_level::<F>();
     for (name, levels) in LEVELS {
         many_levels::<F>(name, levels);
+        last_level::<F>(name, levels);
     }
 }
 

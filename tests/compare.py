@@ -5,7 +5,8 @@
 #
 # The desk's answer must be the Rust's, and document 01's where it adds a refusal of its own, and the suite's where it
 # knows one; a request that none of them answers, or that is no call to either server, is a difference too. The shortest
-# request that differs is kept in target/tests/differs.txt, a table for tests/ask.py.
+# request that differs is kept in target/tests/differs.txt, a table for tests/ask.py. A request that takes a server
+# over ten minutes ends the run and is kept there too.
 # What a call must leave alone of lent slices is looked at too.
 import argparse
 import os
@@ -121,7 +122,7 @@ class Tally:
 
     def count(self, request, said, rust, wanted):
         own = additions(request, rust)
-        known = {"the Rust": None if rust == "-" else rust, "document 01": own, "the way back": wanted}
+        known = {"the Rust": None if rust == "-" else rust, "document 01": own, "the suite": wanted}
         known = {who: answer for who, answer in known.items() if answer is not None}
         self.requests += 1
         self.refused += not said.startswith("0 ")

@@ -352,6 +352,20 @@ def multi_idwt(random, size):
     yield from one_by_one(too_long(random, INTEGERS[0], "multi_idwt"))
 
 
+# dwt of all filters.
+def dwt(random, size):
+    if size == "large":
+        for filter in INTEGERS:
+            yield from one_by_one(too_long(random, filter, "dwt"))
+        return
+    rounds = {"small": 1, "full": 12}[size]
+    yield [("cdf53_dwt_i8 x0003fc0107 2 x0000 x00 x0000000000 x0000000000", "0 0 0 xff03 xf8 - -")]  # P5
+    yield from last_of_many(random, of_levels(random, rounds, 2**32 - 1))
+    yield from plain(wrong_last_bands(random))
+    yield from plain(wrong_rooms(random, "dwt", 3000 * rounds))
+    yield from one_by_one(too_long(random, INTEGERS[0], "dwt"))
+
+
 # How many approximations so many levels of n samples have, and how many details each, the deepest first.
 def pyramid(n, levels):
     lengths = []
@@ -384,7 +398,17 @@ def multi_idwt_call(random, filter, data, levels, longer=(0, 8, 16)):
     return filter.request("multi_idwt", slices)
 
 
-LEVELS_CALLS = {"multi_dwt": multi_dwt_call, "multi_idwt": multi_idwt_call}
+def dwt_call(random, filter, data, levels, longer=(0, 0, 8, 16)):
+    counts = [filter.width * count for count in bands(last_length(len(data) // filter.width, levels))]
+    return filter.request("dwt", [data, *lent(random, counts + 2 * [len(data)], longer)], levels)
+
+
+# The length of the last level's input; no recording has more levels than the most.
+def last_length(n, levels):
+    return pyramid(n, min(max(1, levels), MOST_LEVELS + 1) - 1)[0]
+
+
+LEVELS_CALLS = {"dwt": dwt_call, "multi_dwt": multi_dwt_call, "multi_idwt": multi_idwt_call}
 LEVELS_BACK = {"multi_dwt": "multi_idwt", "multi_idwt": "multi_dwt"}
 
 
@@ -418,6 +442,22 @@ def back_again(random, verb, item, answer):
     return request, given and f"0 0 0 {word(given)} - -"
 
 
+# The last level's bands, which must be the front of what the desk answered for all levels.
+def last_of_many(random, inputs):
+    for chunk in chunks(inputs, lambda item: len(item[1]) + 40):
+        answers = yield [(multi_dwt_call(random, *item), None) for item in chunk]
+        yield [(dwt_call(random, *item), front(*item, answer)) for item, answer in zip(chunk, answers)]
+
+
+# The two bands at the front of a pyramid, and two work areas; None where it was refused.
+def front(filter, data, levels, answer):
+    if not answer.startswith("0 0 0 "):
+        return None
+    last = last_length(len(data) // filter.width, levels)
+    both = unworded(answer.split(" ")[3])[:filter.width * last]
+    return f"0 0 0 {words(read_by('inverse', filter, both))} - -"
+
+
 def unworded(word):
     return bytes.fromhex(word[1:])
 
@@ -432,6 +472,14 @@ def wrong_rooms(random, verb, count):
         yield LEVELS_CALLS[verb](random, filter, data, random.randrange(5), longer)
 
 
+# Each band of the last level one short and one long, and both, at every level.
+def wrong_last_bands(random):
+    for filter, n in product(INTEGERS + FLOATS, (3, 4, 5, 6, 7, 8, 9, 12, 13, 33)):
+        for levels, *steps in product(range(depth_of(filter, n) + 2), (-1, 0, 1), (-1, 0, 1)):
+            data = random.randbytes(filter.width * n)
+            yield dwt_call(random, filter, data, levels, [filter.width * step for step in (*steps, 0, 0)])
+
+
 # multi_idwt on random bands of so many samples, with room for them.
 def bands_call(random, filter, approx, details, lengths):
     counts = [filter.width * count for count in (approx, details, *3 * [approx + details])]
@@ -444,12 +492,13 @@ def wrong_bands(random):
     for filter, n in product(INTEGERS + FLOATS, (3, 4, 5, 6, 7, 8, 9, 12, 13, 33)):
         for levels in range(1, 1 + depth_of(filter, n)):
             approx, lengths = pyramid(n, levels)
-            for step, place in product((-1, 1), range(levels)):
-                wrong = [length + step * (at == place) for at, length in enumerate(lengths)]
-                yield bands_call(random, filter, approx, n - approx + step, wrong)
-                yield bands_call(random, filter, approx, n - approx, wrong)
-                yield bands_call(random, filter, approx, n - approx + step, lengths)
+            for step in -1, 1:
                 yield bands_call(random, filter, approx + step, n - approx, lengths)
+                yield bands_call(random, filter, approx, n - approx + step, lengths)
+                for place in range(levels):
+                    wrong = [length + step * (at == place) for at, length in enumerate(lengths)]
+                    yield bands_call(random, filter, approx, n - approx + step, wrong)
+                    yield bands_call(random, filter, approx, n - approx, wrong)
 
 
 # Lists of lengths that are no pyramid's: in another order, with one more or fewer, empty, of the most levels and of one
@@ -495,8 +544,10 @@ def too_long(random, filter, *verbs):
 # A recording of the limit at each width, as deep as it goes, and back, in lines of up to 540 megabytes: --large
 def whole_recordings(random):
     for filter in INTEGERS:
-        data = random.randbytes(filter.width * LIMIT)
-        yield from levels_and_back(random, "multi_dwt", [(filter, data, MOST_LEVELS)])
+        recording = filter, random.randbytes(filter.width * LIMIT), MOST_LEVELS
+        [answer] = yield [(multi_dwt_call(random, *recording), None)]
+        yield [(dwt_call(random, *recording), front(*recording, answer))]
+        yield [back_again(random, "multi_dwt", recording, answer)]
         yield from one_by_one(too_long(random, filter, "multi_dwt"))
 
 
@@ -619,6 +670,7 @@ SUITES = {
     "depth": depth,
     "integer": integer,
     "floats": floats,
+    "dwt": dwt,
     "multi_dwt": multi_dwt,
     "multi_idwt": multi_idwt,
 }
