@@ -462,8 +462,13 @@ def unworded(word):
     return bytes.fromhex(word[1:])
 
 
-# Slices of wrong lengths by samples and by bytes, and work areas that are exactly full or one short.
+# Slices of wrong lengths by samples and by bytes, and work areas that are empty, one short, exactly full or longer.
 def wrong_rooms(random, verb, count):
+    outputs = (SLICES[verb].lent - SLICES[verb].works) * [0]
+    for filter, n in product(INTEGERS + FLOATS, (4, 5, 8, 9, 33)):
+        for levels, *works in product(range(1 + depth_of(filter, n)), *2 * [(-n, -1, 0, 1)]):
+            longer = [filter.width * more for more in outputs + works]
+            yield LEVELS_CALLS[verb](random, filter, any_sort(random, filter.kind, n), levels, longer)
     for _ in range(count):
         filter, n = random.choice(INTEGERS + FLOATS), random.choice([0, 1, 2, 3, 4, 5, 8, 9, 33])
         data = random.randbytes(n * filter.width + random.choice([0, 0, 0, 1]))
