@@ -1,5 +1,5 @@
 // Times the port beside the Rust, in one process, and prints a table. Built and run by bench/run.
-// A filter is a line of filters!, and a line of CASES for each case that it is timed in.
+// A filter is a line of filters!, and a line of FILTERS.
 
 include!("../tests/oracle/osclet.rs");
 
@@ -11,7 +11,8 @@ use std::marker::PhantomData;
 use std::time::{Duration, Instant};
 
 const SAMPLES: usize = 65_536;
-const LEVELS: usize = 5;
+// A redraw's levels, and all that there are.
+const LEVELS: [(&str, usize); 2] = [("five levels", 5), ("full depth", 15)];
 // A side of a case is run at least so often and for so long, some runs at a time and in turn with the others.
 const RUNS: usize = 200;
 const AT_LEAST: Duration = Duration::from_millis(200);
@@ -77,6 +78,37 @@ trait Filter: DwtExecutor<<Self as Filter>::Sample> + Default {
         details: &[Self::Sample],
         output: &mut [Self::Sample],
     ) -> Answer;
+    fn bk_multi_dwt(signal: &[Self::Sample], levels: u32, lent: &mut Lent<Self::Sample>) -> Answer;
+    fn bk_multi_idwt(
+        approx: &[Self::Sample],
+        details: &[Self::Sample],
+        lengths: &[u8],
+        lent: &mut Lent<Self::Sample>,
+    ) -> Answer;
+    fn bk_dwt(
+        signal: &[Self::Sample],
+        levels: u32,
+        bands: [&mut [Self::Sample]; 2],
+        lent: &mut Lent<Self::Sample>,
+    ) -> Answer;
+}
+
+// Work areas, and the output.
+struct Lent<T> {
+    from: Vec<T>,
+    to: Vec<T>,
+    output: Vec<T>,
+}
+
+impl<T: Copy + Default> Lent<T> {
+    fn new() -> Self {
+        let area = || vec![T::default(); SAMPLES];
+        Lent {
+            from: area(),
+            to: area(),
+            output: area(),
+        }
+    }
 }
 
 #[repr(C)]
@@ -90,7 +122,8 @@ struct Answer {
 // The exported functions return their Answer by value. On x86-64 that is the same as a pointer to it as first
 // argument, which is how the library for Arm takes it (bench/host-staticlib): declared so, they are right on both.
 macro_rules! filters {
-    ($($name: literal, $filter: ty, $sample: ty, $forward: ident, $inverse: ident;)*) => {
+    ($($name: literal, $filter: ty, $sample: ty,
+       $forward: ident, $inverse: ident, $multi_dwt: ident, $multi_idwt: ident, $dwt: ident;)*) => {
         unsafe extern "C" {
             $(
                 fn $forward(
@@ -104,6 +137,32 @@ macro_rules! filters {
                     approx: *const $sample, approx_length: usize,
                     details: *const $sample, details_length: usize,
                     output: *mut $sample, output_length: usize,
+                ) -> *mut Answer;
+                fn $multi_dwt(
+                    answer: *mut Answer,
+                    signal: *const $sample, signal_length: usize,
+                    levels: u32,
+                    output: *mut $sample, output_length: usize,
+                    work1: *mut $sample, work1_length: usize,
+                    work2: *mut $sample, work2_length: usize,
+                ) -> *mut Answer;
+                fn $multi_idwt(
+                    answer: *mut Answer,
+                    approx: *const $sample, approx_length: usize,
+                    details: *const $sample, details_length: usize,
+                    lengths: *const u8, lengths_length: usize,
+                    output: *mut $sample, output_length: usize,
+                    work1: *mut $sample, work1_length: usize,
+                    work2: *mut $sample, work2_length: usize,
+                ) -> *mut Answer;
+                fn $dwt(
+                    answer: *mut Answer,
+                    signal: *const $sample, signal_length: usize,
+                    levels: u32,
+                    approx: *mut $sample, approx_length: usize,
+                    details: *mut $sample, details_length: usize,
+                    work1: *mut $sample, work1_length: usize,
+                    work2: *mut $sample, work2_length: usize,
                 ) -> *mut Answer;
             )*
         }
@@ -137,19 +196,86 @@ macro_rules! filters {
                 }
                 answer
             }
+
+            fn bk_multi_dwt(signal: &[$sample], levels: u32, lent: &mut Lent<$sample>) -> Answer {
+                let mut answer = Answer::default();
+                let Lent { from, to, output } = lent;
+                unsafe {
+                    $multi_dwt(
+                        &mut answer,
+                        signal.as_ptr(), size_of_val(signal),
+                        levels,
+                        output.as_mut_ptr(), size_of_val(&output[..]),
+                        from.as_mut_ptr(), size_of_val(&from[..]),
+                        to.as_mut_ptr(), size_of_val(&to[..]),
+                    );
+                }
+                answer
+            }
+
+            fn bk_multi_idwt(
+                approx: &[$sample],
+                details: &[$sample],
+                lengths: &[u8],
+                lent: &mut Lent<$sample>,
+            ) -> Answer {
+                let mut answer = Answer::default();
+                let Lent { from, to, output } = lent;
+                unsafe {
+                    $multi_idwt(
+                        &mut answer,
+                        approx.as_ptr(), size_of_val(approx),
+                        details.as_ptr(), size_of_val(details),
+                        lengths.as_ptr(), lengths.len(),
+                        output.as_mut_ptr(), size_of_val(&output[..]),
+                        from.as_mut_ptr(), size_of_val(&from[..]),
+                        to.as_mut_ptr(), size_of_val(&to[..]),
+                    );
+                }
+                answer
+            }
+
+            fn bk_dwt(
+                signal: &[$sample],
+                levels: u32,
+                [approx, details]: [&mut [$sample]; 2],
+                lent: &mut Lent<$sample>,
+            ) -> Answer {
+                let mut answer = Answer::default();
+                let Lent { from, to, .. } = lent;
+                unsafe {
+                    $dwt(
+                        &mut answer,
+                        signal.as_ptr(), size_of_val(signal),
+                        levels,
+                        approx.as_mut_ptr(), size_of_val(approx),
+                        details.as_mut_ptr(), size_of_val(details),
+                        from.as_mut_ptr(), size_of_val(&from[..]),
+                        to.as_mut_ptr(), size_of_val(&to[..]),
+                    );
+                }
+                answer
+            }
         })*
     };
 }
 
 // Integers with an intermediate wider than the sample, floats unfused, as document 01 has them.
 filters! {
-    "5/3 i8", Cdf53Integer<i8, i32>, i8, bk_cdf53_forward_i8, bk_cdf53_inverse_i8;
-    "5/3 i16", Cdf53Integer<i16, i32>, i16, bk_cdf53_forward_i16, bk_cdf53_inverse_i16;
-    "5/3 i32", Cdf53Integer<i32, i64>, i32, bk_cdf53_forward_i32, bk_cdf53_inverse_i32;
-    "5/3 f32", Cdf53<f32>, f32, bk_cdf53_forward_f32, bk_cdf53_inverse_f32;
-    "5/3 f64", Cdf53<f64>, f64, bk_cdf53_forward_f64, bk_cdf53_inverse_f64;
-    "9/7 f32", Cdf97<f32>, f32, bk_cdf97_forward_f32, bk_cdf97_inverse_f32;
-    "9/7 f64", Cdf97<f64>, f64, bk_cdf97_forward_f64, bk_cdf97_inverse_f64;
+    "5/3 i8", Cdf53Integer<i8, i32>, i8,
+        bk_cdf53_forward_i8, bk_cdf53_inverse_i8, bk_cdf53_multi_dwt_i8, bk_cdf53_multi_idwt_i8, bk_cdf53_dwt_i8;
+    "5/3 i16", Cdf53Integer<i16, i32>, i16,
+        bk_cdf53_forward_i16, bk_cdf53_inverse_i16, bk_cdf53_multi_dwt_i16, bk_cdf53_multi_idwt_i16, bk_cdf53_dwt_i16;
+    "5/3 i32", Cdf53Integer<i32, i64>, i32,
+        bk_cdf53_forward_i32, bk_cdf53_inverse_i32, bk_cdf53_multi_dwt_i32, bk_cdf53_multi_idwt_i32, bk_cdf53_dwt_i32;
+    "5/3 f32", Cdf53<f32>, f32,
+        bk_cdf53_forward_f32, bk_cdf53_inverse_f32, bk_cdf53_multi_dwt_f32, bk_cdf53_multi_idwt_f32, bk_cdf53_dwt_f32;
+    "5/3 f64", Cdf53<f64>, f64,
+        bk_cdf53_forward_f64, bk_cdf53_inverse_f64, bk_cdf53_multi_dwt_f64, bk_cdf53_multi_idwt_f64, bk_cdf53_dwt_f64;
+    "9/7 f32", Cdf97<f32>, f32,
+        bk_cdf97_forward_f32, bk_cdf97_inverse_f32, bk_cdf97_multi_dwt_f32, bk_cdf97_multi_idwt_f32, bk_cdf97_dwt_f32;
+    "9/7 f64", Cdf97<f64>, f64,
+        bk_cdf97_forward_f64, bk_cdf97_inverse_f64, bk_cdf97_multi_dwt_f64, bk_cdf97_multi_idwt_f64, bk_cdf97_dwt_f64;
 }
 
 // One level, into lent slices.
@@ -216,10 +342,14 @@ fn best<const N: usize>(mut sides: [&mut dyn FnMut(); N]) -> [f64; N] {
     best.map(|time| time.as_secs_f64() * 1e6)
 }
 
-fn say(filter: &str, case: &str, driver: Option<f64>, [rust, port]: [f64; 2]) {
-    let driver = driver.map_or("-".to_string(), |time| format!("{time:.1}"));
-    let ratio = port / rust;
-    println!("| {filter} | {case} | {driver} | {rust:.1} | {port:.1} | {ratio:.2} |");
+// Times in microseconds: the Rust's driver, which allocates, its one-level calls on lent slices, and the port.
+fn say(filter: &str, case: &str, driver: Option<f64>, lent: Option<f64>, port: f64) {
+    let cell = |number: f64, digits: usize| format!("{number:.digits$}");
+    let times = [driver, lent].map(|time| time.map_or("-".to_string(), |time| cell(time, 1)));
+    let ratios =
+        [driver, lent].map(|time| time.map_or("-".to_string(), |time| cell(port / time, 2)));
+    let (times, ratios) = (times.join(" | "), ratios.join(" | "));
+    println!("| {filter} | {case} | {times} | {port:.1} | {ratios} |");
 }
 
 // ---- cases
@@ -239,47 +369,29 @@ fn one_level<F: Filter>() {
     let ((rust, port), signal) = (sides::<F>(), drawn::<F>());
     let lent = |n| vec![F::Sample::default(); n];
     let [mut a, mut b, mut d, mut e] = [SAMPLES / 2; 4].map(lent);
-    let times = best([
+    let [r, p] = best([
         &mut || rust.forward(black_box(&signal), black_box(&mut a), black_box(&mut d)),
         &mut || port.forward(black_box(&signal), black_box(&mut b), black_box(&mut e)),
     ]);
     assert!(a == b && d == e, "the two sides differ");
-    say(F::NAME, "one level, forward", None, times);
+    say(F::NAME, "one level, forward", None, Some(r), p);
 
     let [mut x, mut y] = [SAMPLES; 2].map(lent);
-    let times = best([
+    let [r, p] = best([
         &mut || rust.inverse(black_box(&a), black_box(&d), black_box(&mut x)),
         &mut || port.inverse(black_box(&b), black_box(&e), black_box(&mut y)),
     ]);
     assert!(x == y, "the two sides differ");
     assert!(restores(&signal, &x), "the sides do not restore");
-    say(F::NAME, "one level, inverse", None, times);
-}
-
-// Work areas, and the output.
-struct Lent<T> {
-    from: Vec<T>,
-    to: Vec<T>,
-    output: Vec<T>,
-}
-
-impl<T: Copy + Default> Lent<T> {
-    fn new() -> Self {
-        let area = || vec![T::default(); SAMPLES];
-        Lent {
-            from: area(),
-            to: area(),
-            output: area(),
-        }
-    }
+    say(F::NAME, "one level, inverse", None, Some(r), p);
 }
 
 // Deepest approximations, then details deepest first. SAMPLES is a power of two.
-fn forward<T: Copy>(side: &impl Level<T>, signal: &[T], lent: &mut Lent<T>) {
+fn forward<T: Copy>(side: &impl Level<T>, levels: usize, signal: &[T], lent: &mut Lent<T>) {
     let Lent { from, to, output } = lent;
     let mut half = SAMPLES / 2;
     side.forward(signal, &mut to[..half], &mut output[half..]);
-    for _ in 1..LEVELS {
+    for _ in 1..levels {
         std::mem::swap(from, to);
         half /= 2;
         side.forward(
@@ -291,9 +403,9 @@ fn forward<T: Copy>(side: &impl Level<T>, signal: &[T], lent: &mut Lent<T>) {
     output[..half].copy_from_slice(&to[..half]);
 }
 
-fn inverse<T: Copy>(side: &impl Level<T>, pyramid: &[T], lent: &mut Lent<T>) {
+fn inverse<T: Copy>(side: &impl Level<T>, levels: usize, pyramid: &[T], lent: &mut Lent<T>) {
     let Lent { from, to, output } = lent;
-    let mut half = SAMPLES >> LEVELS;
+    let mut half = SAMPLES >> levels;
     to[..half].copy_from_slice(&pyramid[..half]);
     while half < SAMPLES / 2 {
         std::mem::swap(from, to);
@@ -303,28 +415,50 @@ fn inverse<T: Copy>(side: &impl Level<T>, pyramid: &[T], lent: &mut Lent<T>) {
     side.inverse(&to[..half], &pyramid[half..], output);
 }
 
-fn five_levels<F: Filter>() {
-    let ((rust, port), signal) = (sides::<F>(), drawn::<F>());
+fn many_levels<F: Filter>(name: &str, levels: usize) {
+    let ((rust, _), signal) = (sides::<F>(), drawn::<F>());
     let (mut a, mut b) = (Lent::new(), Lent::new());
-    let [driver, times @ ..] = best([
-        &mut || drop(black_box(rust.0.multi_dwt(black_box(&signal), LEVELS))),
-        &mut || forward(&rust, black_box(&signal), black_box(&mut a)),
-        &mut || forward(&port, black_box(&signal), black_box(&mut b)),
+    let [driver, lent, port] = best([
+        &mut || drop(black_box(rust.0.multi_dwt(black_box(&signal), levels))),
+        &mut || forward(&rust, levels, black_box(&signal), black_box(&mut a)),
+        &mut || {
+            check(F::bk_multi_dwt(
+                black_box(&signal),
+                levels as u32,
+                black_box(&mut b),
+            ))
+        },
     ]);
     assert!(a.output == b.output, "the two sides differ");
-    say(F::NAME, "five levels, forward", Some(driver), times);
+    say(
+        F::NAME,
+        &format!("{name}, multi_dwt"),
+        Some(driver),
+        Some(lent),
+        port,
+    );
 
     let pyramid = a.output.clone();
-    // the Rust wants the details of level 1 first
+    let (approximations, joined) = pyramid.split_at(SAMPLES >> levels);
+    // the Rust wants the details of level 1 first, the port their lengths, deepest first
     let level = |l: usize| &pyramid[SAMPLES >> l..SAMPLES >> (l - 1)];
     let all = || MultiLevelDwtRef {
-        approximations: &pyramid[..SAMPLES >> LEVELS],
-        details: (1..=LEVELS).map(level).collect(),
+        approximations,
+        details: (1..=levels).map(level).collect(),
     };
-    let [driver, times @ ..] = best([
+    let length = |l: usize| (level(l).len() as u32).to_le_bytes();
+    let lengths: Vec<u8> = (1..=levels).rev().flat_map(length).collect();
+    let [driver, lent, port] = best([
         &mut || drop(black_box(rust.0.multi_idwt(black_box(&all())))),
-        &mut || inverse(&rust, black_box(&pyramid), black_box(&mut a)),
-        &mut || inverse(&port, black_box(&pyramid), black_box(&mut b)),
+        &mut || inverse(&rust, levels, black_box(&pyramid), black_box(&mut a)),
+        &mut || {
+            check(F::bk_multi_idwt(
+                black_box(approximations),
+                joined,
+                &lengths,
+                black_box(&mut b),
+            ))
+        },
     ]);
     assert!(a.output == b.output, "the two sides differ");
     assert!(restores(&signal, &a.output), "the sides do not restore");
@@ -332,7 +466,37 @@ fn five_levels<F: Filter>() {
         rust.0.multi_idwt(&all()).unwrap() == a.output,
         "the Rust's driver differs"
     );
-    say(F::NAME, "five levels, inverse", Some(driver), times);
+    say(
+        F::NAME,
+        &format!("{name}, multi_idwt"),
+        Some(driver),
+        Some(lent),
+        port,
+    );
+}
+
+// The last level's bands.
+fn last_level<F: Filter>(name: &str, levels: usize) {
+    let ((rust, _), signal) = (sides::<F>(), drawn::<F>());
+    let [mut a, mut d] = [SAMPLES >> levels; 2].map(|n| vec![F::Sample::default(); n]);
+    let mut works = Lent::new();
+    let [driver, port] = best([
+        &mut || drop(black_box(rust.0.dwt(black_box(&signal), levels))),
+        &mut || {
+            check(F::bk_dwt(
+                black_box(&signal),
+                levels as u32,
+                black_box([&mut a, &mut d]),
+                black_box(&mut works),
+            ))
+        },
+    ]);
+    let last = rust.0.dwt(&signal, levels).unwrap();
+    assert!(
+        last.approximations == a && last.details == d,
+        "the two sides differ"
+    );
+    say(F::NAME, &format!("{name}, dwt"), Some(driver), None, port);
 }
 
 // glibc gives the pages of a large block back when it is freed, and the Rust, which allocates, then waits for
@@ -341,29 +505,30 @@ fn keep_pages() {
     drop(black_box(vec![1_u8; 16 << 20]));
 }
 
-const CASES: &[fn()] = &[
-    one_level::<Cdf53Integer<i8, i32>>,
-    one_level::<Cdf53Integer<i16, i32>>,
-    one_level::<Cdf53Integer<i32, i64>>,
-    five_levels::<Cdf53Integer<i8, i32>>,
-    five_levels::<Cdf53Integer<i16, i32>>,
-    five_levels::<Cdf53Integer<i32, i64>>,
-    one_level::<Cdf53<f32>>,
-    one_level::<Cdf53<f64>>,
-    one_level::<Cdf97<f32>>,
-    one_level::<Cdf97<f64>>,
-    five_levels::<Cdf53<f32>>,
-    five_levels::<Cdf53<f64>>,
-    five_levels::<Cdf97<f32>>,
-    five_levels::<Cdf97<f64>>,
+fn cases<F: Filter>() {
+    one_level::<F>();
+    for (name, levels) in LEVELS {
+        many_levels::<F>(name, levels);
+        last_level::<F>(name, levels);
+    }
+}
+
+const FILTERS: &[fn()] = &[
+    cases::<Cdf53Integer<i8, i32>>,
+    cases::<Cdf53Integer<i16, i32>>,
+    cases::<Cdf53Integer<i32, i64>>,
+    cases::<Cdf53<f32>>,
+    cases::<Cdf53<f64>>,
+    cases::<Cdf97<f32>>,
+    cases::<Cdf97<f64>>,
 ];
 
 fn main() {
     keep_pages();
     println!("{SAMPLES} samples, best time in microseconds\n");
     println!(
-        "| filter | case | the Rust's driver | the Rust, lent | the port | port / Rust, lent |"
+        "| filter | case | the Rust's driver | the Rust, lent | the port | port / driver | port / lent |"
     );
-    println!("|---|---|---|---|---|---|");
-    CASES.iter().for_each(|case| case());
+    println!("|---|---|---|---|---|---|---|");
+    FILTERS.iter().for_each(|cases| cases());
 }

@@ -174,6 +174,91 @@ bk_answer bk_cdf97_multi_dwt_f64(const uint8_t *signal, size_t signal_bytes, uin
                                  size_t output_bytes, uint8_t *work1, size_t work1_bytes, uint8_t *work2,
                                  size_t work2_bytes);
 
+/*
+ * The samples of a recording back from its many levels: the deepest approximations in `approx`, the details of all levels in
+ * `details`, deepest first, and in `lengths` how many details each level has, in that order, each a u32, little-endian. Into
+ * `output` n samples, as many as there are in `approx` and `details` together. Integers come back as they went into multi_dwt,
+ * floats come back near. `work1` and `work2` are room; what their first n samples hold after a done call is not said, and what
+ * is beyond them is as it was.
+ *
+ * Refused, in this order:
+ *   9 (0, length)        a slice's byte length is no multiple of the width, or that of lengths of 4: the first of approx,
+ *                        details, lengths, output, work1, work2
+ *   6                    over 16,777,216 samples in output, approx or details, or more than 23 lengths
+ *   5                    no lengths, or no approximations
+ *   9 (0, sum)           the lengths add up to sum, and not to the samples in details
+ *   2 (expected, got)    level by level, from the deepest: the approximations, in approx or restored by the level before, are
+ *                        not the band of m samples, m being those and the level's details together: ceil(m/2), but at least 2
+ *   2 (expected, got)    at the same level: the details are not: floor(m/2), but at least 1 (5/3) or 2 (9/7); the numbers are
+ *                        those of the approximations
+ *   3 (got, n)           output does not hold n samples
+ *   7 (have, n)          work1 holds fewer than n samples, then work2
+ */
+bk_answer bk_cdf53_multi_idwt_i8(const uint8_t *approx, size_t approx_bytes, const uint8_t *details,
+                                 size_t details_bytes, const uint8_t *lengths, size_t lengths_bytes, uint8_t *output,
+                                 size_t output_bytes, uint8_t *work1, size_t work1_bytes, uint8_t *work2,
+                                 size_t work2_bytes);
+bk_answer bk_cdf53_multi_idwt_i16(const uint8_t *approx, size_t approx_bytes, const uint8_t *details,
+                                  size_t details_bytes, const uint8_t *lengths, size_t lengths_bytes, uint8_t *output,
+                                  size_t output_bytes, uint8_t *work1, size_t work1_bytes, uint8_t *work2,
+                                  size_t work2_bytes);
+bk_answer bk_cdf53_multi_idwt_i32(const uint8_t *approx, size_t approx_bytes, const uint8_t *details,
+                                  size_t details_bytes, const uint8_t *lengths, size_t lengths_bytes, uint8_t *output,
+                                  size_t output_bytes, uint8_t *work1, size_t work1_bytes, uint8_t *work2,
+                                  size_t work2_bytes);
+bk_answer bk_cdf53_multi_idwt_f32(const uint8_t *approx, size_t approx_bytes, const uint8_t *details,
+                                  size_t details_bytes, const uint8_t *lengths, size_t lengths_bytes, uint8_t *output,
+                                  size_t output_bytes, uint8_t *work1, size_t work1_bytes, uint8_t *work2,
+                                  size_t work2_bytes);
+bk_answer bk_cdf53_multi_idwt_f64(const uint8_t *approx, size_t approx_bytes, const uint8_t *details,
+                                  size_t details_bytes, const uint8_t *lengths, size_t lengths_bytes, uint8_t *output,
+                                  size_t output_bytes, uint8_t *work1, size_t work1_bytes, uint8_t *work2,
+                                  size_t work2_bytes);
+bk_answer bk_cdf97_multi_idwt_f32(const uint8_t *approx, size_t approx_bytes, const uint8_t *details,
+                                  size_t details_bytes, const uint8_t *lengths, size_t lengths_bytes, uint8_t *output,
+                                  size_t output_bytes, uint8_t *work1, size_t work1_bytes, uint8_t *work2,
+                                  size_t work2_bytes);
+bk_answer bk_cdf97_multi_idwt_f64(const uint8_t *approx, size_t approx_bytes, const uint8_t *details,
+                                  size_t details_bytes, const uint8_t *lengths, size_t lengths_bytes, uint8_t *output,
+                                  size_t output_bytes, uint8_t *work1, size_t work1_bytes, uint8_t *work2,
+                                  size_t work2_bytes);
+
+/*
+ * The last of so many levels of the samples in `signal`: its approximations into `approx`, its details into `details`. The next
+ * level's input is this level's approximations, and m, the last level's input length, is n halved, rounded up, at every level
+ * before it. 0 levels means 1. `work1` and `work2` are room for the n samples of `signal` each; what their first n samples hold
+ * after a done call is not said, and what is beyond them is as it was.
+ *
+ * Refused, in this order:
+ *   9 (0, length)   a slice's byte length is no multiple of the width: the first of signal, approx, details, work1, work2
+ *   6               over 16,777,216 samples
+ *   4               fewer levels in the recording than asked, or none
+ *   2 (got, m)      approx does not hold ceil(m/2) samples
+ *   2 (got, m)      details does not hold floor(m/2) samples
+ *   7 (have, n)     work1 holds fewer than n samples, then work2
+ */
+bk_answer bk_cdf53_dwt_i8(const uint8_t *signal, size_t signal_bytes, uint32_t levels, uint8_t *approx,
+                          size_t approx_bytes, uint8_t *details, size_t details_bytes, uint8_t *work1,
+                          size_t work1_bytes, uint8_t *work2, size_t work2_bytes);
+bk_answer bk_cdf53_dwt_i16(const uint8_t *signal, size_t signal_bytes, uint32_t levels, uint8_t *approx,
+                           size_t approx_bytes, uint8_t *details, size_t details_bytes, uint8_t *work1,
+                           size_t work1_bytes, uint8_t *work2, size_t work2_bytes);
+bk_answer bk_cdf53_dwt_i32(const uint8_t *signal, size_t signal_bytes, uint32_t levels, uint8_t *approx,
+                           size_t approx_bytes, uint8_t *details, size_t details_bytes, uint8_t *work1,
+                           size_t work1_bytes, uint8_t *work2, size_t work2_bytes);
+bk_answer bk_cdf53_dwt_f32(const uint8_t *signal, size_t signal_bytes, uint32_t levels, uint8_t *approx,
+                           size_t approx_bytes, uint8_t *details, size_t details_bytes, uint8_t *work1,
+                           size_t work1_bytes, uint8_t *work2, size_t work2_bytes);
+bk_answer bk_cdf53_dwt_f64(const uint8_t *signal, size_t signal_bytes, uint32_t levels, uint8_t *approx,
+                           size_t approx_bytes, uint8_t *details, size_t details_bytes, uint8_t *work1,
+                           size_t work1_bytes, uint8_t *work2, size_t work2_bytes);
+bk_answer bk_cdf97_dwt_f32(const uint8_t *signal, size_t signal_bytes, uint32_t levels, uint8_t *approx,
+                           size_t approx_bytes, uint8_t *details, size_t details_bytes, uint8_t *work1,
+                           size_t work1_bytes, uint8_t *work2, size_t work2_bytes);
+bk_answer bk_cdf97_dwt_f64(const uint8_t *signal, size_t signal_bytes, uint32_t levels, uint8_t *approx,
+                           size_t approx_bytes, uint8_t *details, size_t details_bytes, uint8_t *work1,
+                           size_t work1_bytes, uint8_t *work2, size_t work2_bytes);
+
 #ifdef __cplusplus
 }
 #endif

@@ -5,60 +5,87 @@
 #
 # The desk's answer must be the Rust's, and document 01's where it adds a refusal of its own, and the suite's where it
 # knows one; a request that none of them answers, or that is no call to either server, is a difference too. The shortest
-# request that differs is kept in target/tests/differs.txt, a table for tests/ask.py.
+# request that differs is kept in target/tests/differs.txt, a table for tests/ask.py. A request that takes a server
+# over ten minutes ends the run and is kept there too.
 # What a call must leave alone of lent slices is looked at too.
 import argparse
 import os
 import random
+import struct
 import subprocess
 import sys
-from concurrent.futures import ThreadPoolExecutor
+import time
+from concurrent.futures import ThreadPoolExecutor, wait
 
 from ask import agree
-from suites import LIMIT, SUITES, WIDTHS
+from suites import LIMIT, MOST_LEVELS, SLICES, SUITES, WIDTHS
 
 NO_ANSWER = "no answer"
-# For each verb: how many slices, from the first, have a limit; how many, at the end, are lent; how many of those are
-# work areas, which the Rust does not have.
-SLICES = {"forward": (1, 2, 0), "inverse": (3, 1, 0), "multi_dwt": (1, 3, 2)}
+# A server that takes longer for a request, in seconds, is ended.
+PATIENCE = 600
+TOO_LATE = f"no answer in {PATIENCE} s"
 
 
 def taken_apart(request):
     name, *words = request.split(" ")
     verb, kind = name.split("_", 1)[1].rsplit("_", 1)
-    return verb, WIDTHS[kind], [word for word in words if word.startswith("x")]
+    return SLICES[verb], WIDTHS[kind], [word for word in words if word.startswith("x")]
 
 
 # What document 01 adds to the Rust: 9 for a byte length, 6 for a length above its limit, and where the Rust has nothing
-# else to say 7 for a work area; else None.
+# else to say 9 for lengths that do not add up and 7 for a work area; else None.
 def additions(request, rust):
     if "_depth " in request:
         return "6 0 0" if int(request.split(" ")[1]) > LIMIT else None
     verb, width, slices = taken_apart(request)
-    lengths, (limited, lent, works) = [len(word) // 2 for word in slices], SLICES[verb]
-    refusals = [f"9 0 {length}" for length in lengths if length % width]
-    refusals += ["6 0 0" for length in lengths[:limited] if length > LIMIT * width]
-    if works and rust == "-":
-        refusals += [f"7 {length // width} {lengths[0] // width}" for length in lengths[-works:] if length < lengths[0]]
-    return " ".join([refusals[0], *slices[-lent:]]) if refusals else None
+    counts = [len(word) // 2 for word in slices]
+    refusals = ragged(verb, width, counts) or too_long(verb, width, counts)
+    if rust == "-":
+        refusals = refusals or wrong_sum(verb, width, slices) or no_room(verb, width, counts)
+    return " ".join([refusals[0], *slices[-verb.lent:]]) if refusals else None
 
 
-# Whether the desk left alone what it must: after a refusal every lent slice, else work areas beyond the signal's length.
+# The refusals of each kind, in order; counts are of bytes.
+def ragged(verb, width, counts):
+    widths = [4 if place == verb.lengths else width for place in range(len(counts))]
+    return [f"9 0 {count}" for count, width in zip(counts, widths) if count % width]
+
+
+def too_long(verb, width, counts):
+    limits = {place: LIMIT * width for place in verb.limited} | {verb.lengths: 4 * MOST_LEVELS}
+    return ["6 0 0" for place, count in enumerate(counts) if count > limits.get(place, count)]
+
+
+def wrong_sum(verb, width, slices):
+    if verb.lengths is None:
+        return []
+    total = sum(number for number, in struct.iter_unpack("<I", bytes.fromhex(slices[verb.lengths][1:])))
+    return [f"9 0 {total}"] if total * width != len(slices[1]) // 2 else []
+
+
+def no_room(verb, width, counts):
+    need = sum(counts[:verb.needed])
+    return [f"7 {count // width} {need // width}" for count in counts[len(counts) - verb.works:] if count < need]
+
+
+# Whether the desk left alone what it must: after a refusal every lent slice, else work areas beyond the samples.
 def spared(request, said):
     if "_depth " in request:
         return True
     verb, _, slices = taken_apart(request)
-    _, lent, works = SLICES[verb]
-    before, after = slices[-lent:], said.split(" ")[3:]
+    before, after = slices[-verb.lent:], said.split(" ")[3:]
     if not said.startswith("0 "):
         return before == after
-    return all(was[len(slices[0]):] == now[len(slices[0]):] for was, now in zip(before[lent - works:], after[lent - works:]))
+    need = 1 + sum(len(word) - 1 for word in slices[:verb.needed])
+    outputs = verb.lent - verb.works
+    return all(was[need:] == now[need:] for was, now in zip(before[outputs:], after[outputs:]))
 
 
 class Server:
     def __init__(self, command):
         self.command = command
         self.process = subprocess.Popen(command, stdin=subprocess.PIPE, stdout=subprocess.PIPE, text=True)
+        self.answers, self.since = [], None
 
     def write(self, requests):
         try:
@@ -68,7 +95,15 @@ class Server:
             pass  # the answers that do not come say it
 
     def read(self, count):
-        return [self.process.stdout.readline().rstrip("\n") or NO_ANSWER for _ in range(count)]
+        self.answers = []
+        for _ in range(count):
+            self.since = time.monotonic()
+            self.answers.append(self.process.stdout.readline().rstrip("\n") or NO_ANSWER)
+        self.since = None
+        return self.answers
+
+    def is_late(self):
+        return self.since is not None and time.monotonic() - self.since > PATIENCE
 
     # The place of the first request that ends a new server when they are asked one at a time.
     def ended_by(self, requests):
@@ -87,7 +122,7 @@ class Tally:
 
     def count(self, request, said, rust, wanted):
         own = additions(request, rust)
-        known = {"the Rust": None if rust == "-" else rust, "document 01": own, "the way back": wanted}
+        known = {"the Rust": None if rust == "-" else rust, "document 01": own, "the suite": wanted}
         known = {who: answer for who, answer in known.items() if answer is not None}
         self.requests += 1
         self.refused += not said.startswith("0 ")
@@ -111,6 +146,15 @@ class Tally:
             self.shortest = request, answer
 
 
+# The server that takes too long for a request; None once all have read their answers.
+def late_one(reading, servers):
+    while wait(reading, timeout=1).not_done:
+        for server in servers:
+            if server.is_late():
+                return server
+    return None
+
+
 def compare(suite, size, seed):
     tally, answers = Tally(), None
     desk, oracle = Server(["tests/desk/run"]), Server(["target/tests/oracle"])
@@ -125,6 +169,13 @@ def compare(suite, size, seed):
             for server in desk, oracle:
                 pool.submit(server.write, requests)
             reading = [pool.submit(server.read, len(requests)) for server in (desk, oracle)]
+            late = late_one(reading, (desk, oracle))
+            if late:
+                said = [TOO_LATE if server is late else "-" for server in (desk, oracle)]
+                tally.differ(requests[len(late.answers)], said[0], "the Rust", said[1])
+                for server in desk, oracle:
+                    server.process.kill()
+                return tally
             answers, rust = (answer.result() for answer in reading)
             if NO_ANSWER in answers + rust:
                 place = (desk if NO_ANSWER in answers else oracle).ended_by(requests)

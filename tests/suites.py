@@ -9,6 +9,29 @@ from typing import NamedTuple
 LIMIT = 16_777_216
 WIDTHS = {"i8": 1, "i16": 2, "i32": 4, "f32": 4, "f64": 8}
 OTHER = {"forward": "inverse", "inverse": "forward"}
+SMALLEST = {"cdf53": 3, "cdf97": 4}
+MOST_LEVELS = 23
+
+
+# The slices of a call: how many; the places of those that have a limit; how many, at the end, are lent; how many of
+# those are work areas, which the Rust does not have; how many, from the first, have together as many samples as a work
+# area needs; the place of the one of u32 numbers.
+class Slices(NamedTuple):
+    count: int
+    limited: tuple
+    lent: int
+    works: int = 0
+    needed: int = 1
+    lengths: int = None
+
+
+SLICES = {
+    "forward": Slices(3, (0,), 2),
+    "inverse": Slices(3, (0, 1, 2), 1),
+    "dwt": Slices(5, (0,), 4, 2),
+    "multi_dwt": Slices(4, (0,), 3, 2),
+    "multi_idwt": Slices(6, (0, 1, 3), 3, 2, needed=2, lengths=2),
+}
 
 
 # The lengths beside the powers of two, up to the last power.
@@ -19,6 +42,8 @@ def beside_powers(last):
 # Every short length, and those beside a power of two.
 INTEGER_LENGTHS = sorted(set(range(3, 71)) | beside_powers(12))
 FLOAT_LENGTHS = sorted(set(range(21)) | beside_powers(10))
+# Those around every boundary of depth: 5/3 gains a level after a power of two, 9/7 after three times one.
+LEVEL_LENGTHS = sorted(set(FLOAT_LENGTHS) | {3 * 2**power + beside for power in range(9) for beside in (-1, 0, 1)})
 
 
 class Filter(NamedTuple):
@@ -29,9 +54,10 @@ class Filter(NamedTuple):
     def width(self):
         return WIDTHS[self.kind]
 
-    # A call of one level on slices of bytes.
-    def request(self, verb, slices):
-        return f"{self.wavelet}_{verb}_{self.kind} {words(slices)}"
+    # A call on slices of bytes; levels, for a call that takes them, stand after the first.
+    def request(self, verb, slices, *levels):
+        first, *rest = map(word, slices)
+        return " ".join([f"{self.wavelet}_{verb}_{self.kind}", first, *map(str, levels), *rest])
 
 
 INTEGERS = [Filter("cdf53", kind) for kind in ("i8", "i16", "i32")]
@@ -58,13 +84,18 @@ def plain(requests):
         yield [(request, None) for request in chunk]
 
 
+def word(data):
+    return "x" + data.hex()
+
+
 def words(slices):
-    return " ".join("x" + data.hex() for data in slices)
+    return " ".join(map(word, slices))
 
 
 # A call of one level; lengths are in bytes, and every slice is random.
 def any_call(random, verb, filter, *lengths):
-    return filter.request(verb, map(random.randbytes, lengths))
+    levels = [1] if verb in ("dwt", "multi_dwt") else []
+    return filter.request(verb, map(random.randbytes, lengths), *levels)
 
 
 # ---- samples
@@ -88,6 +119,10 @@ def call(random, verb, filter, data):
 def drawn(random, kind, n):
     for sort in FLOAT_SORTS if kind in FORMATS else INTEGER_SORTS:
         yield sort(random, kind, n)
+
+
+def any_sort(random, kind, n):
+    return random.choice(FLOAT_SORTS if kind in FORMATS else INTEGER_SORTS)(random, kind, n)
 
 
 def any_bits(random, kind, n):
@@ -130,13 +165,18 @@ class Format(NamedTuple):
     fraction: int  # bits of the fraction
     top: int  # the exponent field of infinities and NaNs; the field of 1 is its half
     whole: int  # 5/3 gives whole numbers of at most this size back after one level: document 01's exact case
+    exact: int  # the most levels of the exact case
+
+    # The size of the exact case at so many levels, of which 0 means 1.
+    def at(self, levels):
+        return self.whole >> 4 * max(0, levels - 1)
 
     # Of a sign, a field and a fraction.
     def float(self, sign, field, fraction):
         return ((sign * (self.top + 1) + field) << self.fraction) + fraction
 
 
-FORMATS = {"f32": Format("f", "I", 23, 2**8 - 1, 2**20), "f64": Format("d", "Q", 52, 2**11 - 1, 2**49)}
+FORMATS = {"f32": Format("f", "I", 23, 2**8 - 1, 2**20, 6), "f64": Format("d", "Q", 52, 2**11 - 1, 2**49, 13)}
 
 
 def packed(letter, numbers):
@@ -213,10 +253,11 @@ def middling(random, kind, n):
 
 
 # Whole numbers of the exact case, of several sizes; a zero has any sign.
-def whole(random, kind, n):
-    sizes = random.choices([3, 1000, FORMATS[kind].whole - 1], k=n)
+def whole(random, kind, n, levels=1):
+    most = FORMATS[kind].at(levels)
+    sizes = random.choices([min(3, most), min(1000, most), most - 1], k=n)
     numbers = [random.randint(-size, size) for size in sizes]
-    instead = [FORMATS[kind].whole, -FORMATS[kind].whole, 0.0, -0.0]
+    instead = [most, -most, 0.0, -0.0]
     return packed(FORMATS[kind].number, [number or random.choice(instead) for number in numbers])
 
 
@@ -265,6 +306,7 @@ def integer(random, size):
     for verb in OTHER:
         yield from there_and_back(random, verb, short(longer))
         yield from there_and_back(random, verb, boundaries(random, INTEGERS, INTEGER_LENGTHS, rounds))
+    yield from one_by_one(too_long(random, INTEGERS[0], *OTHER))
 
 
 # Float 5/3 and 9/7, one level.
@@ -277,42 +319,241 @@ def floats(random, size):
     for verb in OTHER:
         yield from there_and_back(random, verb, short_floats(longer))
         yield from there_and_back(random, verb, boundaries(random, FLOATS, FLOAT_LENGTHS, rounds))
+    yield from one_by_one(too_long(random, FLOATS[0], "forward"))
 
 
 # multi_dwt of all filters.
-def multi(random, size):
+def multi_dwt(random, size):
     if size == "large":
-        # a recording of the limit in the narrowest samples, as deep as it goes, and one that is longer
-        for n, levels in (LIMIT, 23), (LIMIT + 1, 1):
-            yield from one_by_one([multi_call(random, INTEGERS[0], random.randbytes(n), levels)])
+        yield from whole_recordings(random)
         return
     rounds = {"small": 1, "full": 12}[size]
     yield [("cdf53_multi_dwt_i8 x0003fc0107 2 x0000000000 x0000000000 x0000000000", "0 0 0 xff03f80500 - -")]  # P5
-    yield from plain(levels_of_lengths(random, rounds))
-    yield from plain(wrong_rooms(random, 3000 * rounds))
+    yield from levels_and_back(random, "multi_dwt", of_levels(random, rounds, 2**32 - 1))
+    yield from levels_and_back(random, "multi_dwt", exact_levels(random, rounds))
+    yield from plain(wrong_rooms(random, "multi_dwt", 3000 * rounds))
+    yield from one_by_one(too_long(random, INTEGERS[0], "multi_dwt"))
 
 
-# Lent slices are longer by so many bytes: the output, and the work areas, which start longer than they need be.
-def multi_call(random, filter, data, levels, longer=(0, 8, 16)):
-    lent = [random.randbytes(max(0, len(data) + more)) for more in longer]
-    return f"{filter.wavelet}_multi_dwt_{filter.kind} {words([data])} {levels} {words(lent)}"
+# multi_idwt of all filters.
+def multi_idwt(random, size):
+    if size == "large":
+        for filter in INTEGERS:
+            yield from one_by_one(too_long(random, filter, "multi_idwt"))
+        return
+    rounds = {"small": 1, "full": 12}[size]
+    p5 = "cdf53_multi_idwt_i8 xff03 xf80500 x0100000002000000 x0000000000 x0000000000 x0000000000"
+    yield [(p5, "0 0 0 x0003fc0107 - -")]
+    yield from levels_and_back(random, "multi_idwt", of_levels(random, rounds))
+    yield from plain(wrong_bands(random))
+    yield from plain(wrong_lists(random))
+    yield from plain(wrong_rooms(random, "multi_idwt", 3000 * rounds))
+    yield from plain(wrong_slices(random, 3000 * rounds))
+    yield from one_by_one(too_long(random, INTEGERS[0], "multi_idwt"))
 
 
-# Lengths around every boundary of depth, with levels to 8 and beyond any depth.
-def levels_of_lengths(random, rounds):
-    for _, filter, n in product(range(rounds), INTEGERS + FLOATS, FLOAT_LENGTHS):
-        for levels in *range(9), n.bit_length(), 23, 24, 2**32 - 1:
-            data = random.choice(list(drawn(random, filter.kind, min(n, 70)))) if n <= 70 else any_bits(random, filter.kind, n)
-            yield multi_call(random, filter, data, levels)
+# dwt of all filters.
+def dwt(random, size):
+    if size == "large":
+        for filter in INTEGERS:
+            yield from one_by_one(too_long(random, filter, "dwt"))
+        return
+    rounds = {"small": 1, "full": 12}[size]
+    yield [("cdf53_dwt_i8 x0003fc0107 2 x0000 x00 x0000000000 x0000000000", "0 0 0 xff03 xf8 - -")]  # P5
+    yield from last_of_many(random, of_levels(random, rounds, 2**32 - 1))
+    yield from plain(wrong_last_bands(random))
+    yield from plain(wrong_rooms(random, "dwt", 3000 * rounds))
+    yield from one_by_one(too_long(random, INTEGERS[0], "dwt"))
 
 
-# Slices of wrong lengths by samples and by bytes, and work areas that are exactly full or one short.
-def wrong_rooms(random, count):
+# How many approximations so many levels of n samples have, and how many details each, the deepest first.
+def pyramid(n, levels):
+    lengths = []
+    for _ in range(levels):
+        n, details = bands(n)
+        lengths.insert(0, details)
+    return n, lengths
+
+
+def depth_of(filter, n):
+    return next(levels for levels in range(MOST_LEVELS + 1) if pyramid(n, levels)[0] < SMALLEST[filter.wavelet])
+
+
+# Slices of random bytes, longer by so many than their lengths.
+def lent(random, lengths, longer):
+    return [random.randbytes(max(0, length + more)) for length, more in zip(lengths, longer)]
+
+
+# Calls of many levels on data. Lent slices are longer by so many bytes than they must be: outputs, then work areas,
+# which have more than they need.
+def multi_dwt_call(random, filter, data, levels, longer=(0, 8, 16)):
+    return filter.request("multi_dwt", [data, *lent(random, 3 * [len(data)], longer)], levels)
+
+
+# The data are the deepest approximations and the details.
+def multi_idwt_call(random, filter, data, levels, longer=(0, 8, 16)):
+    approx, lengths = pyramid(len(data) // filter.width, max(1, levels))
+    cut = filter.width * approx
+    slices = [data[:cut], data[cut:], packed("I", lengths), *lent(random, 3 * [len(data)], longer)]
+    return filter.request("multi_idwt", slices)
+
+
+def dwt_call(random, filter, data, levels, longer=(0, 0, 8, 16)):
+    counts = [filter.width * count for count in bands(last_length(len(data) // filter.width, levels))]
+    return filter.request("dwt", [data, *lent(random, counts + 2 * [len(data)], longer)], levels)
+
+
+# The length of the last level's input; no recording has more levels than the most.
+def last_length(n, levels):
+    return pyramid(n, min(max(1, levels), MOST_LEVELS + 1) - 1)[0]
+
+
+LEVELS_CALLS = {"dwt": dwt_call, "multi_dwt": multi_dwt_call, "multi_idwt": multi_idwt_call}
+LEVELS_BACK = {"multi_dwt": "multi_idwt", "multi_idwt": "multi_dwt"}
+
+
+# Lengths around every boundary of depth, with levels to 8 and beyond the depth.
+def of_levels(random, rounds, *beyond):
+    for _, filter, n in product(range(rounds), INTEGERS + FLOATS, LEVEL_LENGTHS):
+        for levels in *range(9), n.bit_length(), MOST_LEVELS, MOST_LEVELS + 1, *beyond:
+            yield filter, any_sort(random, filter.kind, n), levels
+
+
+def exact_levels(random, rounds):
+    for _, filter, n in product(range(rounds), FLOATS, LEVEL_LENGTHS):
+        if filter.wavelet == "cdf53":
+            for levels in range(1, 1 + min(depth_of(filter, n), FORMATS[filter.kind].exact)):
+                yield filter, whole(random, filter.kind, n, levels), levels
+
+
+# Many levels, then back from what the desk answered, as in there_and_back.
+def levels_and_back(random, verb, inputs):
+    for chunk in chunks(inputs, lambda item: len(item[1]) + 40):
+        answers = yield [(LEVELS_CALLS[verb](random, *item), None) for item in chunk]
+        done = [pair for pair in zip(chunk, answers) if pair[1].startswith("0 0 0 ")]
+        yield [back_again(random, verb, *pair) for pair in done]
+
+
+# The other way on what the desk answered, and what that must give back.
+def back_again(random, verb, item, answer):
+    filter, data, levels = item
+    request = LEVELS_CALLS[LEVELS_BACK[verb]](random, filter, unworded(answer.split(" ")[3]), levels)
+    given = restored(verb, filter, data, levels)
+    return request, given and f"0 0 0 {word(given)} - -"
+
+
+# The last level's bands, which must be the front of what the desk answered for all levels.
+def last_of_many(random, inputs):
+    for chunk in chunks(inputs, lambda item: len(item[1]) + 40):
+        answers = yield [(multi_dwt_call(random, *item), None) for item in chunk]
+        yield [(dwt_call(random, *item), front(*item, answer)) for item, answer in zip(chunk, answers)]
+
+
+# The two bands at the front of a pyramid, and two work areas; None where it was refused.
+def front(filter, data, levels, answer):
+    if not answer.startswith("0 0 0 "):
+        return None
+    last = last_length(len(data) // filter.width, levels)
+    both = unworded(answer.split(" ")[3])[:filter.width * last]
+    return f"0 0 0 {words(read_by('inverse', filter, both))} - -"
+
+
+def unworded(word):
+    return bytes.fromhex(word[1:])
+
+
+# Slices of wrong lengths by samples and by bytes, and work areas that are empty, one short, exactly full or longer.
+def wrong_rooms(random, verb, count):
+    outputs = (SLICES[verb].lent - SLICES[verb].works) * [0]
+    for filter, n in product(INTEGERS + FLOATS, (4, 5, 8, 9, 33)):
+        for levels, *works in product(range(1 + depth_of(filter, n)), *2 * [(-n, -1, 0, 1)]):
+            longer = [filter.width * more for more in outputs + works]
+            yield LEVELS_CALLS[verb](random, filter, any_sort(random, filter.kind, n), levels, longer)
     for _ in range(count):
         filter, n = random.choice(INTEGERS + FLOATS), random.choice([0, 1, 2, 3, 4, 5, 8, 9, 33])
         data = random.randbytes(n * filter.width + random.choice([0, 0, 0, 1]))
         steps = [0, 0, 0, -filter.width, filter.width, 1, -1]
-        yield multi_call(random, filter, data, random.randrange(5), random.choices(steps, k=3))
+        longer = random.choices(steps, k=SLICES[verb].lent)
+        yield LEVELS_CALLS[verb](random, filter, data, random.randrange(5), longer)
+
+
+# Each band of the last level one short and one long, and both, at every level.
+def wrong_last_bands(random):
+    for filter, n in product(INTEGERS + FLOATS, (3, 4, 5, 6, 7, 8, 9, 12, 13, 33)):
+        for levels, *steps in product(range(depth_of(filter, n) + 2), (-1, 0, 1), (-1, 0, 1)):
+            data = random.randbytes(filter.width * n)
+            yield dwt_call(random, filter, data, levels, [filter.width * step for step in (*steps, 0, 0)])
+
+
+# multi_idwt on random bands of so many samples, with room for them.
+def bands_call(random, filter, approx, details, lengths):
+    counts = [filter.width * count for count in (approx, details, *3 * [approx + details])]
+    first, second, *rooms = map(random.randbytes, counts)
+    return filter.request("multi_idwt", [first, second, packed("I", lengths), *rooms])
+
+
+# Each band one short and one long, where the lengths add up to the details and where they do not.
+def wrong_bands(random):
+    for filter, n in product(INTEGERS + FLOATS, (3, 4, 5, 6, 7, 8, 9, 12, 13, 33)):
+        for levels in range(1, 1 + depth_of(filter, n)):
+            approx, lengths = pyramid(n, levels)
+            for step in -1, 1:
+                yield bands_call(random, filter, approx + step, n - approx, lengths)
+                yield bands_call(random, filter, approx, n - approx + step, lengths)
+                for place in range(levels):
+                    wrong = [length + step * (at == place) for at, length in enumerate(lengths)]
+                    yield bands_call(random, filter, approx, n - approx + step, wrong)
+                    yield bands_call(random, filter, approx, n - approx, wrong)
+
+
+# Lists of lengths that are no pyramid's: in another order, with one more or fewer, empty, of the most levels and of one
+# more, and such that 32 bits do not hold their sum.
+def wrong_lists(random):
+    top, most = 2**32 - 1, MOST_LEVELS
+    for filter, n in product(INTEGERS + FLOATS, (0, 1, 2, 3, 4, 5, 8, 13, 33, 70)):
+        approx, lengths = pyramid(n, depth_of(filter, n))
+        lists = [lengths[::-1], lengths[1:], lengths[:-1], [0, *lengths], [*lengths, 0]]
+        lists += [count * [length] for count, length in product((0, 1, most, most + 1), (0, 1))]
+        for few in lists:
+            yield bands_call(random, filter, approx, sum(few), few)
+            yield bands_call(random, filter, approx, n - approx, few)
+            yield bands_call(random, filter, 0, sum(few), few)
+        huge = [[top, 1, *lengths], [*lengths, 1, top], [2**31, 2**31, *lengths]]
+        for many in *huge, [top], most * [top], (most + 1) * [top]:
+            yield bands_call(random, filter, approx, n - approx, many)
+            yield bands_call(random, filter, 0, n - approx, many)
+
+
+# Any of the six slices wrong, several at once, in samples and in bytes.
+def wrong_slices(random, count):
+    for _ in range(count):
+        filter, n = random.choice(INTEGERS + FLOATS), random.choice([3, 4, 5, 8, 9, 13, 33])
+        approx, lengths = pyramid(n, random.randrange(1, 5))
+        steps = [0, 0, 0, 0, -filter.width, filter.width, 1, -1]
+        counts = [filter.width * count for count in (approx, n - approx, n, n, n)]
+        first, second, *rooms = lent(random, counts, random.choices(steps, k=5))
+        numbers = packed("I", random.choice([lengths, lengths, lengths, lengths[::-1], [0, *lengths]]))
+        numbers += random.randbytes(random.choice([0, 0, 0, 1, 3]))
+        yield filter.request("multi_idwt", [first, second, numbers, *rooms])
+
+
+# One slice over the limit and the others empty, for every slice that has one.
+def too_long(random, filter, *verbs):
+    for verb in verbs:
+        for place in SLICES[verb].limited:
+            lengths = SLICES[verb].count * [0]
+            lengths[place] = filter.width * (LIMIT + 1)
+            yield any_call(random, verb, filter, *lengths)
+
+
+# A recording of the limit at each width, as deep as it goes, and back, in lines of up to 540 megabytes: --large
+def whole_recordings(random):
+    for filter in INTEGERS:
+        recording = filter, random.randbytes(filter.width * LIMIT), MOST_LEVELS
+        [answer] = yield [(multi_dwt_call(random, *recording), None)]
+        yield [(dwt_call(random, *recording), front(*recording, answer))]
+        yield [back_again(random, "multi_dwt", recording, answer)]
+        yield from one_by_one(too_long(random, filter, "multi_dwt"))
 
 
 # A call, then the other on what the desk answered, which must give back what document 01 says.
@@ -331,14 +572,14 @@ def there_and_back(random, verb, inputs):
 
 # What a call and then the other give back, where document 01 says it: in integers all, in floats whole numbers that went
 # forward through 5/3 and are small enough. Each of those steps is exact, so every zero comes back positive.
-def restored(verb, filter, data):
+def restored(verb, filter, data, levels=1):
     if filter in INTEGERS:
         return data
-    if verb == "inverse" or filter.wavelet == "cdf97":
+    if verb in ("inverse", "multi_idwt") or filter.wavelet == "cdf97" or levels > FORMATS[filter.kind].exact:
         return None
     format, count = FORMATS[filter.kind], len(data) // filter.width
     numbers = struct.unpack(f"<{count}{format.number}", data)
-    if not all(number.is_integer() and abs(number) <= format.whole for number in numbers):
+    if not all(number.is_integer() and abs(number) <= format.at(levels) for number in numbers):
         return None
     return packed(format.number, [number + 0.0 for number in numbers])
 
@@ -434,5 +675,7 @@ SUITES = {
     "depth": depth,
     "integer": integer,
     "floats": floats,
-    "multi": multi,
+    "dwt": dwt,
+    "multi_dwt": multi_dwt,
+    "multi_idwt": multi_idwt,
 }

@@ -65,10 +65,26 @@ static bk_answer call_rwmmm(function f, const struct arg *a) {
         a[4].count);
 }
 
+static bk_answer call_rrrmmm(function f, const struct arg *a) {
+    return ((bk_answer(*)(const uint8_t *, size_t, const uint8_t *, size_t, const uint8_t *, size_t, uint8_t *, size_t,
+                          uint8_t *, size_t, uint8_t *, size_t))f)(
+        a[0].bytes, a[0].count, a[1].bytes, a[1].count, a[2].bytes, a[2].count, a[3].bytes, a[3].count, a[4].bytes,
+        a[4].count, a[5].bytes, a[5].count);
+}
+
+static bk_answer call_rwmmmm(function f, const struct arg *a) {
+    return ((bk_answer(*)(const uint8_t *, size_t, uint32_t, uint8_t *, size_t, uint8_t *, size_t, uint8_t *, size_t,
+                          uint8_t *, size_t))f)(
+        a[0].bytes, a[0].count, (uint32_t)a[1].number, a[2].bytes, a[2].count, a[3].bytes, a[3].count, a[4].bytes,
+        a[4].count, a[5].bytes, a[5].count);
+}
+
 static const struct shape shape_n = {"n", call_n};
 static const struct shape shape_rmm = {"rmm", call_rmm};
 static const struct shape shape_rrm = {"rrm", call_rrm};
 static const struct shape shape_rwmmm = {"rwmmm", call_rwmmm};
+static const struct shape shape_rwmmmm = {"rwmmmm", call_rwmmmm};
+static const struct shape shape_rrrmmm = {"rrrmmm", call_rrrmmm};
 
 static const struct row {
     const char *name;
@@ -98,6 +114,20 @@ static const struct row {
     {"cdf53_multi_dwt_f64", &shape_rwmmm, (function)bk_cdf53_multi_dwt_f64},
     {"cdf97_multi_dwt_f32", &shape_rwmmm, (function)bk_cdf97_multi_dwt_f32},
     {"cdf97_multi_dwt_f64", &shape_rwmmm, (function)bk_cdf97_multi_dwt_f64},
+    {"cdf53_multi_idwt_i8", &shape_rrrmmm, (function)bk_cdf53_multi_idwt_i8},
+    {"cdf53_multi_idwt_i16", &shape_rrrmmm, (function)bk_cdf53_multi_idwt_i16},
+    {"cdf53_multi_idwt_i32", &shape_rrrmmm, (function)bk_cdf53_multi_idwt_i32},
+    {"cdf53_multi_idwt_f32", &shape_rrrmmm, (function)bk_cdf53_multi_idwt_f32},
+    {"cdf53_multi_idwt_f64", &shape_rrrmmm, (function)bk_cdf53_multi_idwt_f64},
+    {"cdf97_multi_idwt_f32", &shape_rrrmmm, (function)bk_cdf97_multi_idwt_f32},
+    {"cdf97_multi_idwt_f64", &shape_rrrmmm, (function)bk_cdf97_multi_idwt_f64},
+    {"cdf53_dwt_i8", &shape_rwmmmm, (function)bk_cdf53_dwt_i8},
+    {"cdf53_dwt_i16", &shape_rwmmmm, (function)bk_cdf53_dwt_i16},
+    {"cdf53_dwt_i32", &shape_rwmmmm, (function)bk_cdf53_dwt_i32},
+    {"cdf53_dwt_f32", &shape_rwmmmm, (function)bk_cdf53_dwt_f32},
+    {"cdf53_dwt_f64", &shape_rwmmmm, (function)bk_cdf53_dwt_f64},
+    {"cdf97_dwt_f32", &shape_rwmmmm, (function)bk_cdf97_dwt_f32},
+    {"cdf97_dwt_f64", &shape_rwmmmm, (function)bk_cdf97_dwt_f64},
 };
 
 // ---- writing

@@ -6,11 +6,14 @@ ghost use Rattle.sizes.specs.Levels.{sayDepth};
 ghost use Rattle.cdf53i.specs.Bands.{low, high, back};
 ghost use Rattle.floats.specs.Bands as bands;
 ghost use lib.Ieee.{binary32, binary64};
-ghost use Rattle.dwt.specs.Calls.{Multi};
+ghost use Rattle.dwt.specs.Calls.{Multi, Dwt};
+ghost use Rattle.dwt.specs.Backward.{MultiBack};
 use answers::err::Answer;
 use cdf53i::cdf53i::execute_forward;
 use cdf53i::cdf53i::execute_inverse;
+use dwt::back::multi_idwt;
 use dwt::filter::Filter;
+use dwt::last::dwt;
 use dwt::levels::multi_dwt;
 use floats::cdf53f;
 use floats::cdf97f;
@@ -288,6 +291,314 @@ pub extern "C" fn bk_cdf97_multi_dwt_f64(
         levels as usize,
         signal,
         output,
+        work1,
+        work2,
+    )
+}
+
+#[no_mangle]
+pub extern "C" fn bk_cdf53_multi_idwt_i8(
+    approx: &[u8],
+    details: &[u8],
+    lengths: &[u8],
+    output: &mut [u8],
+    work1: &mut [u8],
+    work2: &mut [u8],
+) -> Answer
+    ensures { λ r. ⌜ MultiBack Filter.Cdf53I8 (now (approx .entry)) (now (details .entry)) (now (lengths .entry)) (now (output .entry)) (now (work1 .entry)) (now (work2 .entry)) r (now (output .exit)) (now (work1 .exit)) (now (work2 .exit)) ⌝ }
+{
+    multi_idwt(
+        Filter::Cdf53I8,
+        approx,
+        details,
+        lengths,
+        output,
+        work1,
+        work2,
+    )
+}
+
+#[no_mangle]
+pub extern "C" fn bk_cdf53_multi_idwt_i16(
+    approx: &[u8],
+    details: &[u8],
+    lengths: &[u8],
+    output: &mut [u8],
+    work1: &mut [u8],
+    work2: &mut [u8],
+) -> Answer
+    ensures { λ r. ⌜ MultiBack Filter.Cdf53I16 (now (approx .entry)) (now (details .entry)) (now (lengths .entry)) (now (output .entry)) (now (work1 .entry)) (now (work2 .entry)) r (now (output .exit)) (now (work1 .exit)) (now (work2 .exit)) ⌝ }
+{
+    multi_idwt(
+        Filter::Cdf53I16,
+        approx,
+        details,
+        lengths,
+        output,
+        work1,
+        work2,
+    )
+}
+
+#[no_mangle]
+pub extern "C" fn bk_cdf53_multi_idwt_i32(
+    approx: &[u8],
+    details: &[u8],
+    lengths: &[u8],
+    output: &mut [u8],
+    work1: &mut [u8],
+    work2: &mut [u8],
+) -> Answer
+    ensures { λ r. ⌜ MultiBack Filter.Cdf53I32 (now (approx .entry)) (now (details .entry)) (now (lengths .entry)) (now (output .entry)) (now (work1 .entry)) (now (work2 .entry)) r (now (output .exit)) (now (work1 .exit)) (now (work2 .exit)) ⌝ }
+{
+    multi_idwt(
+        Filter::Cdf53I32,
+        approx,
+        details,
+        lengths,
+        output,
+        work1,
+        work2,
+    )
+}
+
+#[no_mangle]
+pub extern "C" fn bk_cdf53_multi_idwt_f32(
+    approx: &[u8],
+    details: &[u8],
+    lengths: &[u8],
+    output: &mut [u8],
+    work1: &mut [u8],
+    work2: &mut [u8],
+) -> Answer
+    ensures { λ r. ⌜ MultiBack Filter.Cdf53F32 (now (approx .entry)) (now (details .entry)) (now (lengths .entry)) (now (output .entry)) (now (work1 .entry)) (now (work2 .entry)) r (now (output .exit)) (now (work1 .exit)) (now (work2 .exit)) ⌝ }
+{
+    multi_idwt(
+        Filter::Cdf53F32,
+        approx,
+        details,
+        lengths,
+        output,
+        work1,
+        work2,
+    )
+}
+
+#[no_mangle]
+pub extern "C" fn bk_cdf53_multi_idwt_f64(
+    approx: &[u8],
+    details: &[u8],
+    lengths: &[u8],
+    output: &mut [u8],
+    work1: &mut [u8],
+    work2: &mut [u8],
+) -> Answer
+    ensures { λ r. ⌜ MultiBack Filter.Cdf53F64 (now (approx .entry)) (now (details .entry)) (now (lengths .entry)) (now (output .entry)) (now (work1 .entry)) (now (work2 .entry)) r (now (output .exit)) (now (work1 .exit)) (now (work2 .exit)) ⌝ }
+{
+    multi_idwt(
+        Filter::Cdf53F64,
+        approx,
+        details,
+        lengths,
+        output,
+        work1,
+        work2,
+    )
+}
+
+#[no_mangle]
+pub extern "C" fn bk_cdf97_multi_idwt_f32(
+    approx: &[u8],
+    details: &[u8],
+    lengths: &[u8],
+    output: &mut [u8],
+    work1: &mut [u8],
+    work2: &mut [u8],
+) -> Answer
+    ensures { λ r. ⌜ MultiBack Filter.Cdf97F32 (now (approx .entry)) (now (details .entry)) (now (lengths .entry)) (now (output .entry)) (now (work1 .entry)) (now (work2 .entry)) r (now (output .exit)) (now (work1 .exit)) (now (work2 .exit)) ⌝ }
+{
+    multi_idwt(
+        Filter::Cdf97F32,
+        approx,
+        details,
+        lengths,
+        output,
+        work1,
+        work2,
+    )
+}
+
+#[no_mangle]
+pub extern "C" fn bk_cdf97_multi_idwt_f64(
+    approx: &[u8],
+    details: &[u8],
+    lengths: &[u8],
+    output: &mut [u8],
+    work1: &mut [u8],
+    work2: &mut [u8],
+) -> Answer
+    ensures { λ r. ⌜ MultiBack Filter.Cdf97F64 (now (approx .entry)) (now (details .entry)) (now (lengths .entry)) (now (output .entry)) (now (work1 .entry)) (now (work2 .entry)) r (now (output .exit)) (now (work1 .exit)) (now (work2 .exit)) ⌝ }
+{
+    multi_idwt(
+        Filter::Cdf97F64,
+        approx,
+        details,
+        lengths,
+        output,
+        work1,
+        work2,
+    )
+}
+
+#[no_mangle]
+pub extern "C" fn bk_cdf53_dwt_i8(
+    signal: &[u8],
+    levels: u32,
+    approx: &mut [u8],
+    details: &mut [u8],
+    work1: &mut [u8],
+    work2: &mut [u8],
+) -> Answer
+    ensures { λ r. ⌜ Dwt Filter.Cdf53I8 levels (now (signal .entry)) (now (approx .entry)) (now (details .entry)) (now (work1 .entry)) (now (work2 .entry)) r (now (approx .exit)) (now (details .exit)) (now (work1 .exit)) (now (work2 .exit)) ⌝ }
+{
+    dwt(
+        Filter::Cdf53I8,
+        levels as usize,
+        signal,
+        approx,
+        details,
+        work1,
+        work2,
+    )
+}
+
+#[no_mangle]
+pub extern "C" fn bk_cdf53_dwt_i16(
+    signal: &[u8],
+    levels: u32,
+    approx: &mut [u8],
+    details: &mut [u8],
+    work1: &mut [u8],
+    work2: &mut [u8],
+) -> Answer
+    ensures { λ r. ⌜ Dwt Filter.Cdf53I16 levels (now (signal .entry)) (now (approx .entry)) (now (details .entry)) (now (work1 .entry)) (now (work2 .entry)) r (now (approx .exit)) (now (details .exit)) (now (work1 .exit)) (now (work2 .exit)) ⌝ }
+{
+    dwt(
+        Filter::Cdf53I16,
+        levels as usize,
+        signal,
+        approx,
+        details,
+        work1,
+        work2,
+    )
+}
+
+#[no_mangle]
+pub extern "C" fn bk_cdf53_dwt_i32(
+    signal: &[u8],
+    levels: u32,
+    approx: &mut [u8],
+    details: &mut [u8],
+    work1: &mut [u8],
+    work2: &mut [u8],
+) -> Answer
+    ensures { λ r. ⌜ Dwt Filter.Cdf53I32 levels (now (signal .entry)) (now (approx .entry)) (now (details .entry)) (now (work1 .entry)) (now (work2 .entry)) r (now (approx .exit)) (now (details .exit)) (now (work1 .exit)) (now (work2 .exit)) ⌝ }
+{
+    dwt(
+        Filter::Cdf53I32,
+        levels as usize,
+        signal,
+        approx,
+        details,
+        work1,
+        work2,
+    )
+}
+
+#[no_mangle]
+pub extern "C" fn bk_cdf53_dwt_f32(
+    signal: &[u8],
+    levels: u32,
+    approx: &mut [u8],
+    details: &mut [u8],
+    work1: &mut [u8],
+    work2: &mut [u8],
+) -> Answer
+    ensures { λ r. ⌜ Dwt Filter.Cdf53F32 levels (now (signal .entry)) (now (approx .entry)) (now (details .entry)) (now (work1 .entry)) (now (work2 .entry)) r (now (approx .exit)) (now (details .exit)) (now (work1 .exit)) (now (work2 .exit)) ⌝ }
+{
+    dwt(
+        Filter::Cdf53F32,
+        levels as usize,
+        signal,
+        approx,
+        details,
+        work1,
+        work2,
+    )
+}
+
+#[no_mangle]
+pub extern "C" fn bk_cdf53_dwt_f64(
+    signal: &[u8],
+    levels: u32,
+    approx: &mut [u8],
+    details: &mut [u8],
+    work1: &mut [u8],
+    work2: &mut [u8],
+) -> Answer
+    ensures { λ r. ⌜ Dwt Filter.Cdf53F64 levels (now (signal .entry)) (now (approx .entry)) (now (details .entry)) (now (work1 .entry)) (now (work2 .entry)) r (now (approx .exit)) (now (details .exit)) (now (work1 .exit)) (now (work2 .exit)) ⌝ }
+{
+    dwt(
+        Filter::Cdf53F64,
+        levels as usize,
+        signal,
+        approx,
+        details,
+        work1,
+        work2,
+    )
+}
+
+#[no_mangle]
+pub extern "C" fn bk_cdf97_dwt_f32(
+    signal: &[u8],
+    levels: u32,
+    approx: &mut [u8],
+    details: &mut [u8],
+    work1: &mut [u8],
+    work2: &mut [u8],
+) -> Answer
+    ensures { λ r. ⌜ Dwt Filter.Cdf97F32 levels (now (signal .entry)) (now (approx .entry)) (now (details .entry)) (now (work1 .entry)) (now (work2 .entry)) r (now (approx .exit)) (now (details .exit)) (now (work1 .exit)) (now (work2 .exit)) ⌝ }
+{
+    dwt(
+        Filter::Cdf97F32,
+        levels as usize,
+        signal,
+        approx,
+        details,
+        work1,
+        work2,
+    )
+}
+
+#[no_mangle]
+pub extern "C" fn bk_cdf97_dwt_f64(
+    signal: &[u8],
+    levels: u32,
+    approx: &mut [u8],
+    details: &mut [u8],
+    work1: &mut [u8],
+    work2: &mut [u8],
+) -> Answer
+    ensures { λ r. ⌜ Dwt Filter.Cdf97F64 levels (now (signal .entry)) (now (approx .entry)) (now (details .entry)) (now (work1 .entry)) (now (work2 .entry)) r (now (approx .exit)) (now (details .exit)) (now (work1 .exit)) (now (work2 .exit)) ⌝ }
+{
+    dwt(
+        Filter::Cdf97F64,
+        levels as usize,
+        signal,
+        approx,
+        details,
         work1,
         work2,
     )
