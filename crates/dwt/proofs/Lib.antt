@@ -6,8 +6,3 @@ pub mod Multi
 pub mod Rises
 pub mod Backs
 pub mod Lasts
-pub mod Lengths
-pub mod Trips
-pub mod Undone
-pub mod Fitting
-pub mod ThereAndBack

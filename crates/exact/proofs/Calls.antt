@@ -22,8 +22,8 @@ use Rattle.dwt.specs.Pyramids.{approxAt, roundTrip}
 use Rattle.dwt.specs.Calls.{sayMulti, Multi}
 use Rattle.dwt.specs.Backward.{MultiBack}
 use Rattle.dwt.proofs.Multi.{levels-pos}
-use Rattle.dwt.proofs.Lengths.{length-trip}
-use Rattle.dwt.proofs.ThereAndBack.{Area, LengthsIn, call-depth, call-approx, call-level, trip-call}
+use Rattle.trips.proofs.Lengths.{length-trip}
+use Rattle.trips.proofs.ThereAndBack.{Area, LengthsIn, call-depth, call-approx, call-level, trip-call}
 use Rattle.exact.specs.Exact.{Are, Inputs, number}
 use Rattle.exact.specs.Levels.{filter53, most, after8, Exact, samplesIn, numbersIn, deepest, allDetails, ExactBytes}
 use Rattle.exact.proofs.Inputs.{inputs-exact}

@@ -57,10 +57,10 @@ inverse-ready w k a d o h =
     }
 
 -- and a call on lengths that fit is done
-whole-passes : (k n b : ℕ) → b ≡ k * n → not (eqb (b % k) 0) ≡ false
+pub whole-passes : (k n b : ℕ) → b ≡ k * n → not (eqb (b % k) 0) ≡ false
 whole-passes k n b e = same (b % k) 0 (rw e (mul-mod-right k n))
 
-count-is : (k n b : ℕ) → 0 < k → b ≡ k * n → b / k ≡ n
+pub count-is : (k n b : ℕ) → 0 < k → b ≡ k * n → b / k ≡ n
 count-is k n b p e = rw e (mul-div-right n p)
 
 pub forward-fits : (w : Wavelet) (k n x a d : ℕ) → 0 < k → Level w k n x a d → done (sayForward w k x a d) ≡ true

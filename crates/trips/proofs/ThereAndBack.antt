@@ -20,17 +20,18 @@ use Rattle.sizes.specs.Levels.{places, depthOf, levelsOf}
 use Rattle.samples.specs.Le.{Bytes}
 use Rattle.samples.specs.Words.{tabulate, wordsOf, bytesOf}
 use Rattle.samples.proofs.Words.{tabulate-same, tabulate-getD, length-words, length-bytes, words-bytes}
 use Rattle.dwt.specs.declared.filter.Filter.{Filter}
 use Rattle.dwt.specs.Filters.{widthOf, waveletOf, lowOf, highOf}
 use Rattle.dwt.specs.Pyramids.{approxAt, pyramid, samplesOf, detailsAt, lengthsOf, roundTrip}
 use Rattle.dwt.specs.Calls.{sayMulti, Multi, sayDwt, Dwt, Ready}
 use Rattle.dwt.specs.Backward.{total, sayBack, MultiBack}
 use Rattle.dwt.proofs.Multi.{multi-ready}
 use Rattle.dwt.proofs.Backs.{back-ready}
-use Rattle.dwt.proofs.Lengths.{length-approx, length-details, length-lengths, places-total, at-most-total}
-use Rattle.dwt.proofs.Trips.{approx-part, details-part, level-part, samples-trip, length-samples}
-use Rattle.dwt.proofs.Undone.{Integers, undoes, trip-is, pyramid-again}
-use Rattle.dwt.proofs.Fitting.{lengths-fit, fits-depth, back-fits, multi-fits}
+use Rattle.dwt.proofs.PyramidLaws.{approx-after}
+use Rattle.trips.proofs.Lengths.{length-approx, length-details, length-lengths, places-total, at-most-total}
+use Rattle.trips.proofs.Trips.{approx-part, details-part, level-part, samples-trip, length-samples}
+use Rattle.trips.proofs.Undone.{Integers, undoes, trip-is, pyramid-again}
+use Rattle.trips.proofs.Fitting.{lengths-fit, fits-depth, back-fits, multi-fits}
 
 -- a work area of k bytes a sample that has room for b bytes
 pub record Area (k b : ℕ) (s : List ℕ) : Type 0 where

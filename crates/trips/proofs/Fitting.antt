@@ -22,16 +22,16 @@ use Rattle.sizes.specs.declared.Wavelet.the-variants.{Cdf53, Cdf97}
 use Rattle.sizes.specs.Bands.{mostSamples, ups, downs, smallestOf, expectedApprox, expectedDetails}
 use Rattle.sizes.specs.Levels.{places, depthOf, levelsOf}
 use Rattle.sizes.proofs.Depths.{step, one-more, two-below}
-use Rattle.sizes.proofs.OneLevel.{expects}
+use Rattle.sizes.proofs.OneLevel.{expects, whole-passes, count-is}
 use Rattle.samples.specs.Words.{wordsOf}
 use Rattle.samples.proofs.Words.{length-words}
 use Rattle.dwt.specs.declared.filter.Filter.{Filter}
 use Rattle.dwt.specs.Filters.{widthOf, waveletOf}
 use Rattle.dwt.specs.Pyramids.{lengthsOf}
 use Rattle.dwt.specs.Calls.{multiChecks, sayMulti, Ready}
 use Rattle.dwt.specs.Backward.{total, bandChecks, roomChecks, wholeChecks, backChecks, sayBack, mostLevels, Fits, Rising}
 use Rattle.dwt.proofs.Cuts.{width-pos}
-use Rattle.dwt.proofs.Lengths.{places-total}
+use Rattle.trips.proofs.Lengths.{places-total}
 
 three-below : (w : Wavelet) → 3 ≤ smallestOf w
 three-below Cdf53 = omega arith
@@ -101,12 +101,6 @@ bands-pass w a (m ∷ ms) h =
 -- ---- calls on lengths that fit
 
 -- b bytes are n samples of k bytes: not ragged, and n
-even-passes : (k n b : ℕ) → b ≡ k * n → not (eqb (b % k) 0) ≡ false
-even-passes k n b e = same (b % k) 0 (rw e (mul-mod-right k n))
-
-samples-in : (k n b : ℕ) → 0 < k → b ≡ k * n → b / k ≡ n
-samples-in k n b p e = rw e (mul-div-right n p)
-
 -- `multi_idwt` on bands whose lengths fit is done: c lengths in ls, and work areas of p and q samples
 pub back-fits : (f : Filter) (a c p q : ℕ) (ls : List ℕ) (b d o u v : ℕ) → b ≡ widthOf f * a → Rising f a (wordsOf 4 ls) d u v o → length ls ≡ 4 * c → 0 < c → u ≡ widthOf f * p → v ≡ widthOf f * q
     → sayBack f b d ls o u v ≡ Done 0 0
@@ -117,23 +111,23 @@ back-fits f a c p q ls b d o u v eb r el some eu ev =
     let w = waveletOf f in
     let ms = wordsOf 4 ls in
     let n = a + total ms in
-    let count : length ms ≡ c = length-words 4 ls ∙ samples-in 4 c (length ls) (omega arith) el in
+    let count : length ms ≡ c = length-words 4 ls ∙ count-is 4 c (length ls) (omega arith) el in
     let two : 2 ≤ a = fits-some w a ms (omega arith) (r .fits) in
     let up : n ≤ p = le-of-mul-le-mul-left (rw eu at (r .first)) kp in
     let vp : n ≤ q = le-of-mul-le-mul-left (rw ev at (r .second)) kp in
     through (wholeChecks k b d (length ls) o u v ++ backChecks f (b / k) (d / k) ms (o / k) (u / k) (v / k)) (Done 0 0)
-    (rw (samples-in k a b kp eb, samples-in k (total ms) d kp (r .details), samples-in k n o kp (r .output), samples-in k p u kp eu, samples-in k q v kp ev) (
-      even-passes k a b eb,
+    (rw (count-is k a b kp eb, count-is k (total ms) d kp (r .details), count-is k n o kp (r .output), count-is k p u kp eu, count-is k q v kp ev) (
+      whole-passes k a b eb,
       (
-        even-passes k (total ms) d (r .details),
+        whole-passes k (total ms) d (r .details),
         (
-          even-passes 4 c (length ls) el,
+          whole-passes 4 c (length ls) el,
           (
-            even-passes k n o (r .output),
+            whole-passes k n o (r .output),
             (
-              even-passes k p u eu,
+              whole-passes k p u eu,
               (
-                even-passes k q v ev,
+                whole-passes k q v ev,
                 (
                   le-ltb mostSamples n (r .short),
                   (
@@ -172,14 +166,14 @@ multi-fits f l n p q x o u v r eo eu ev =
     let up : n ≤ p = le-of-mul-le-mul-left (rw eu at (r .first)) kp in
     let vp : n ≤ q = le-of-mul-le-mul-left (rw ev at (r .second)) kp in
     through (ragged k x ∷ ragged k o ∷ ragged k u ∷ ragged k v ∷ multiChecks f l (x / k) (o / k) (u / k) (v / k)) (Done 0 0)
-    (rw (samples-in k n x kp (r .whole), samples-in k n o kp eo, samples-in k p u kp eu, samples-in k q v kp ev) (
-      even-passes k n x (r .whole),
+    (rw (count-is k n x kp (r .whole), count-is k n o kp eo, count-is k p u kp eu, count-is k q v kp ev) (
+      whole-passes k n x (r .whole),
       (
-        even-passes k n o eo,
+        whole-passes k n o eo,
         (
-          even-passes k p u eu,
+          whole-passes k p u eu,
           (
-            even-passes k q v ev,
+            whole-passes k q v ev,
             (le-ltb mostSamples n (r .short), (le-ltb (depthOf (waveletOf f) n) (levelsOf l) (r .deep), (same n n refl, (le-ltb p n up, (le-ltb q n vp, tt))))),
           ),
         ),

@@ -20,13 +20,14 @@ use Rattle.samples.proofs.IntegerLaws.{width-1, width-2, width-4}
 use Rattle.cdf53i.specs.Bands as integer
 use Rattle.cdf53i.proofs.Round.{there-and-back, back-and-low, back-and-high}
 use Rattle.cdf53i.proofs.Lengths.{bytes-low, bytes-back}
 use Rattle.dwt.specs.declared.filter.Filter.{Filter}
 use Rattle.dwt.specs.declared.filter.Filter.the-variants.{Cdf53I8, Cdf53I16, Cdf53I32, Cdf53F32, Cdf53F64, Cdf97F32, Cdf97F64}
 use Rattle.dwt.specs.Filters.{widthOf, waveletOf, lowOf, highOf, backOf}
 use Rattle.dwt.specs.Pyramids.{approxAt, pyramid, samplesOf, detailsAt, roundTrip}
 use Rattle.dwt.specs.Backward.{total, Fits}
-use Rattle.dwt.proofs.Lengths.{length-low, length-back}
-use Rattle.dwt.proofs.Trips.{pyramid-parts, details-deeper}
+use Rattle.dwt.proofs.PyramidLaws.{approx-after}
+use Rattle.trips.proofs.Lengths.{length-low, length-back}
+use Rattle.trips.proofs.Trips.{pyramid-parts, details-deeper}
 
 -- a level of k bytes a sample undoes itself: on bytes of 2 samples or more, and on bands of them
 pub record Undoing (k : ℕ) (low high : List ℕ → List ℕ) (back : List ℕ → List ℕ → List ℕ) : Type 0 where

@@ -10,11 +10,12 @@ use lib.Seq.{take-all, take-append-le, drop-append-le, take-at, drop-at, length-
 use Rattle.sizes.specs.Bands.{ups, downs}
 use Rattle.sizes.specs.Levels.{places}
 use Rattle.sizes.proofs.Counts.{places-after}
 use Rattle.dwt.specs.declared.filter.Filter.{Filter}
 use Rattle.dwt.specs.Filters.{widthOf, lowOf, highOf, backOf}
 use Rattle.dwt.specs.Pyramids.{approxAt, pyramid, samplesOf, detailsAt, lengthsOf, roundTrip}
 use Rattle.dwt.specs.Backward.{total}
-use Rattle.dwt.proofs.Lengths.{length-low, length-high, length-back, length-approx, length-details, places-total}
+use Rattle.dwt.proofs.PyramidLaws.{approx-after}
+use Rattle.trips.proofs.Lengths.{length-low, length-high, length-back, length-approx, length-details, places-total}
 
 module _ (f : Filter) where
   -- the deepest approximations, then all details

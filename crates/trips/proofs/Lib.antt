@@ -1,0 +1,5 @@
+pub mod Lengths
+pub mod Trips
+pub mod Undone
+pub mod Fitting
+pub mod ThereAndBack
