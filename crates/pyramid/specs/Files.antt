@@ -1,0 +1,49 @@
+-- The pyramid file, from document 01: "sections in a fixed order, each after its count. Counts are u32, little-endian." Over the filter, which is an integer one.
+-- Assumes nothing: these are definitions.
+use mathlib.Core.List.{List, [], _∷_, _++_}
+use Prim.Native.Nat.{ℕ, zero, suc, _+_, _*_, _/_}
+use lib.ListN.{length}
+use Rattle.samples.specs.Le.{leBytes}
+use Rattle.sizes.specs.Bands.{ups, downs}
+use Rattle.dwt.specs.declared.filter.Filter.{Filter}
+use Rattle.dwt.specs.Filters.{widthOf, lowOf, highOf}
+
+-- a section: its count, then its bytes
+abbrev pub sectionOf : ℕ → List ℕ → List ℕ
+sectionOf c b = leBytes 4 c ++ b
+
+-- "Section 0: count 10, then width in bytes (1, 2 or 4), levels (one byte), n (u32), point number (u32)"
+abbrev pub headCount : ℕ
+headCount = 10
+
+pub record Head : Type 0 where
+  pub width : ℕ
+  pub levels : ℕ
+  pub samples : ℕ
+  pub point : ℕ
+
+abbrev pub headOf : Head → List ℕ
+headOf h = leBytes 1 (h .width) ++ (leBytes 1 (h .levels) ++ (leBytes 4 (h .samples) ++ leBytes 4 (h .point)))
+
+-- the bytes of section 0
+abbrev pub headSize : ℕ
+headSize = 4 + headCount
+
+-- "Section 1: number of deepest approximations, then those. Section 2 to L+1: number of details of level L down to 1, then those": of l levels of the n samples in x
+unfoldable pub bodyOf : Filter → ℕ → ℕ → List ℕ → List ℕ
+bodyOf f zero n x = sectionOf n x
+bodyOf f (suc l) n x = bodyOf f l (ups n) (lowOf f x) ++ sectionOf (downs n) (highOf f x)
+
+-- how many bytes these sections are, at k bytes a sample
+abbrev pub bodySize : ℕ → ℕ → ℕ → ℕ
+bodySize k l n = 4 * (l + 1) + k * n
+
+-- "Size: 14 + 4(L+1) + width·n"
+abbrev pub fileSize : ℕ → ℕ → ℕ → ℕ
+fileSize k l n = headSize + bodySize k l n
+
+-- the file of the samples in x, for a point
+unfoldable pub fileOf : Filter → ℕ → ℕ → List ℕ → List ℕ
+fileOf f l p x =
+    let n = length x / widthOf f in
+    sectionOf headCount (headOf (record { width = widthOf f; levels = l; samples = n; point = p })) ++ bodyOf f l n x

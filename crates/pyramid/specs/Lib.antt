@@ -1,0 +1,4 @@
+pub mod Files
+pub mod Walks
+pub mod Opens
+pub mod Writes

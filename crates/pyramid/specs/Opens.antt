@@ -1,0 +1,126 @@
+-- Opening a file, from document 01, "Opening checks": the checks as one list in its order, and what the call promises.
+-- Assumes nothing: these are definitions.
+use mathlib.Core.Bool.{Bool, true, cond, not, _||_}
+use mathlib.Core.List.{List, [], _∷_, _++_}
+use mathlib.Core.Path.{_≡_}
+use Prim.Native.Nat.{ℕ, _+_, _-_, _*_, _/_}
+use lib.Dec.{ltb, eqb}
+use lib.ListN.{length, drop}
+use Rattle.answers.specs.declared.err.Answer.{Answer}
+use Rattle.answers.specs.declared.err.Refusal.{Refusal}
+use Rattle.answers.specs.declared.err.Refusal.the-variants.{Done, MinFilterSize, BufferWasTooSmallForLevel, TooLong, OtherWidth, BadCount, CutShort, OtherPoint, Trailing, NoSuchPlace}
+use Rattle.answers.specs.Answers.{answerOf}
+use Rattle.answers.specs.Checks.{Check, firstOf, ragged, tight, left, Spared}
+use Rattle.sizes.specs.declared.Wavelet.the-variants.{Cdf53}
+use Rattle.sizes.specs.Bands.{mostSamples, mostBytes}
+use Rattle.sizes.specs.Levels.{places, depthOf}
+use Rattle.samples.specs.Le.{leAt}
+use Rattle.samples.specs.Integers.{isWidth}
+use Rattle.dwt.specs.declared.filter.Filter.{Filter}
+use Rattle.dwt.specs.declared.filter.Filter.the-variants.{Cdf53I8, Cdf53I16, Cdf53I32}
+use Rattle.pyramid.specs.declared.walk.Way.{Way}
+use Rattle.pyramid.specs.declared.walk.Way.the-variants.{Went, Short, Wrong}
+use Rattle.pyramid.specs.Files.{Head, headCount, headSize}
+use Rattle.pyramid.specs.Walks.{walkOf, lastCount, restoredOf}
+
+-- the integer filter of a width
+abbrev pub filterOf : ℕ → Filter
+filterOf k = cond (eqb k 1) Cdf53I8 (cond (eqb k 2) Cdf53I16 Cdf53I32)
+
+-- what section 0 of s says
+abbrev pub headIn : List ℕ → Head
+headIn s = record { width = leAt 1 s 4; levels = leAt 1 s 5; samples = leAt 4 s 6; point = leAt 4 s 10 }
+
+-- "6 (over 67,108,974 bytes), 10 (under 14), 9 at section 0, 8 (also when the width asked isn't 1, 2 or 4), 1 (n, 3), 6 (n), 4 (levels 0 or above depth), 11"
+abbrev pub headChecks : List ℕ → ℕ → ℕ → List Check
+headChecks s w p =
+    let h = headIn s in
+    (ltb mostBytes (length s), TooLong)
+    ∷ (ltb (length s) headSize, CutShort (length s))
+    ∷ (not (eqb (leAt 4 s 0) headCount), BadCount 0 (leAt 4 s 0))
+    ∷ (not (eqb (h .width) w), OtherWidth (h .width) w)
+    ∷ (not (isWidth w), OtherWidth (h .width) w)
+    ∷ (ltb (h .samples) 3, MinFilterSize (h .samples) 3)
+    ∷ (ltb mostSamples (h .samples), TooLong)
+    ∷ (eqb (h .levels) 0, BufferWasTooSmallForLevel)
+    ∷ (ltb (depthOf Cdf53 (h .samples)) (h .levels), BufferWasTooSmallForLevel)
+    ∷ (not (eqb (h .point) p), OtherPoint (h .point) p)
+    ∷ []
+
+-- the walk over all sections after section 0
+abbrev pub wayIn : List ℕ → Way
+wayIn s = let h = headIn s in walkOf s (h .width) (h .levels) (h .samples) headSize
+
+-- "a cut in section 1 is 10; later it ends the file there, and the broken section is ignored. Then 12", for a file of b bytes
+abbrev pub wayChecks : Way → ℕ → List Check
+wayChecks (Went p) b = (ltb p b, Trailing (b - p)) ∷ []
+wayChecks (Short j) b = (eqb j 1, CutShort b) ∷ []
+wayChecks (Wrong j found) b = (true, BadCount j found) ∷ []
+
+-- how many detail sections are whole, of l levels
+abbrev pub wholeDetails : Way → ℕ → ℕ
+wholeDetails (Went p) l = l
+wholeDetails (Short j) l = j - 2
+wholeDetails (Wrong j found) l = 0
+
+-- the level that is given back, and how many samples it has
+abbrev pub levelIn : List ℕ → ℕ
+levelIn s = let h = headIn s in h .levels - wholeDetails (wayIn s) (h .levels)
+
+abbrev pub countIn : List ℕ → ℕ
+countIn s = places (levelIn s) (headIn s .samples)
+
+-- the samples of that level
+unfoldable pub samplesIn : List ℕ → List ℕ
+samplesIn s = let h = headIn s in restoredOf (filterOf (h .width)) s (wholeDetails (wayIn s) (h .levels)) (countIn s) headSize
+
+-- the lent areas are whole samples; a width asked that is none has no sample size
+abbrev pub areaChecks : ℕ → ℕ → ℕ → ℕ → List Check
+areaChecks w o u v = cond (isWidth w) (ragged w o ∷ ragged w u ∷ ragged w v ∷ []) []
+
+-- "then 7 for output and both work areas (need for each: the count of samples given back)"
+abbrev pub roomsFor : ℕ → ℕ → ℕ → ℕ → ℕ → List Check
+roomsFor w c o u v = tight (o / w) c ∷ tight (u / w) c ∷ tight (v / w) c ∷ []
+
+-- "it returns level and count"
+unfoldable pub sayOpen : List ℕ → ℕ → ℕ → ℕ → ℕ → ℕ → Refusal
+sayOpen s w p o u v = firstOf (areaChecks w o u v ++ (headChecks s w p ++ (wayChecks (wayIn s) (length s) ++ roomsFor w (countIn s) o u v))) (Done (levelIn s) (countIn s))
+
+-- the answer r, and the output and the work areas that opening leaves: "output past the count is unchanged"
+pub record Open (s : List ℕ) (w p : ℕ) (o u v : List ℕ) (r : Answer) (o′ u′ v′ : List ℕ) : Type 0 where
+  pub answer : r ≡ answerOf (sayOpen s w p (length o) (length u) (length v))
+  pub output : o′ ≡ left (sayOpen s w p (length o) (length u) (length v)) (samplesIn s ++ drop (w * countIn s) o) o
+  pub first : Spared (sayOpen s w p (length o) (length u) (length v)) (w * countIn s) u u′
+  pub second : Spared (sayOpen s w p (length o) (length u) (length v)) (w * countIn s) v v′
+
+-- ---- one section
+
+-- the walk through section j, which is one of j - 1 levels of as many samples as level L + 1 - j has approximations
+abbrev pub wayTo : List ℕ → ℕ → Way
+wayTo s j = let h = headIn s in walkOf s (h .width) (j - 1) (places (h .levels + 1 - j) (h .samples)) headSize
+
+-- "a cut at or before it is 10"
+abbrev pub sectionChecks : Way → ℕ → List Check
+sectionChecks (Went p) b = []
+sectionChecks (Short j) b = (true, CutShort b) ∷ []
+sectionChecks (Wrong j found) b = (true, BadCount j found) ∷ []
+
+-- "number 0 or above L+1 is 13 (number, L+1), given after 11"
+abbrev pub numberChecks : ℕ → ℕ → List Check
+numberChecks j l = (eqb j 0 || ltb (l + 1) j, NoSuchPlace j (l + 1)) ∷ []
+
+-- how many bytes section j has after its count, and where they start
+abbrev pub lengthOf : List ℕ → ℕ → ℕ
+lengthOf s j = let h = headIn s in h .width * lastCount (j - 1) (places (h .levels + 1 - j) (h .samples))
+
+abbrev pub endBy : Way → ℕ
+endBy (Went p) = p
+endBy (Short j) = 0
+endBy (Wrong j found) = 0
+
+abbrev pub startOf : List ℕ → ℕ → ℕ
+startOf s j = endBy (wayTo s j) - lengthOf s j
+
+unfoldable pub saySection : List ℕ → ℕ → ℕ → ℕ → Refusal
+saySection s w p j =
+    firstOf (headChecks s w p ++ (numberChecks j (headIn s .levels) ++ sectionChecks (wayTo s j) (length s))) (Done (startOf s j) (lengthOf s j))

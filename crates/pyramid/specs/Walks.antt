@@ -1,0 +1,46 @@
+-- A walk over the sections of a file, from document 01: "section by section: fewer than 4 bytes left is a cut; a wrong count is 9; fewer bytes than the count needs is a cut".
+-- Assumes nothing: these are definitions.
+use mathlib.Core.Bool.{cond, not}
+use mathlib.Core.List.{List, []}
+use Prim.Native.Nat.{ℕ, zero, suc, _+_, _-_, _*_}
+use lib.Dec.{ltb, eqb}
+use lib.ListN.{length, take, drop}
+use Rattle.samples.specs.Le.{leAt}
+use Rattle.sizes.specs.Bands.{ups, downs}
+use Rattle.dwt.specs.declared.filter.Filter.{Filter}
+use Rattle.dwt.specs.Filters.{widthOf, backOf}
+use Rattle.pyramid.specs.declared.walk.Way.{Way}
+use Rattle.pyramid.specs.declared.walk.Way.the-variants.{Went, Short, Wrong}
+use Rattle.pyramid.specs.Files.{bodySize}
+
+-- section number j, of c samples of k bytes, at place p
+unfoldable pub oneOf : List ℕ → ℕ → ℕ → ℕ → ℕ → Way
+oneOf s k c j p =
+    cond (ltb (length s - p) 4) (Short j)
+    (cond (not (eqb (leAt 4 s p) c)) (Wrong j (leAt 4 s p))
+    (cond (ltb (length s - p - 4) (k * c)) (Short j)
+    (Went (p + 4 + k * c))))
+
+-- go on from where a walk went
+abbrev pub goOn : Way → (ℕ → Way) → Way
+goOn (Went p) g = g p
+goOn (Short j) g = Short j
+goOn (Wrong j found) g = Wrong j found
+
+-- the sections of l levels of n samples, deepest first: number 1 has the approximations, number l + 1 the details of the first level
+unfoldable pub walkOf : List ℕ → ℕ → ℕ → ℕ → ℕ → Way
+walkOf s k zero n p = oneOf s k n 1 p
+walkOf s k (suc l) n p = goOn (walkOf s k l (ups n) p) (λ q. oneOf s k (downs n) (suc l + 1) q)
+
+-- how many samples the last of these sections has
+abbrev pub lastCount : ℕ → ℕ → ℕ
+lastCount l n = cond (eqb l 0) n (downs n)
+
+-- the bytes of a section of c samples that stands at p
+abbrev pub bytesAt : ℕ → List ℕ → ℕ → ℕ → List ℕ
+bytesAt k s c p = take (k * c) (drop (p + 4) s)
+
+-- the n samples that l levels of sections from p on restore
+unfoldable pub restoredOf : Filter → List ℕ → ℕ → ℕ → ℕ → List ℕ
+restoredOf f s zero n p = bytesAt (widthOf f) s n p
+restoredOf f s (suc l) n p = backOf f (restoredOf f s l (ups n) p) (bytesAt (widthOf f) s (downs n) (p + bodySize (widthOf f) l (ups n)))
