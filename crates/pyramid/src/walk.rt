@@ -34,13 +34,13 @@ fn one(s: &[u8], k: usize, count: usize, j: usize, at: usize) -> Way
 
 // Sections 1 to levels + 1 of a file of n samples, from `at` on.
 pub fn walk(s: &[u8], k: usize, levels: usize, n: usize, at: usize) -> Way
-    requires { ⌜ (at ≤ length (now s)) × (k * n < 2 ^ 63) × (levels < 2 ^ 8) ⌝ }
+    requires { ⌜ (at ≤ length (now s)) × (k * n < 2 ^ 63) × (levels < 2 ^ 8) × (n < 2 ^ 63) ⌝ }
     ensures { λ r. ⌜ r ≡ walkOf (now (s .entry)) k levels n at ⌝ }
 {
     if levels == 0 {
         return one(s, k, n, 1, at);
     }
-    let way = walk(s, k, levels - 1, n - n / 2, at);
+    let way = walk(s, k, levels - 1, (n + 1) / 2, at);
     match way {
         Way::Went(p) => one(s, k, n / 2, levels + 1, p),
         Way::Short(j) => Way::Short(j),
