@@ -196,7 +196,7 @@ fn check_back(
 }
 
 // One level back to n samples, into the whole of `to`.
-fn restore(f: Filter, n: usize, a: &[u8], d: &[u8], to: &mut [u8])
+pub fn restore(f: Filter, n: usize, a: &[u8], d: &[u8], to: &mut [u8])
     requires { ⌜ Level (waveletOf f) (widthOf f) n (length (now to)) (length (now a)) (length (now d)) ⌝ }
     ensures { λ _. ⌜ now (to .exit) ≡ backOf f (now (a .entry)) (now (d .entry)) ⌝ }
 {

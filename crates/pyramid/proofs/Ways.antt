@@ -29,9 +29,11 @@ one-went s w c k at p h e = first (ltb (length s - at) 4) refl e
         let a : w * c ≤ length s - at - 4 = ltb-false (length s - at - 4) (w * c) q in
         let b : 4 ≤ length s - at = ltb-false (length s - at) 4 r in
         record { after = omega arith; within = omega arith }
+
     second : (b : Bool) → ltb (length s - at) 4 ≡ false → cond b (Wrong k (leAt 4 s at)) (cond (ltb (length s - at - 4) (w * c)) (Short k) (Went (at + 4 + w * c))) ≡ Went p → At s w c at p
     second true r e = let z : _≡_ {A = ℕ} 0 1 = cc in omega arith
     second false r e = third (ltb (length s - at - 4) (w * c)) refl r e
+
     first : (b : Bool) → ltb (length s - at) 4 ≡ b → cond b (Short k) (cond (not (eqb (leAt 4 s at) c)) (Wrong k (leAt 4 s at)) (cond (ltb (length s - at - 4) (w * c)) (Short k) (Went (at + 4 + w * c)))) ≡ Went p → At s w c at p
     first true r e = let z : _≡_ {A = ℕ} 0 1 = cc in omega arith
     first false r e = second (not (eqb (leAt 4 s at) c)) r e

@@ -1,0 +1,73 @@
+// The samples that the sections of a file restore, level by level from the deepest.
+ghost use mathlib.Core.List.{_++_};
+ghost use mathlib.Core.Path.{_≡_};
+ghost use Prim.Native.Nat.{_+_, _*_, _≤_};
+ghost use lib.ListN.{length, take, drop};
+ghost use Rattle.sizes.specs.Bands.{mostSamples, ups, downs, smallestOf};
+ghost use Rattle.sizes.specs.Levels.{depthOf};
+ghost use Rattle.dwt.specs.Filters.{widthOf, waveletOf, backOf};
+ghost use Rattle.pyramid.specs.Files.{bodySize};
+ghost use Rattle.pyramid.specs.Walks.{bytesAt, restoredOf};
+use dwt::back;
+use dwt::filter::Filter;
+use dwt::filter::bytes_of;
+use dwt::levels::cut_of;
+
+// The bytes of a section of n samples at `at`, to the front of `to`.
+fn fetch(f: Filter, n: usize, s: &[u8], at: usize, to: &mut [u8])
+    requires { ⌜ at + (4 + widthOf f * n) ≤ length (now s) ⌝ }
+    requires { ⌜ widthOf f * n ≤ length (now to) ⌝ }
+    ensures { λ _. ⌜ now (to .exit) ≡ bytesAt (widthOf f) (now (s .entry)) n at ++ drop (widthOf f * n) (now (to .entry)) ⌝ }
+    ensures { λ _. ⌜ length (bytesAt (widthOf f) (now (s .entry)) n at) ≡ widthOf f * n ⌝ }
+{
+    let all = bytes_of(f, n);
+    let start = at + 4;
+    bytes::copy(&s[start..start + all], to);
+}
+
+// One level back to n samples: the approximations in front of `other`, the details in the section at `at`.
+fn build(f: Filter, n: usize, s: &[u8], at: usize, other: &[u8], to: &mut [u8])
+    requires { ⌜ smallestOf (waveletOf f) ≤ n ⌝ }
+    requires { ⌜ n ≤ mostSamples ⌝ }
+    requires { ⌜ at + (4 + widthOf f * downs n) ≤ length (now s) ⌝ }
+    requires { ⌜ widthOf f * ups n ≤ length (now other) ⌝ }
+    requires { ⌜ widthOf f * n ≤ length (now to) ⌝ }
+    ensures { λ _. ⌜ now (to .exit) ≡ backOf f (take (widthOf f * ups n) (now (other .entry))) (bytesAt (widthOf f) (now (s .entry)) (downs n) at) ++ drop (widthOf f * n) (now (to .entry)) ⌝ }
+    ensures { λ _. ⌜ length (backOf f (take (widthOf f * ups n) (now (other .entry))) (bytesAt (widthOf f) (now (s .entry)) (downs n) at)) ≡ widthOf f * n ⌝ }
+{
+    let all = bytes_of(f, n);
+    let cut = cut_of(f, n);
+    let start = at + 4;
+    let end = start + (all - cut);
+    back::restore(f, n, &other[..cut], &s[start..end], &mut to[..all]);
+}
+
+// The n samples that so many levels of sections from `at` on restore, to the front of `to`; the two areas change roles at each level.
+pub fn restore(
+    f: Filter,
+    s: &[u8],
+    levels: usize,
+    n: usize,
+    at: usize,
+    to: &mut [u8],
+    other: &mut [u8],
+)
+    requires { ⌜ levels ≤ depthOf (waveletOf f) n ⌝ }
+    requires { ⌜ n ≤ mostSamples ⌝ }
+    requires { ⌜ at + bodySize (widthOf f) levels n ≤ length (now s) ⌝ }
+    requires { ⌜ widthOf f * n ≤ length (now to) ⌝ }
+    requires { ⌜ widthOf f * n ≤ length (now other) ⌝ }
+    ensures { λ _. ⌜ now (to .exit) ≡ restoredOf f (now (s .entry)) levels n at ++ drop (widthOf f * n) (now (to .entry)) ⌝ }
+    ensures { λ _. ⌜ drop (widthOf f * n) (now (other .exit)) ≡ drop (widthOf f * n) (now (other .entry)) ⌝ }
+    ensures { λ _. ⌜ length (restoredOf f (now (s .entry)) levels n at) ≡ widthOf f * n ⌝ }
+{
+    if levels == 0 {
+        fetch(f, n, s, at, to);
+    } else {
+        let half = (n + 1) / 2;
+        restore(f, s, levels - 1, half, at, other, to);
+        let cut = cut_of(f, n);
+        let place = at + (4 * levels + cut);
+        build(f, n, s, place, other, to);
+    }
+}
