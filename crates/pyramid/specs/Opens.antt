@@ -31,14 +31,18 @@ filterOf k = cond (eqb k 1) Cdf53I8 (cond (eqb k 2) Cdf53I16 Cdf53I32)
 abbrev pub headIn : List ℕ → Head
 headIn s = record { width = leAt 1 s 4; levels = leAt 1 s 5; samples = leAt 4 s 6; point = leAt 4 s 10 }
 
--- "6 (over 67,108,974 bytes), 10 (under 14), 9 at section 0, 8 (also when the width asked isn't 1, 2 or 4), 1 (n, 3), 6 (n), 4 (levels 0 or above depth), 11"
-abbrev pub headChecks : List ℕ → ℕ → ℕ → List Check
-headChecks s w p =
-    let h = headIn s in
+-- "6 (over 67,108,974 bytes), 10 (under 14), 9 at section 0"
+abbrev pub startChecks : List ℕ → List Check
+startChecks s =
     (ltb mostBytes (length s), TooLong)
     ∷ (ltb (length s) headSize, CutShort (length s))
     ∷ (not (eqb (leAt 4 s 0) headCount), BadCount 0 (leAt 4 s 0))
-    ∷ (not (eqb (h .width) w), OtherWidth (h .width) w)
+    ∷ []
+
+-- "8 (also when the width asked isn't 1, 2 or 4), 1 (n, 3), 6 (n), 4 (levels 0 or above depth), 11"
+abbrev pub fieldChecks : Head → ℕ → ℕ → List Check
+fieldChecks h w p =
+    (not (eqb (h .width) w), OtherWidth (h .width) w)
     ∷ (not (isWidth w), OtherWidth (h .width) w)
     ∷ (ltb (h .samples) 3, MinFilterSize (h .samples) 3)
     ∷ (ltb mostSamples (h .samples), TooLong)
@@ -46,6 +50,9 @@ headChecks s w p =
     ∷ (ltb (depthOf Cdf53 (h .samples)) (h .levels), BufferWasTooSmallForLevel)
     ∷ (not (eqb (h .point) p), OtherPoint (h .point) p)
     ∷ []
+
+abbrev pub headChecks : List ℕ → ℕ → ℕ → List Check
+headChecks s w p = startChecks s ++ fieldChecks (headIn s) w p
 
 -- the walk over all sections after section 0
 abbrev pub wayIn : List ℕ → Way

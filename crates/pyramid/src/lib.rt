@@ -1,3 +1,4 @@
 // The pyramid file: writing, opening, and looking a section up. Document 01, "The pyramid file".
+pub mod open;
 pub mod restore;
 pub mod walk;

@@ -1,0 +1,45 @@
+-- `check_head` meets its contract: the start, then the fields. Assumes nothing.
+use borrow.Author.Tests.{not-true, not-false}
+use mathlib.Core.Path.{_≡_, refl, sym, ap, _∙_}
+use Prim.Native.Nat.{_≤_}
+use lib.ListN.{length}
+use Rattle.answers.specs.declared.err.Refusal.the-variants.{Done}
+use Rattle.answers.specs.Answers.{done}
+use Rattle.answers.proofs.Passed.{passing, roomy, say-rest, say-stop}
+use Rattle.pyramid.specs.Files.{headSize}
+use Rattle.pyramid.specs.Opens.{headIn, startChecks, fieldChecks}
+use borrow.Author.Needs.{needs}
+use Rattle.pyramid.proofs.open.check_head.Statement.{statement}
+use Rattle.pyramid.proofs.open.check_head.Tie as tie
+
+-- section 0 is there
+there : (c : tie.Else1) → headSize ≤ length (c .before .before .before .before .args .s .now)
+there c =
+    let s = c .before .before .before .before .args .s .now in
+    let p = passing (startChecks s) (Done 0 0) (refl, (refl, (refl, tt))) (sym (ap done (c .before .before .check-start .ensures)) ∙ sym (c .before .is-done .ensures) ∙ not-false _ (c .if1 .left)) in
+    roomy (length s) headSize (p .1 .0)
+
+returns : tie.Need-returns
+returns c =
+    let a = c .before .before .before .before .args in
+    say-stop (startChecks (a .s .now)) (fieldChecks (headIn (a .s .now)) (a .w) (a .p)) (Done 0 0) (c .before .before .check-start .ensures) (sym (c .before .is-done .ensures) ∙ not-true _ (c .if1 .taken))
+
+returns-2 : tie.Need-returns-2
+returns-2 c =
+    let a = c .before .before .before .before .before .before .before .before .before .args in
+    say-rest (startChecks (a .s .now)) (fieldChecks (headIn (a .s .now)) (a .w) (a .p)) (Done 0 0) (refl, (refl, (refl, tt))) (c .before .before .before .before .before .before .before .check-start .ensures) (sym (c .before .before .before .before .before .before .is-done .ensures) ∙ not-false _ (c .before .before .before .before .before .if1 .left))
+    (rw (sym (c .before .before .before .before .width-in .ensures .0), sym (c .before .before .before .levels-in .ensures .0), sym (c .before .before .samples-in .ensures .0), sym (c .before .point-in .ensures)) (c .check-fields .ensures))
+
+pub check-head-spec : {M : Type 1} → statement M
+check-head-spec =
+    tie.close
+    (tie.spec
+    (λ c κs. search needs)
+    (λ c κs. search needs)
+    returns
+    (λ c κs. there c)
+    (λ c κs. there (c .before))
+    (λ c κs. there (c .before .before))
+    (λ c κs. there (c .before .before .before))
+    (λ c κs. search needs)
+    returns-2)

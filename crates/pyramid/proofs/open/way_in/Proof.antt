@@ -1,0 +1,28 @@
+-- `way_in` meets its contract: a byte and a u32 are small, whatever they say. Assumes nothing.
+use mathlib.Core.Path.{_≡_, sym, ap, _∙_}
+use Prim.Native.Nat.{ℕ, _*_, _<_, _≤_}
+use native.Mathlib.Nat.{mul-le-mul-right}
+use native.Mathlib.Omega.{arith}
+use Rattle.pyramid.specs.Files.{headSize}
+use Rattle.pyramid.specs.Walks.{walkOf}
+use borrow.Author.Needs.{needs}
+use Rattle.pyramid.proofs.open.way_in.Statement.{statement}
+use Rattle.pyramid.proofs.open.way_in.Tie as tie
+
+small : (k n : ℕ) → k < 256 → n < 4294967296 → k * n < 9223372036854775808
+small k n p q = let a : k * n ≤ 256 * n = mul-le-mul-right n (omega arith) in omega arith
+
+returns : tie.Need-returns
+returns c =
+    let s = c .before .before .before .before .before .args .s .now in
+    rw (sym (c .before .before .before .width-in .ensures .0), sym (c .before .before .levels-in .ensures .0), sym (c .before .samples-in .ensures .0)) (c .walk .ensures)
+
+pub way-in-spec : {M : Type 1} → statement M
+way-in-spec =
+    tie.close
+    (tie.spec
+    (λ c κs. search needs)
+    (λ c κs. search needs)
+    (λ c κs. search needs)
+    (λ c κs. (omega (arith, c .before .before .before .before .pre), small _ _ (c .before .before .width-in .ensures .1) (c .samples-in .ensures .1), omega (arith, c .before .levels-in .ensures), omega (arith, c .samples-in .ensures)))
+    returns)

@@ -1,0 +1,186 @@
+// Opening a file: the checks in document 01's order, then the levels that a cut left.
+ghost use mathlib.Core.List.{_++_};
+ghost use mathlib.Core.Path.{_≡_};
+ghost use Prim.Native.Nat.{_+_, _≤_, _<_, _^_};
+ghost use lib.ListN.{length};
+ghost use Rattle.answers.specs.Checks.{firstOf};
+ghost use Rattle.samples.specs.Integers.{isWidth};
+ghost use Rattle.pyramid.specs.Files.{headSize};
+ghost use Rattle.pyramid.specs.Opens.{filterOf, headIn, startChecks, fieldChecks, headChecks, wayIn, wayChecks, wholeDetails, levelIn, countIn, areaChecks, roomsFor, sayOpen, Open};
+use crate::restore::restore;
+use crate::walk::Way;
+use crate::walk::walk;
+use answers::err::Answer;
+use answers::err::Refusal;
+use answers::err::is_done;
+use answers::err::numbers;
+use dwt::filter::Filter;
+use samples::le::read_u32;
+use sizes::MOST_BYTES;
+use sizes::MOST_SAMPLES;
+use sizes::Wavelet;
+use sizes::checks::check_whole;
+use sizes::depth;
+use sizes::places_of;
+
+fn wide(b: u8) -> usize
+    ensures { λ r. ⌜ (r ≡ b) × (r < 256) ⌝ }
+{
+    b as usize
+}
+
+// What section 0 says.
+pub fn width_in(s: &[u8]) -> usize
+    requires { ⌜ headSize ≤ length (now s) ⌝ }
+    ensures { λ r. ⌜ (r ≡ headIn (now (s .entry)) .width) × (r < 256) ⌝ }
+{
+    wide(s[4])
+}
+
+pub fn levels_in(s: &[u8]) -> usize
+    requires { ⌜ headSize ≤ length (now s) ⌝ }
+    ensures { λ r. ⌜ (r ≡ headIn (now (s .entry)) .levels) × (r < 256) ⌝ }
+{
+    wide(s[5])
+}
+
+pub fn samples_in(s: &[u8]) -> usize
+    requires { ⌜ headSize ≤ length (now s) ⌝ }
+    ensures { λ r. ⌜ (r ≡ headIn (now (s .entry)) .samples) × (r < 4294967296) ⌝ }
+{
+    read_u32(s, 6) as usize
+}
+
+pub fn point_in(s: &[u8]) -> usize
+    requires { ⌜ headSize ≤ length (now s) ⌝ }
+    ensures { λ r. ⌜ r ≡ headIn (now (s .entry)) .point ⌝ }
+{
+    read_u32(s, 10) as usize
+}
+
+// Whether a sample can have so many bytes.
+fn is_width(w: usize) -> bool
+    ensures { λ r. ⌜ r ≡ isWidth w ⌝ }
+{
+    if w == 1 {
+        return true;
+    }
+    if w == 2 {
+        return true;
+    }
+    w == 4
+}
+
+// The integer filter of a width.
+fn filter_of(w: usize) -> Filter
+    ensures { λ r. ⌜ r ≡ filterOf w ⌝ }
+{
+    if w == 1 {
+        return Filter::Cdf53I8;
+    }
+    if w == 2 {
+        return Filter::Cdf53I16;
+    }
+    Filter::Cdf53I32
+}
+
+// The length of the file, and the count of section 0.
+fn check_start(s: &[u8]) -> Refusal
+    ensures { λ r. ⌜ r ≡ firstOf (startChecks (now (s .entry))) (Refusal.Done 0 0) ⌝ }
+{
+    if MOST_BYTES < s.len() {
+        return Refusal::TooLong;
+    }
+    if s.len() < 14 {
+        return Refusal::CutShort(s.len());
+    }
+    let count = read_u32(s, 0) as usize;
+    if count != 10 {
+        return Refusal::BadCount(0, count);
+    }
+    Refusal::Done(0, 0)
+}
+
+// What section 0 says against what is asked: the width, the samples and levels, the point.
+fn check_fields(k: usize, l: usize, n: usize, q: usize, w: usize, p: usize) -> Refusal
+    ensures { λ r. ⌜ r ≡ firstOf (fieldChecks (record { width = k; levels = l; samples = n; point = q }) w p) (Refusal.Done 0 0) ⌝ }
+{
+    if k != w {
+        return Refusal::OtherWidth(k, w);
+    }
+    if !is_width(w) {
+        return Refusal::OtherWidth(k, w);
+    }
+    if n < 3 {
+        return Refusal::MinFilterSize(n, 3);
+    }
+    if MOST_SAMPLES < n {
+        return Refusal::TooLong;
+    }
+    if l == 0 {
+        return Refusal::BufferWasTooSmallForLevel;
+    }
+    if depth(Wavelet::Cdf53, n) < l {
+        return Refusal::BufferWasTooSmallForLevel;
+    }
+    if q != p {
+        return Refusal::OtherPoint(q, p);
+    }
+    Refusal::Done(0, 0)
+}
+
+// All of section 0.
+pub fn check_head(s: &[u8], w: usize, p: usize) -> Refusal
+    ensures { λ r. ⌜ r ≡ firstOf (headChecks (now (s .entry)) w p) (Refusal.Done 0 0) ⌝ }
+{
+    let start = check_start(s);
+    if !is_done(start) {
+        return start;
+    }
+    check_fields(width_in(s), levels_in(s), samples_in(s), point_in(s), w, p)
+}
+
+// The walk over all sections after section 0.
+fn way_in(s: &[u8]) -> Way
+    requires { ⌜ headSize ≤ length (now s) ⌝ }
+    ensures { λ r. ⌜ r ≡ wayIn (now (s .entry)) ⌝ }
+{
+    walk(s, width_in(s), levels_in(s), samples_in(s), 14)
+}
+
+// A wrong count, a cut in section 1, or bytes after the last section, of a file of b bytes.
+fn check_way(way: Way, b: usize) -> Refusal
+    ensures { λ r. ⌜ r ≡ firstOf (wayChecks way b) (Refusal.Done 0 0) ⌝ }
+{
+    match way {
+        Way::Went(p) => {
+            if p < b {
+                return Refusal::Trailing(b - p);
+            }
+            Refusal::Done(0, 0)
+        }
+        Way::Short(j) => {
+            if j == 1 {
+                return Refusal::CutShort(b);
+            }
+            Refusal::Done(0, 0)
+        }
+        Way::Wrong(j, found) => Refusal::BadCount(j, found),
+    }
+}
+
+// How many detail sections are whole, of l levels.
+fn whole_details(way: Way, l: usize) -> usize
+    ensures { λ r. ⌜ r ≡ wholeDetails way l ⌝ }
+{
+    match way {
+        Way::Went(_) => l,
+        Way::Short(j) => {
+            if j < 2 {
+                return 0;
+            }
+            j - 2
+        }
+        Way::Wrong(_, _) => 0,
+    }
+}
