@@ -1,2 +1,4 @@
 pub mod Ways
 pub mod Parts
+pub mod Opening
+pub mod Opened

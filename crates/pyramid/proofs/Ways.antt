@@ -1,6 +1,7 @@
 -- Where a walk that went on stands. Assumes nothing.
 use mathlib.Core.Bool.{Bool, true, false, cond, not}
 use mathlib.Core.List.{List, []}
+use mathlib.Core.Logic.{_⊎_, inl, inr, ⊎-elim}
 use mathlib.Core.Path.{_≡_, refl, sym, ap, subst, _∙_}
 use Prim.Native.Nat.{ℕ, zero, suc, _+_, _-_, _*_, _/_, _≤_, _<_}
 use native.Mathlib.Omega.{arith}
@@ -9,13 +10,16 @@ use lib.Dec.{ltb, eqb, eqb·suc-zero}
 use lib.ListN.{length, take, drop}
 use Rattle.samples.specs.Le.{leAt}
 use Rattle.sizes.specs.Bands.{ups, downs}
+use Rattle.sizes.specs.Levels.{places}
+use Rattle.dwt.proofs.Cuts.{split-width}
 use Rattle.pyramid.specs.declared.walk.Way.{Way}
 use Rattle.pyramid.specs.declared.walk.Way.the-variants.{Went, Short, Wrong}
+use Rattle.pyramid.specs.Files.{bodySize}
 use Rattle.pyramid.specs.Walks.{oneOf, goOn, walkOf, lastCount}
 
--- a walk past a section of c samples stands w * c bytes or more into the slice
+-- a walk past a section of c samples stands right behind it, and in the slice
 pub record At (s : List ℕ) (w c at p : ℕ) : Type 0 where
-  pub after : at + w * c ≤ p
+  pub exact : p ≡ at + 4 + w * c
   pub within : p ≤ length s
 
 pub one-went : (s : List ℕ) (w c k at p : ℕ) → at ≤ length s → oneOf s w c k at ≡ Went p → At s w c at p
@@ -28,7 +32,7 @@ one-went s w c k at p h e = first (ltb (length s - at) 4) refl e
         let g : at + 4 + w * c ≡ p = cc in
         let a : w * c ≤ length s - at - 4 = ltb-false (length s - at - 4) (w * c) q in
         let b : 4 ≤ length s - at = ltb-false (length s - at) 4 r in
-        record { after = omega arith; within = omega arith }
+        record { exact = sym g; within = omega arith }
 
     second : (b : Bool) → ltb (length s - at) 4 ≡ false → cond b (Wrong k (leAt 4 s at)) (cond (ltb (length s - at - 4) (w * c)) (Short k) (Went (at + 4 + w * c))) ≡ Went p → At s w c at p
     second true r e = let z : _≡_ {A = ℕ} 0 1 = cc in omega arith
@@ -44,14 +48,70 @@ go-went (Went q) g p e = (q, refl, e)
 go-went (Short k) g p e = let z : _≡_ {A = ℕ} 0 1 = cc in absurd (let y : 1 ≤ 0 = omega arith in omega arith)
 go-went (Wrong k f) g p e = let z : _≡_ {A = ℕ} 0 1 = cc in absurd (let y : 1 ≤ 0 = omega arith in omega arith)
 
-pub walk-went : (l : ℕ) (s : List ℕ) (w n at p : ℕ) → at ≤ length s → walkOf s w l n at ≡ Went p → At s w (lastCount l n) at p
+-- it stands right behind its sections
+pub walk-size : (l : ℕ) (s : List ℕ) (k n at p : ℕ) → at ≤ length s → walkOf s k l n at ≡ Went p → (p ≡ at + bodySize k l n) × (p ≤ length s)
 unfolding walkOf
-walk-went zero s w n at p h e = one-went s w n 1 at p h e
-walk-went (suc l) s w n at p h e =
-    let g = go-went (walkOf s w l (ups n) at) (λ q. oneOf s w (downs n) (suc l + 1) q) p e in
-    let i = walk-went l s w (ups n) at (g .0) h (g .1) in
-    let j = one-went s w (downs n) (suc l + 1) (g .0) p (i .within) (g .2) in
-    simp (eqb·suc-zero l) (record { after = omega (arith, i .after, j .after); within = j .within })
+walk-size zero s k n at p h e = let i = one-went s k n 1 at p h e in (omega (arith, i .exact), i .within)
+walk-size (suc l) s k n at p h e =
+    let g = go-went (walkOf s k l (ups n) at) (λ q. oneOf s k (downs n) (suc l + 1) q) p e in
+    let i = walk-size l s k (ups n) at (g .0) h (g .1) in
+    let j = one-went s k (downs n) (suc l + 1) (g .0) p (i .1) (g .2) in
+    (omega (arith, i .0, j .exact, split-width k n), j .within)
+
+-- a section that is cut is the one that it is
+one-short : (s : List ℕ) (k c i at j : ℕ) → oneOf s k c i at ≡ Short j → j ≡ i
+unfolding oneOf
+one-short s k c i at j e = first (ltb (length s - at) 4) e
+  where
+    third : (b : Bool) → cond b (Short i) (Went (at + 4 + k * c)) ≡ Short j → j ≡ i
+    third true e = cc
+    third false e = let z : _≡_ {A = ℕ} 0 1 = cc in absurd (let y : 1 ≤ 0 = omega arith in omega arith)
+
+    second : (b : Bool) → cond b (Wrong i (leAt 4 s at)) (cond (ltb (length s - at - 4) (k * c)) (Short i) (Went (at + 4 + k * c))) ≡ Short j → j ≡ i
+    second true e = let z : _≡_ {A = ℕ} 0 1 = cc in absurd (let y : 1 ≤ 0 = omega arith in omega arith)
+    second false e = third (ltb (length s - at - 4) (k * c)) e
+
+    first : (b : Bool) → cond b (Short i) (cond (not (eqb (leAt 4 s at) c)) (Wrong i (leAt 4 s at)) (cond (ltb (length s - at - 4) (k * c)) (Short i) (Went (at + 4 + k * c)))) ≡ Short j → j ≡ i
+    first true e = cc
+    first false e = second (not (eqb (leAt 4 s at) c)) e
+
+-- what goes on from a walk, and is cut: before, or there
+go-short : (v : Way) (g : ℕ → Way) (j : ℕ) → goOn v g ≡ Short j → ((q : ℕ) × (v ≡ Went q) × (g q ≡ Short j)) ⊎ (v ≡ Short j)
+go-short (Went q) g j e = inl (q, refl, e)
+go-short (Short i) g j e = inr e
+go-short (Wrong i f) g j e = let z : _≡_ {A = ℕ} 0 1 = cc in absurd (let y : 1 ≤ 0 = omega arith in omega arith)
+
+-- a walk that is cut in section j: it is one of the sections, and the sections before it are there, those of j - 2 levels
+pub record Cutting (s : List ℕ) (k l n at j : ℕ) : Type 0 where
+  pub some : 1 ≤ j
+  pub most : j ≤ l + 1
+  pub before : 2 ≤ j → (q : ℕ) × (walkOf s k (j - 2) (places (l + 2 - j) n) at ≡ Went q)
+
+pub walk-short : (l : ℕ) (s : List ℕ) (k n at j : ℕ) → walkOf s k l n at ≡ Short j → Cutting s k l n at j
+unfolding walkOf places
+walk-short zero s k n at j e =
+    let i = one-short s k n 1 at j e in
+    record { some = omega arith; most = omega arith; before = λ h. absurd (omega arith) }
+walk-short (suc l) s k n at j e =
+    ⊎-elim
+    (λ g.
+    let i = one-short s k (downs n) (suc l + 1) (g .0) j (g .2) in
+    let a : j - 2 ≡ l = omega arith in
+    let b : suc l + 2 - j ≡ 1 = omega arith in
+    record {
+      some = omega arith;
+      most = omega arith;
+      before = λ h. (g .0, ap (λ (t : ℕ). walkOf s k t (places (suc l + 2 - j) n) at) a ∙ ap (λ (t : ℕ). walkOf s k l (places t n) at) b ∙ g .1);
+    })
+    (λ g.
+    let i = walk-short l s k (ups n) at j g in
+    let b : suc l + 2 - j ≡ suc (l + 2 - j) = omega (arith, i .most) in
+    record {
+      some = i .some;
+      most = omega (arith, i .most);
+      before = λ h. let t = i .before h in (t .0, ap (λ (r : ℕ). walkOf s k (j - 2) (places r n) at) b ∙ t .1);
+    })
+    (go-short (walkOf s k l (ups n) at) (λ q. oneOf s k (downs n) (suc l + 1) q) j e)
 
 -- the walk of the code
 pub walk-none : (s : List ℕ) (w l n at : ℕ) → l ≡ 0 → oneOf s w n 1 at ≡ walkOf s w l n at

@@ -184,3 +184,67 @@ fn whole_details(way: Way, l: usize) -> usize
         Way::Wrong(_, _) => 0,
     }
 }
+
+// The lent areas are whole samples; a width that is none has no sample size.
+fn check_areas(w: usize, o: usize, u: usize, v: usize) -> Refusal
+    ensures { λ r. ⌜ r ≡ firstOf (areaChecks w o u v) (Refusal.Done 0 0) ⌝ }
+{
+    if is_width(w) {
+        return check_whole(w, o, u, v);
+    }
+    Refusal::Done(0, 0)
+}
+
+// Room for count samples in the output and in both work areas; level and count where there is.
+fn check_rooms(w: usize, level: usize, count: usize, o: usize, u: usize, v: usize) -> Refusal
+    requires { ⌜ 0 < w ⌝ }
+    ensures { λ r. ⌜ r ≡ firstOf (roomsFor w count o u v) (Refusal.Done level count) ⌝ }
+{
+    if o / w < count {
+        return Refusal::NoRoom(o / w, count);
+    }
+    if u / w < count {
+        return Refusal::NoRoom(u / w, count);
+    }
+    if v / w < count {
+        return Refusal::NoRoom(v / w, count);
+    }
+    Refusal::Done(level, count)
+}
+
+// What opening says.
+fn check_open(s: &[u8], w: usize, p: usize, o: usize, u: usize, v: usize) -> Refusal
+    ensures { λ r. ⌜ r ≡ sayOpen (now (s .entry)) w p o u v ⌝ }
+{
+    let areas = check_areas(w, o, u, v);
+    if !is_done(areas) {
+        return areas;
+    }
+    let head = check_head(s, w, p);
+    if !is_done(head) {
+        return head;
+    }
+    let way = way_in(s);
+    let cut = check_way(way, s.len());
+    if !is_done(cut) {
+        return cut;
+    }
+    let l = levels_in(s);
+    let level = l - whole_details(way, l);
+    check_rooms(w, level, places_of(level, samples_in(s)), o, u, v)
+}
+
+// The samples of the deepest level that the file lets see, to the front of the output.
+pub fn open(s: &[u8], w: usize, p: usize, out: &mut [u8], one: &mut [u8], two: &mut [u8]) -> Answer
+    ensures { λ r. ⌜ Open (now (s .entry)) w p (now (out .entry)) (now (one .entry)) (now (two .entry)) r (now (out .exit)) (now (one .exit)) (now (two .exit)) ⌝ }
+{
+    let said = check_open(s, w, p, out.len(), one.len(), two.len());
+    let r = numbers(said);
+    if is_done(said) {
+        let l = levels_in(s);
+        let m = whole_details(way_in(s), l);
+        let count = places_of(l - m, samples_in(s));
+        restore(filter_of(w), s, m, count, 14, out, one);
+    }
+    r
+}

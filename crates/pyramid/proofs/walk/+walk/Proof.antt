@@ -8,7 +8,7 @@ use Rattle.sizes.specs.Bands.{ups, downs}
 use Rattle.pyramid.specs.declared.walk.Way.{Way}
 use Rattle.pyramid.specs.declared.walk.Way.the-variants.{Went, Short, Wrong}
 use Rattle.pyramid.specs.Walks.{oneOf, goOn, walkOf}
-use Rattle.pyramid.proofs.Ways.{walk-none, walk-more, walk-went}
+use Rattle.pyramid.proofs.Ways.{walk-none, walk-more, walk-size}
 use Prim.Native.Nat.{ℕ, _<_}
 use borrow.Fn.Kinds.{In}
 use borrow.Fn.PlainCycle.{Measures, is, falls, and}
@@ -63,8 +63,8 @@ walk-one-requires-2 t c κs =
     let st = c .before .before .before .before .before .before in
     let a = st .args in
     let m = mul-le-mul-left (a .k) (let h : downs (a .n) ≤ a .n = omega arith in h) in
-    let g = walk-went (a .levels - 1) (a .s .now) (a .k) (ups (a .n)) (a .at) (c .before .way .given .0 .0) (st .pre .1 .0) (sym (c .before .before .before .walk .ensures) ∙ c .before .way .given .1) in
-    (g .within, omega arith)
+    let g = walk-size (a .levels - 1) (a .s .now) (a .k) (ups (a .n)) (a .at) (c .before .way .given .0 .0) (st .pre .1 .0) (sym (c .before .before .before .walk .ensures) ∙ c .before .way .given .1) in
+    (g .1, omega arith)
 
 walk-enum-known-way-2 : (t : ℕ) → walk-lts.Need-enum-known-way-2 (claims t) (walk-at t) walk.Post
 walk-enum-known-way-2 t c = search needs

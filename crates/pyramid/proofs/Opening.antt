@@ -1,0 +1,160 @@
+-- Opening: what each part of the checks leaves when it lets by, and that the levels which a cut left can be restored. Assumes nothing.
+use mathlib.Core.Bool.{Bool, true, false, cond, not}
+use mathlib.Core.List.{List, [], _∷_, _++_}
+use mathlib.Core.Logic.{⊎-elim}
+use mathlib.Core.Path.{_≡_, refl, sym, ap, _∙_}
+use Prim.Native.Nat.{ℕ, zero, suc, _+_, _-_, _*_, _/_, _≤_, _<_}
+use native.Mathlib.Nat.{mul-le-mul-left}
+use native.Mathlib.Omega.{arith}
+use borrow.Author.Tests.{eqb-false, not-false}
+use lib.Dec.{eqb}
+use lib.ListN.{length}
+use Rattle.answers.specs.declared.err.Refusal.{Refusal}
+use Rattle.answers.specs.declared.err.Refusal.the-variants.{Done}
+use Rattle.answers.specs.Answers.{done}
+use Rattle.answers.specs.Checks.{Check, firstOf, ragged}
+use Rattle.answers.proofs.Passed.{Refusing, Passing, passing, both-refuse, both-pass, whole, roomy, right}
+use Rattle.sizes.specs.declared.Wavelet.{Wavelet}
+use Rattle.sizes.specs.declared.Wavelet.the-variants.{Cdf53}
+use Rattle.sizes.specs.Bands.{mostSamples, ups, smallestOf}
+use Rattle.sizes.specs.Levels.{places, depthOf}
+use Rattle.sizes.proofs.Counts.{places-le}
+use Rattle.sizes.proofs.Depths.{step, two-below}
+use Rattle.samples.specs.Integers.{isWidth}
+use Rattle.samples.proofs.IntegerLaws.{width-of}
+use Rattle.dwt.specs.declared.filter.Filter.the-variants.{Cdf53I8, Cdf53I16, Cdf53I32}
+use Rattle.dwt.specs.Filters.{widthOf, waveletOf}
+use Rattle.pyramid.specs.declared.walk.Way.{Way}
+use Rattle.pyramid.specs.declared.walk.Way.the-variants.{Went, Short, Wrong}
+use Rattle.pyramid.specs.Files.{headSize, bodySize}
+use Rattle.pyramid.specs.Walks.{walkOf}
+use Rattle.pyramid.specs.Opens.{filterOf, headIn, headChecks, wayIn, wayChecks, wholeDetails, levelIn, countIn, areaChecks, roomsFor, sayOpen}
+use Rattle.pyramid.proofs.Ways.{walk-size, walk-short}
+
+-- the integer filter of a width has that width
+pub filter-width : (w : ℕ) → isWidth w ≡ true → widthOf (filterOf w) ≡ w
+filter-width w h =
+    ⊎-elim (λ (e : w ≡ 1). rw e refl) (⊎-elim (λ (e : w ≡ 2). rw e refl) (λ (e : w ≡ 4). rw e refl)) (width-of w h .which)
+
+-- and is of 5/3
+pub filter-wavelet : (w : ℕ) → waveletOf (filterOf w) ≡ Cdf53
+filter-wavelet w = pick (eqb w 1) (eqb w 2)
+  where
+    pick : (a b : Bool) → waveletOf (cond a Cdf53I8 (cond b Cdf53I16 Cdf53I32)) ≡ Cdf53
+    pick true b = refl
+    pick false true = refl
+    pick false false = refl
+
+-- levels within the depth: those that are left after i of them are within the depth of what is left
+pub depth-below : (w : Wavelet) (i l n : ℕ) → i ≤ l → l ≤ depthOf w n → l - i ≤ depthOf w (places i n)
+unfolding places
+depth-below w zero l n h d = omega arith
+depth-below w (suc i) l n h d =
+    let e : suc (l - 1) ≤ depthOf w n = omega arith in
+    let s = step (smallestOf w) (two-below w) (l - 1) n e in
+    let r = depth-below w i (l - 1) (ups n) (omega arith) (s .1) in
+    omega (arith, r)
+
+-- what section 0 tells when its checks let by
+pub record Headed (s : List ℕ) (w : ℕ) : Type 0 where
+  pub there : headSize ≤ length s
+  pub width : headIn s .width ≡ w
+  pub known : isWidth w ≡ true
+  pub short : headIn s .samples ≤ mostSamples
+  pub deep : headIn s .levels ≤ depthOf Cdf53 (headIn s .samples)
+
+pub head-refuses : (s : List ℕ) (w p : ℕ) → Refusing (headChecks s w p)
+head-refuses s w p = (refl, (refl, (refl, (refl, (refl, (refl, (refl, (refl, (refl, (refl, tt))))))))))
+
+pub head-passes : (s : List ℕ) (w p : ℕ) → Passing (headChecks s w p) → Headed s w
+head-passes s w p q =
+    let f = q .1 .1 .1 in
+    record {
+      there = roomy (length s) headSize (q .1 .0);
+      width = right (headIn s .width) w (f .0);
+      known = not-false (isWidth w) (f .1 .0);
+      short = roomy mostSamples (headIn s .samples) (f .1 .1 .1 .0);
+      deep = roomy (depthOf Cdf53 (headIn s .samples)) (headIn s .levels) (f .1 .1 .1 .1 .1 .0);
+    }
+
+-- the way lets by: the detail sections that are whole are some of all, and they and section 1 are in the file
+pub way-refuses : (v : Way) (b : ℕ) → Refusing (wayChecks v b)
+way-refuses (Went p) b = (refl, tt)
+way-refuses (Short j) b = (refl, tt)
+way-refuses (Wrong j found) b = (refl, tt)
+
+pub way-passes : (s : List ℕ) (k l n : ℕ) (v : Way) → v ≡ walkOf s k l n headSize → headSize ≤ length s → Passing (wayChecks v (length s))
+    → let m = wholeDetails v l in (m ≤ l) × (headSize + bodySize k m (places (l - m) n) ≤ length s)
+unfolding places
+way-passes s k l n (Went p) e h q =
+    let i = walk-size l s k n headSize p h (sym e) in
+    let z : l - l ≡ 0 = omega arith in
+    (omega arith, rw z (omega (arith, i)))
+way-passes s k l n (Short j) e h q =
+    let i = walk-short l s k n headSize j (sym e) in
+    let one = eqb-false j 1 (q .0) in
+    let two : 2 ≤ j = omega (arith, i .some, one) in
+    let t = i .before two in
+    let a : l + 2 - j ≡ l - (j - 2) = omega (arith, i .most, two) in
+    let z = walk-size (j - 2) s k (places (l + 2 - j) n) headSize (t .0) h (t .1) in
+    (omega (arith, i .most, two), rw (sym a) (omega (arith, z)))
+way-passes s k l n (Wrong j found) e h q = absurd (let z : _≡_ {A = ℕ} 0 1 = ap (λ b. cond b 0 1) (q .0) in omega arith)
+
+-- the areas and their room
+pub area-refuses : (w o u v : ℕ) → Refusing (areaChecks w o u v)
+area-refuses w o u v = pick (isWidth w)
+  where
+    pick : (b : Bool) → Refusing (cond b (ragged w o ∷ ragged w u ∷ ragged w v ∷ []) [])
+    pick true = (refl, (refl, (refl, tt)))
+    pick false = tt
+
+pub area-passes : (w o u v : ℕ) → isWidth w ≡ true → Passing (areaChecks w o u v) → (o ≡ w * (o / w)) × (u ≡ w * (u / w)) × (v ≡ w * (v / w))
+area-passes w o u v h q = let r = rw h at q in (whole w o (r .0), whole w u (r .1 .0), whole w v (r .1 .1 .0))
+
+-- what all checks leave: the levels can be restored, and there is room
+pub record Opening (s : List ℕ) (w o u v : ℕ) : Type 0 where
+  pub head : Headed s w
+  pub some : wholeDetails (wayIn s) (headIn s .levels) ≤ headIn s .levels
+  pub deep : wholeDetails (wayIn s) (headIn s .levels) ≤ depthOf Cdf53 (countIn s)
+  pub short : countIn s ≤ mostSamples
+  pub held : headSize + bodySize w (wholeDetails (wayIn s) (headIn s .levels)) (countIn s) ≤ length s
+  pub output : w * countIn s ≤ o
+  pub first : w * countIn s ≤ u
+  pub second : w * countIn s ≤ v
+
+pub open-ready : (s : List ℕ) (w p o u v : ℕ) → done (sayOpen s w p o u v) ≡ true → Opening s w o u v
+unfolding sayOpen
+open-ready s w p o u v h =
+    let areas = areaChecks w o u v in
+    let heads = headChecks s w p in
+    let ways = wayChecks (wayIn s) (length s) in
+    let rooms = roomsFor w (countIn s) o u v in
+    let ra = area-refuses w o u v in
+    let rh = head-refuses s w p in
+    let rw′ = way-refuses (wayIn s) (length s) in
+    let q = passing (areas ++ (heads ++ (ways ++ rooms))) (Done (levelIn s) (countIn s)) (both-refuse areas (heads ++ (ways ++ rooms)) ra (both-refuse heads (ways ++ rooms) rh (both-refuse ways rooms rw′ (refl, (refl, (refl, tt)))))) h in
+    let qa = both-pass areas (heads ++ (ways ++ rooms)) q in
+    let qh = both-pass heads (ways ++ rooms) (qa .1) in
+    let qw = both-pass ways rooms (qh .1) in
+    let hd = head-passes s w p (qh .0) in
+    let k = headIn s .width in
+    let l = headIn s .levels in
+    let n = headIn s .samples in
+    let m = wholeDetails (wayIn s) l in
+    let wy = way-passes s k l n (wayIn s) refl (hd .there) (qw .0) in
+    let ar = area-passes w o u v (hd .known) (qa .0) in
+    let left : l - (l - m) ≡ m = omega (arith, wy .0) in
+    let dp = depth-below Cdf53 (l - m) l n (omega arith) (hd .deep) in
+    let lo = mul-le-mul-left w (roomy (o / w) (countIn s) (qw .1 .0)) in
+    let lu = mul-le-mul-left w (roomy (u / w) (countIn s) (qw .1 .1 .0)) in
+    let lv = mul-le-mul-left w (roomy (v / w) (countIn s) (qw .1 .1 .1 .0)) in
+    record {
+      head = hd;
+      some = wy .0;
+      deep = omega (arith, left, dp);
+      short = omega (arith, places-le (l - m) n, hd .short);
+      held = omega (arith, ap (λ (j : ℕ). headSize + bodySize j m (countIn s)) (hd .width), wy .1);
+      output = omega (arith, lo, ar .0);
+      first = omega (arith, lu, ar .1);
+      second = omega (arith, lv, ar .2);
+    }
