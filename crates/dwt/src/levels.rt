@@ -24,7 +24,7 @@ use sizes::checks::check_whole;
 use sizes::depth;
 
 // The byte at which the details of n samples start, where the approximations stand before them.
-fn cut_of(f: Filter, n: usize) -> usize
+pub fn cut_of(f: Filter, n: usize) -> usize
     requires { ⌜ widthOf f * n < 2 ^ 63 ⌝ }
     ensures { λ r. ⌜ Cut f n r ⌝ }
 {
@@ -92,7 +92,7 @@ fn run(
 }
 
 // An input too short for one level: the integer filters say 1, the float filters 4, as in the Rust.
-fn short_of(f: Filter, n: usize) -> Refusal
+pub fn short_of(f: Filter, n: usize) -> Refusal
     ensures { λ r. ⌜ r ≡ short f n ⌝ }
 {
     match f {

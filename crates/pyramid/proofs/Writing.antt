@@ -1,0 +1,116 @@
+-- Writing a file: numbers stored one after the other, sections, sizes, what a done call has passed, its two ends, and that two results which its statement allows are
+-- equal, the fronts of the work areas apart.
+-- Assumes nothing, and looks into no filter but for its width.
+use mathlib.Core.Path.{_≡_, refl, sym, ap, _∙_}
+use mathlib.Core.List.{List, [], _∷_, _++_, append-assoc}
+use Prim.Native.Nat.{ℕ, zero, suc, _+_, _-_, _*_, _/_, _≤_, _<_}
+use native.Mathlib.Nat.{mod-eq-of-lt}
+use native.Mathlib.Omega.{arith}
+use lib.ListN.{length, take, drop, set, length-append, length-set}
+use lib.Seq.{take-at, drop-at, length-take-le}
+use Rattle.samples.specs.Le.{leBytes, stored}
+use Rattle.samples.proofs.LeLaws.{length-leBytes, length-stored, stored-is}
+use Rattle.sizes.specs.declared.Wavelet.{Wavelet}
+use Rattle.sizes.specs.Bands.{mostSamples, ups, downs}
+use Rattle.sizes.specs.Levels.{places, depthOf}
+use Rattle.dwt.specs.declared.filter.Filter.{Filter}
+use Rattle.dwt.specs.declared.filter.Filter.the-variants.{Cdf53I8, Cdf53I16, Cdf53I32, Cdf53F32, Cdf53F64, Cdf97F32, Cdf97F64}
+use Rattle.dwt.specs.Filters.{widthOf, lowOf, highOf}
+use Rattle.dwt.specs.Pyramids.{lengthsOf}
+use Rattle.dwt.proofs.Cuts.{split-width}
+use Rattle.dwt.proofs.Lists.{put-end, later}
+use Rattle.trips.proofs.Lengths.{length-lengths, places-total}
+use Rattle.trips.proofs.Fitting.{lengths-fit, few-lengths}
+use Rattle.pyramid.specs.Files.{sectionOf, headCount, headSize, bodyOf, bodySize, fileSize, fileOf}
+
+-- ---- numbers that fit
+
+pub width-byte : (f : Filter) → widthOf f < 256
+width-byte Cdf53I8 = omega arith
+width-byte Cdf53I16 = omega arith
+width-byte Cdf53I32 = omega arith
+width-byte Cdf53F32 = omega arith
+width-byte Cdf53F64 = omega arith
+width-byte Cdf97F32 = omega arith
+width-byte Cdf97F64 = omega arith
+
+-- levels within the depth fit a byte
+pub few-levels : (w : Wavelet) (l n : ℕ) → l ≤ depthOf w n → n ≤ mostSamples → l < 256
+few-levels w l n h s =
+    let t = places-total l n in
+    omega (arith, length-lengths l n, few-lengths w (places l n) (lengthsOf l n) (lengths-fit w l n h) (omega arith))
+
+-- ---- numbers stored one after the other
+
+-- s has a in front, and from there on what s₀ has: a number more
+pub lay-next : (k : ℕ) (s s₀ a : List ℕ) (p n : ℕ) → length a ≡ p → p + k ≤ length s → s ≡ a ++ drop p s₀ → stored k s p n ≡ (a ++ leBytes k n) ++ drop (p + k) s₀
+lay-next k s s₀ a p n e h q =
+    let front : take p s ≡ a = ap (take p) q ∙ take-at a (drop p s₀) p e in
+    let after : drop (p + k) s ≡ drop (p + k) s₀ = later p (p + k) s s₀ (omega arith) (ap (drop p) q ∙ drop-at a (drop p s₀) p e) in
+    stored-is k s p n h ∙ rw (front, after) (sym (append-assoc a (leBytes k n) (drop (p + k) s₀)))
+
+one-byte : (s : List ℕ) (p n : ℕ) → n < 256 → stored 1 s p n ≡ set s p n
+unfolding stored leBytes
+one-byte s p n b = rw (mod-eq-of-lt {n = n} {m = 256} b)
+
+-- and a byte more
+pub lay-byte : (s s₀ a : List ℕ) (p n : ℕ) → n < 256 → length a ≡ p → p + 1 ≤ length s → s ≡ a ++ drop p s₀ → set s p n ≡ (a ++ leBytes 1 n) ++ drop (p + 1) s₀
+lay-byte s s₀ a p n b e h q = sym (one-byte s p n b) ∙ lay-next 1 s s₀ a p n e h q
+
+-- the head
+pub head-laid : (s : List ℕ) (w l n p : ℕ) → w < 256 → l < 256 → headSize ≤ length s
+    → stored 4 (stored 4 (set (set (stored 4 s 0 headCount) 4 w) 5 l) 6 n) 10 p ≡ sectionOf headCount (leBytes 1 w ++ (leBytes 1 l ++ (leBytes 4 n ++ leBytes 4 p))) ++ drop headSize s
+head-laid s w l n p hw hl h =
+    let s₁ = stored 4 s 0 headCount in
+    let s₂ = set s₁ 4 w in
+    let s₃ = set s₂ 5 l in
+    let s₄ = stored 4 s₃ 6 n in
+    let a₁ = leBytes 4 headCount in
+    let a₂ = a₁ ++ leBytes 1 w in
+    let a₃ = a₂ ++ leBytes 1 l in
+    let a₄ = a₃ ++ leBytes 4 n in
+    let n₁ = length-stored 4 s 0 headCount in
+    let n₂ = length-set s₁ 4 w in
+    let n₃ = length-set s₂ 5 l in
+    let n₄ = length-stored 4 s₃ 6 n in
+    let m₁ = length-leBytes 4 headCount in
+    let m₂ = length-append a₁ (leBytes 1 w) in
+    let m₃ = length-append a₂ (leBytes 1 l) in
+    let m₄ = length-append a₃ (leBytes 4 n) in
+    let k₂ = length-leBytes 1 w in
+    let k₃ = length-leBytes 1 l in
+    let k₄ = length-leBytes 4 n in
+    let e₁ : s₁ ≡ a₁ ++ drop 4 s = lay-next 4 s s [] 0 headCount refl (omega arith) refl in
+    let e₂ : s₂ ≡ a₂ ++ drop 5 s = lay-byte s₁ s a₁ 4 w hw m₁ (omega arith) e₁ in
+    let e₃ : s₃ ≡ a₃ ++ drop 6 s = lay-byte s₂ s a₂ 5 l hl (omega arith) (omega arith) e₂ in
+    let e₄ : s₄ ≡ a₄ ++ drop 10 s = lay-next 4 s₃ s a₃ 6 n (omega arith) (omega arith) e₃ in
+    lay-next 4 s₄ s a₄ 10 p (omega arith) (omega arith) e₄ ∙ simp append-assoc
+
+-- ---- sections
+
+-- a count stored at p, and y put after it up to the end
+pub section-laid : (o o₁ y : List ℕ) (p c : ℕ) → p + 4 ≤ length o → o₁ ≡ stored 4 o p c → take (p + 4) o₁ ++ (y ++ drop (length o₁ - (p + 4)) (drop (p + 4) o₁)) ≡ take p o ++ sectionOf c y
+section-laid o o₁ y p c h q =
+    let long : length o₁ ≡ length o = ap length q ∙ length-stored 4 o p c in
+    let a = take p o ++ leBytes 4 c in
+    let la : length a ≡ p + 4 = length-append (take p o) (leBytes 4 c) ∙ omega (arith, length-take-le p o (omega arith), length-leBytes 4 c) in
+    let front : take (p + 4) o₁ ≡ a = ap (take (p + 4)) (q ∙ stored-is 4 o p c h ∙ sym (append-assoc (take p o) (leBytes 4 c) (drop (p + 4) o))) ∙ take-at a (drop (p + 4) o) (p + 4) la in
+    put-end (p + 4) o₁ y (omega arith) ∙ rw front (append-assoc (take p o) (leBytes 4 c) y)
+
+-- the sections of no level, and of a level more: those below it wrote r over the front of what it left
+pub body-none : (f : Filter) (l n : ℕ) (x : List ℕ) → l ≡ 0 → bodyOf f l n x ≡ sectionOf n x
+unfolding bodyOf
+body-none f l n x e = ap (λ (k : ℕ). bodyOf f k n x) e
+
+pub body-more : (f : Filter) (l n : ℕ) (x o t r : List ℕ) (p cut : ℕ) → (l ≡ 0 → ⊥) → p ≤ length o → length (lowOf f x) ≡ cut
+    → r ≡ bodyOf f (l - 1) (ups n) (take cut (lowOf f x ++ t)) → r ++ drop p (take p o ++ sectionOf (downs n) (highOf f x)) ≡ bodyOf f l n x
+unfolding bodyOf
+body-more f l n x o t r p cut z h e q =
+    let s : suc (l - 1) ≡ l = omega arith in
+    ap (λ (k : List ℕ). r ++ k) (drop-at (take p o) (sectionOf (downs n) (highOf f x)) p (length-take-le p o h))
+    ∙ ap (λ (k : List ℕ). k ++ sectionOf (downs n) (highOf f x)) (q ∙ ap (λ (k : List ℕ). bodyOf f (l - 1) (ups n) k) (take-at (lowOf f x) t cut e))
+    ∙ ap (λ (k : ℕ). bodyOf f k n x) s
+
+-- the bytes of a level more
+pub size-more : (k l n : ℕ) → (l ≡ 0 → ⊥) → bodySize k l n ≡ bodySize k (l - 1) (ups n) + 4 + k * downs n
+size-more k l n z = omega (arith, split-width k n)
