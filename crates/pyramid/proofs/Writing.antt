@@ -4,7 +4,7 @@
 use mathlib.Core.Bool.{true, false, cond}
 use mathlib.Core.Path.{_≡_, refl, sym, ap, _∙_}
 use mathlib.Core.List.{List, [], _∷_, _++_, append-assoc}
-use Prim.Native.Nat.{ℕ, zero, suc, _+_, _-_, _*_, _/_, _≤_, _<_}
+use Prim.Native.Nat.{ℕ, suc, _+_, _-_, _*_, _/_, _≤_, _<_}
 use native.Mathlib.Nat.{mod-eq-of-lt, mul-le-mul-left}
 use native.Mathlib.Omega.{arith}
 use lib.Dec.{leb}
@@ -56,7 +56,7 @@ few-levels w l n h s =
 -- ---- numbers stored one after the other
 
 -- s has a in front, and from there on what s₀ has: a number more
-pub lay-next : (k : ℕ) (s s₀ a : List ℕ) (p n : ℕ) → length a ≡ p → p + k ≤ length s → s ≡ a ++ drop p s₀ → stored k s p n ≡ (a ++ leBytes k n) ++ drop (p + k) s₀
+lay-next : (k : ℕ) (s s₀ a : List ℕ) (p n : ℕ) → length a ≡ p → p + k ≤ length s → s ≡ a ++ drop p s₀ → stored k s p n ≡ (a ++ leBytes k n) ++ drop (p + k) s₀
 lay-next k s s₀ a p n e h q =
     let front : take p s ≡ a = ap (take p) q ∙ take-at a (drop p s₀) p e in
     let after : drop (p + k) s ≡ drop (p + k) s₀ = later p (p + k) s s₀ (omega arith) (ap (drop p) q ∙ drop-at a (drop p s₀) p e) in
@@ -67,7 +67,7 @@ unfolding stored leBytes
 one-byte s p n b = rw (mod-eq-of-lt {n = n} {m = 256} b)
 
 -- and a byte more
-pub lay-byte : (s s₀ a : List ℕ) (p n : ℕ) → n < 256 → length a ≡ p → p + 1 ≤ length s → s ≡ a ++ drop p s₀ → set s p n ≡ (a ++ leBytes 1 n) ++ drop (p + 1) s₀
+lay-byte : (s s₀ a : List ℕ) (p n : ℕ) → n < 256 → length a ≡ p → p + 1 ≤ length s → s ≡ a ++ drop p s₀ → set s p n ≡ (a ++ leBytes 1 n) ++ drop (p + 1) s₀
 lay-byte s s₀ a p n b e h q = sym (one-byte s p n b) ∙ lay-next 1 s s₀ a p n e h q
 
 -- the head

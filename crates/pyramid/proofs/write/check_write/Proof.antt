@@ -1,7 +1,7 @@
 -- `check_write` meets its contract: the byte lengths, then the lengths in samples. Assumes nothing.
 use borrow.Author.Needs.{needs}
 use mathlib.Core.List.{List, [], _∷_}
-use mathlib.Core.Path.{_≡_, refl, _∙_, sym}
+use mathlib.Core.Path.{refl, _∙_, sym}
 use Prim.Native.Nat.{ℕ, _/_}
 use Rattle.answers.specs.declared.err.Refusal.the-variants.{Done}
 use Rattle.answers.specs.Checks.{Check, ragged}

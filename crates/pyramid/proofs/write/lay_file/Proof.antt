@@ -4,7 +4,7 @@ use mathlib.Core.List.{List}
 use mathlib.Core.Path.{_≡_, _∙_, sym, ap}
 use Prim.Native.Nat.{ℕ, _+_, _-_, _*_}
 use native.Mathlib.Omega.{arith}
-use lib.ListN.{length, take, drop}
+use lib.ListN.{take, drop}
 use Rattle.dwt.specs.Filters.{widthOf, waveletOf}
 use Rattle.dwt.proofs.Lists.{copied-front, copied-after}
 use Rattle.pyramid.specs.Files.{bodyOf}

@@ -1,7 +1,7 @@
 -- `write` meets its contract: the checks, then the file where they let by. Assumes nothing, and looks into no filter.
 use borrow.Author.Needs.{needs}
 use mathlib.Core.List.{_++_}
-use mathlib.Core.Path.{_≡_, _∙_, sym, ap}
+use mathlib.Core.Path.{_∙_, sym, ap}
 use Prim.Native.Nat.{ℕ, _/_}
 use lib.ListN.{length, drop}
 use Rattle.dwt.specs.Filters.{widthOf}
