@@ -36,7 +36,7 @@ short-refuses Cdf53F64 n = refl
 short-refuses Cdf97F32 n = refl
 short-refuses Cdf97F64 n = refl
 
-too-short : (f : Filter) (n : ℕ) (t : Bool) → done (cond t (short f n) BufferWasTooSmallForLevel) ≡ false
+pub too-short : (f : Filter) (n : ℕ) (t : Bool) → done (cond t (short f n) BufferWasTooSmallForLevel) ≡ false
 too-short f n true = short-refuses f n
 too-short f n false = refl
 

@@ -92,7 +92,7 @@ fn run(
 }
 
 // An input too short for one level: the integer filters say 1, the float filters 4, as in the Rust.
-fn short_of(f: Filter, n: usize) -> Refusal
+pub fn short_of(f: Filter, n: usize) -> Refusal
     ensures { λ r. ⌜ r ≡ short f n ⌝ }
 {
     match f {

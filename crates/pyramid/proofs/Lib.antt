@@ -2,3 +2,4 @@ pub mod Ways
 pub mod Parts
 pub mod Opening
 pub mod Opened
+pub mod Writing

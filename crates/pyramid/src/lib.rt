@@ -2,3 +2,4 @@
 pub mod open;
 pub mod restore;
 pub mod walk;
+pub mod write;

@@ -1,0 +1,210 @@
+-- Writing a file: numbers stored one after the other, sections, sizes, what a done call has passed, its two ends, and that two results which its statement allows are
+-- equal, the fronts of the work areas apart.
+-- Assumes nothing, and looks into no filter but for its width.
+use mathlib.Core.Bool.{true, false, cond}
+use mathlib.Core.Path.{_≡_, refl, sym, ap, _∙_}
+use mathlib.Core.List.{List, [], _∷_, _++_, append-assoc}
+use Prim.Native.Nat.{ℕ, suc, _+_, _-_, _*_, _/_, _≤_, _<_}
+use native.Mathlib.Nat.{mod-eq-of-lt, mul-le-mul-left}
+use native.Mathlib.Omega.{arith}
+use lib.Dec.{leb}
+use lib.ListN.{length, take, drop, set, length-append, length-set}
+use lib.Seq.{take-at, drop-at, drop-drop, length-take-le}
+use Rattle.answers.specs.declared.err.Answer.{Answer}
+use Rattle.answers.specs.declared.err.Refusal.{Refusal}
+use Rattle.answers.specs.declared.err.Refusal.the-variants.{Done}
+use Rattle.answers.specs.Answers.{answerOf, done}
+use Rattle.answers.specs.Checks.{firstOf, ragged, Spared}
+use Rattle.answers.proofs.Passed.{passing, whole, roomy}
+use Rattle.answers.proofs.Endings.{left-done, left-refused, spared, untouched}
+use Rattle.samples.specs.Le.{leBytes, stored}
+use Rattle.samples.proofs.Words.{holds}
+use Rattle.samples.proofs.LeLaws.{length-leBytes, length-stored, stored-is}
+use Rattle.sizes.specs.declared.Wavelet.{Wavelet}
+use Rattle.sizes.specs.Bands.{mostSamples, ups, downs}
+use Rattle.sizes.specs.Levels.{places, depthOf, levelsOf}
+use Rattle.dwt.specs.declared.filter.Filter.{Filter}
+use Rattle.dwt.specs.declared.filter.Filter.the-variants.{Cdf53I8, Cdf53I16, Cdf53I32, Cdf53F32, Cdf53F64, Cdf97F32, Cdf97F64}
+use Rattle.dwt.specs.Filters.{widthOf, waveletOf, lowOf, highOf}
+use Rattle.dwt.specs.Pyramids.{lengthsOf}
+use Rattle.dwt.specs.Calls.{Ready}
+use Rattle.dwt.proofs.Cuts.{width-pos, split-width}
+use Rattle.dwt.proofs.Multi.{levels-pos, too-short}
+use Rattle.dwt.proofs.Lists.{put-end, later}
+use Rattle.trips.proofs.Lengths.{length-lengths, places-total}
+use Rattle.trips.proofs.Fitting.{lengths-fit, few-lengths}
+use Rattle.pyramid.specs.Files.{sectionOf, headCount, headSize, bodyOf, bodySize, fileSize, fileOf}
+use Rattle.pyramid.specs.Writes.{writeChecks, sayWrite, Write}
+
+-- ---- numbers that fit
+
+pub width-byte : (f : Filter) → widthOf f < 256
+width-byte Cdf53I8 = omega arith
+width-byte Cdf53I16 = omega arith
+width-byte Cdf53I32 = omega arith
+width-byte Cdf53F32 = omega arith
+width-byte Cdf53F64 = omega arith
+width-byte Cdf97F32 = omega arith
+width-byte Cdf97F64 = omega arith
+
+-- levels within the depth fit a byte
+pub few-levels : (w : Wavelet) (l n : ℕ) → l ≤ depthOf w n → n ≤ mostSamples → l < 256
+few-levels w l n h s =
+    let t = places-total l n in
+    omega (arith, length-lengths l n, few-lengths w (places l n) (lengthsOf l n) (lengths-fit w l n h) (omega arith))
+
+-- ---- numbers stored one after the other
+
+-- s has a in front, and from there on what s₀ has: a number more
+lay-next : (k : ℕ) (s s₀ a : List ℕ) (p n : ℕ) → length a ≡ p → p + k ≤ length s → s ≡ a ++ drop p s₀ → stored k s p n ≡ (a ++ leBytes k n) ++ drop (p + k) s₀
+lay-next k s s₀ a p n e h q =
+    let front : take p s ≡ a = ap (take p) q ∙ take-at a (drop p s₀) p e in
+    let after : drop (p + k) s ≡ drop (p + k) s₀ = later p (p + k) s s₀ (omega arith) (ap (drop p) q ∙ drop-at a (drop p s₀) p e) in
+    stored-is k s p n h ∙ rw (front, after) (sym (append-assoc a (leBytes k n) (drop (p + k) s₀)))
+
+one-byte : (s : List ℕ) (p n : ℕ) → n < 256 → stored 1 s p n ≡ set s p n
+unfolding stored leBytes
+one-byte s p n b = rw (mod-eq-of-lt {n = n} {m = 256} b)
+
+-- and a byte more
+lay-byte : (s s₀ a : List ℕ) (p n : ℕ) → n < 256 → length a ≡ p → p + 1 ≤ length s → s ≡ a ++ drop p s₀ → set s p n ≡ (a ++ leBytes 1 n) ++ drop (p + 1) s₀
+lay-byte s s₀ a p n b e h q = sym (one-byte s p n b) ∙ lay-next 1 s s₀ a p n e h q
+
+-- the head
+pub head-laid : (s : List ℕ) (w l n p : ℕ) → w < 256 → l < 256 → headSize ≤ length s
+    → stored 4 (stored 4 (set (set (stored 4 s 0 headCount) 4 w) 5 l) 6 n) 10 p ≡ sectionOf headCount (leBytes 1 w ++ (leBytes 1 l ++ (leBytes 4 n ++ leBytes 4 p))) ++ drop headSize s
+head-laid s w l n p hw hl h =
+    let s₁ = stored 4 s 0 headCount in
+    let s₂ = set s₁ 4 w in
+    let s₃ = set s₂ 5 l in
+    let s₄ = stored 4 s₃ 6 n in
+    let a₁ = leBytes 4 headCount in
+    let a₂ = a₁ ++ leBytes 1 w in
+    let a₃ = a₂ ++ leBytes 1 l in
+    let a₄ = a₃ ++ leBytes 4 n in
+    let n₁ = length-stored 4 s 0 headCount in
+    let n₂ = length-set s₁ 4 w in
+    let n₃ = length-set s₂ 5 l in
+    let n₄ = length-stored 4 s₃ 6 n in
+    let m₁ = length-leBytes 4 headCount in
+    let m₂ = length-append a₁ (leBytes 1 w) in
+    let m₃ = length-append a₂ (leBytes 1 l) in
+    let m₄ = length-append a₃ (leBytes 4 n) in
+    let k₂ = length-leBytes 1 w in
+    let k₃ = length-leBytes 1 l in
+    let k₄ = length-leBytes 4 n in
+    let e₁ : s₁ ≡ a₁ ++ drop 4 s = lay-next 4 s s [] 0 headCount refl (omega arith) refl in
+    let e₂ : s₂ ≡ a₂ ++ drop 5 s = lay-byte s₁ s a₁ 4 w hw m₁ (omega arith) e₁ in
+    let e₃ : s₃ ≡ a₃ ++ drop 6 s = lay-byte s₂ s a₂ 5 l hl (omega arith) (omega arith) e₂ in
+    let e₄ : s₄ ≡ a₄ ++ drop 10 s = lay-next 4 s₃ s a₃ 6 n (omega arith) (omega arith) e₃ in
+    lay-next 4 s₄ s a₄ 10 p (omega arith) (omega arith) e₄ ∙ simp append-assoc
+
+-- ---- sections
+
+-- a count stored at p, and y put after it up to the end
+pub section-laid : (o o₁ y : List ℕ) (p c : ℕ) → p + 4 ≤ length o → o₁ ≡ stored 4 o p c → take (p + 4) o₁ ++ (y ++ drop (length o₁ - (p + 4)) (drop (p + 4) o₁)) ≡ take p o ++ sectionOf c y
+section-laid o o₁ y p c h q =
+    let long : length o₁ ≡ length o = ap length q ∙ length-stored 4 o p c in
+    let a = take p o ++ leBytes 4 c in
+    let la : length a ≡ p + 4 = length-append (take p o) (leBytes 4 c) ∙ omega (arith, length-take-le p o (omega arith), length-leBytes 4 c) in
+    let front : take (p + 4) o₁ ≡ a = ap (take (p + 4)) (q ∙ stored-is 4 o p c h ∙ sym (append-assoc (take p o) (leBytes 4 c) (drop (p + 4) o))) ∙ take-at a (drop (p + 4) o) (p + 4) la in
+    put-end (p + 4) o₁ y (omega arith) ∙ rw front (append-assoc (take p o) (leBytes 4 c) y)
+
+-- the sections of no level, and of a level more: those below it wrote r over the front of what it left
+pub body-none : (f : Filter) (l n : ℕ) (x : List ℕ) → l ≡ 0 → bodyOf f l n x ≡ sectionOf n x
+unfolding bodyOf
+body-none f l n x e = ap (λ (k : ℕ). bodyOf f k n x) e
+
+pub body-more : (f : Filter) (l n : ℕ) (x o t r : List ℕ) (p cut : ℕ) → (l ≡ 0 → ⊥) → p ≤ length o → length (lowOf f x) ≡ cut
+    → r ≡ bodyOf f (l - 1) (ups n) (take cut (lowOf f x ++ t)) → r ++ drop p (take p o ++ sectionOf (downs n) (highOf f x)) ≡ bodyOf f l n x
+unfolding bodyOf
+body-more f l n x o t r p cut z h e q =
+    let s : suc (l - 1) ≡ l = omega arith in
+    ap (λ (k : List ℕ). r ++ k) (drop-at (take p o) (sectionOf (downs n) (highOf f x)) p (length-take-le p o h))
+    ∙ ap (λ (k : List ℕ). k ++ sectionOf (downs n) (highOf f x)) (q ∙ ap (λ (k : List ℕ). bodyOf f (l - 1) (ups n) k) (take-at (lowOf f x) t cut e))
+    ∙ ap (λ (k : ℕ). bodyOf f k n x) s
+
+-- the bytes of a level more
+pub size-more : (k l n : ℕ) → (l ≡ 0 → ⊥) → bodySize k l n ≡ bodySize k (l - 1) (ups n) + 4 + k * downs n
+size-more k l n z = omega (arith, split-width k n)
+
+-- the whole file: the head, and the sections in the m bytes after it
+pub file-laid : (f : Filter) (l n p m : ℕ) (x b b₁ r : List ℕ) → length x ≡ widthOf f * n → m ≡ bodySize (widthOf f) l n
+    → b₁ ≡ sectionOf headCount (leBytes 1 (widthOf f) ++ (leBytes 1 l ++ (leBytes 4 n ++ leBytes 4 p))) ++ drop headSize b → r ≡ bodyOf f l n x
+    → take headSize b₁ ++ (r ++ drop m (drop headSize b₁)) ≡ fileOf f l p x ++ drop (fileSize (widthOf f) l n) b
+unfolding fileOf
+file-laid f l n p m x b b₁ r e em q er =
+    let hd = sectionOf headCount (leBytes 1 (widthOf f) ++ (leBytes 1 l ++ (leBytes 4 n ++ leBytes 4 p))) in
+    let long : length hd ≡ headSize = simp (length-append, length-leBytes) in
+    let front : take headSize b₁ ≡ hd = ap (take headSize) q ∙ take-at hd (drop headSize b) headSize long in
+    let after : drop m (drop headSize b₁) ≡ drop (fileSize (widthOf f) l n) b =
+    ap (drop m) (ap (drop headSize) q ∙ drop-at hd (drop headSize b) headSize long) ∙ drop-drop m headSize b ∙ ap (λ (i : ℕ). drop (headSize + i) b) em in
+    let count : length x / widthOf f ≡ n = holds (width-pos f) x n e .count in
+    rw (front, after, er, count) (sym (append-assoc hd (bodyOf f l n x) (drop (fileSize (widthOf f) l n) b)))
+
+-- ---- the call
+
+-- the checks, at k bytes a sample
+pub say-width : (f : Filter) (l x b u v k : ℕ) {z : Refusal} → k ≡ widthOf f
+    → z ≡ firstOf (ragged k x ∷ ragged k u ∷ ragged k v ∷ writeChecks f l (x / k) b (u / k) (v / k)) (Done 0 0) → z ≡ sayWrite f l x b u v
+unfolding sayWrite
+say-width f l x b u v k e h = rw e at h
+
+-- what the checks leave: the levels run, and the file area has room
+pub write-ready : (f : Filter) (l x b u v : ℕ) → done (sayWrite f l x b u v) ≡ true → Ready f (levelsOf l) (x / widthOf f) x u v × (fileSize (widthOf f) (levelsOf l) (x / widthOf f) ≤ b)
+unfolding sayWrite
+write-ready f l x b u v h =
+    let k = widthOf f in
+    let p = passing (ragged k x ∷ ragged k u ∷ ragged k v ∷ writeChecks f l (x / k) b (u / k) (v / k)) (Done 0 0)
+    (refl, (refl, (refl, (refl, (too-short f (x / k) (leb l 1), (refl, (refl, (refl, tt)))))))) h in
+    let q = p .1 .1 .1 in
+    let eu = whole k u (p .1 .0) in
+    let ev = whole k v (p .1 .1 .0) in
+    let lu = mul-le-mul-left k (roomy (u / k) (x / k) (q .1 .1 .1 .0)) in
+    let lv = mul-le-mul-left k (roomy (v / k) (x / k) (q .1 .1 .1 .1 .0)) in (
+      record {
+        some = levels-pos l;
+        deep = roomy (depthOf (waveletOf f) (x / k)) (levelsOf l) (q .1 .0);
+        short = roomy mostSamples (x / k) (q .0);
+        whole = whole k x (p .0);
+        first = omega arith;
+        second = omega arith;
+      },
+      roomy b (fileSize k (levelsOf l) (x / k)) (q .1 .1 .0),
+    )
+
+module _ (f : Filter) (l p : ℕ) (x b u v : List ℕ) where
+  abbrev said : Refusal
+  said = sayWrite f l (length x) (length b) (length u) (length v)
+
+  abbrev made : ℕ → List ℕ
+  made n = fileOf f (levelsOf l) p x ++ drop (fileSize (widthOf f) (levelsOf l) n) b
+
+  -- s is what the checks said, r its numbers, and n the number of samples
+  pub write-done : (s : Refusal) (r : Answer) (n : ℕ) (b′ u′ v′ : List ℕ) → s ≡ said → r ≡ answerOf s → done s ≡ true → n ≡ length x / widthOf f
+      → b′ ≡ made n → drop (widthOf f * n) u′ ≡ drop (widthOf f * n) u → drop (widthOf f * n) v′ ≡ drop (widthOf f * n) v → Write f l p x b u v r b′ u′ v′
+  write-done s r n b′ u′ v′ es er z en h hu hv =
+      let t : done said ≡ true = rw es at z in
+      let w : widthOf f * n ≡ length x = ap (λ (i : ℕ). widthOf f * i) en ∙ sym (write-ready f l (length x) (length b) (length u) (length v) t .0 .whole) in
+      record {
+        answer = er ∙ ap answerOf es;
+        file = h ∙ ap made en ∙ sym (left-done said (made (length x / widthOf f)) b t);
+        first = spared said (length x) u u′ t (rw w at hu);
+        second = spared said (length x) v v′ t (rw w at hv);
+      }
+
+  pub write-refused : (s : Refusal) (r : Answer) → s ≡ said → r ≡ answerOf s → done s ≡ false → Write f l p x b u v r b u v
+  write-refused s r es er z =
+      let t : done said ≡ false = rw es at z in
+      record {
+        answer = er ∙ ap answerOf es;
+        file = sym (left-refused said (made (length x / widthOf f)) b t);
+        first = untouched said (length x) u;
+        second = untouched said (length x) v;
+      }
+
+  -- two results that the statement allows are equal, the fronts of the work areas apart
+  pub write-decides : (r s : Answer) (b₁ u₁ v₁ b₂ u₂ v₂ : List ℕ) → Write f l p x b u v r b₁ u₁ v₁ → Write f l p x b u v s b₂ u₂ v₂
+      → let k = cond (done said) (length x) 0 in (r ≡ s) × (b₁ ≡ b₂) × (drop k u₁ ≡ drop k u₂) × (drop k v₁ ≡ drop k v₂)
+  unfolding Spared
+  write-decides r s b₁ u₁ v₁ b₂ u₂ v₂ h g = (h .answer ∙ sym (g .answer), h .file ∙ sym (g .file), h .first ∙ sym (g .first), h .second ∙ sym (g .second))

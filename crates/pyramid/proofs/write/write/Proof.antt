@@ -1,0 +1,54 @@
+-- `write` meets its contract: the checks, then the file where they let by. Assumes nothing, and looks into no filter.
+use borrow.Author.Needs.{needs}
+use mathlib.Core.List.{_++_}
+use mathlib.Core.Path.{_∙_, sym, ap}
+use Prim.Native.Nat.{ℕ, _/_}
+use lib.ListN.{length, drop}
+use Rattle.dwt.specs.Filters.{widthOf}
+use Rattle.pyramid.specs.Files.{fileSize, fileOf}
+use Rattle.pyramid.proofs.Writing.{write-ready, write-done, write-refused}
+use Rattle.pyramid.proofs.write.write.Statement.{statement}
+use Rattle.pyramid.proofs.write.write.Tie as tie
+
+lay-file-requires : tie.Need-lay-file-requires
+lay-file-requires c κs =
+    let a = c .before .before .before .before .before .before .before .before .before .before .before .before .before .args in
+    rw (c .before .before .before .at-least-one .ensures, c .before .before .before .before .width .ensures .0)
+    (write-ready (a .f) (a .levels) (length (a .signal .now)) (length (a .file .now)) (length (a .one .now)) (length (a .two .now))
+    (rw (c .before .before .before .before .before .before .before .before .check-write .ensures) at (sym (c .before .before .before .before .before .before .is-done .ensures) ∙ c .before .before .before .before .before .if1 .taken)))
+
+returns : tie.Need-returns
+returns c =
+    let a = c .before .before .before .before .before .before .before .before .before .before .before .before .before .before .before .before .before .before .before .before .args in
+    let x = length (a .signal .now) in
+    let k = c .before .before .before .before .before .before .before .before .before .before .before .width in
+    let n = x / k .result in
+    let e = c .before .before .before .before .before .before .lay-file .ensures in
+    let said = c .before .before .before .before .before .before .before .before .before .before .before .before .before .before .before .check-write in
+    write-done (a .f) (a .levels) (a .point) (a .signal .now) (a .file .now) (a .one .now) (a .two .now) (said .result) _ n _ _ _ (said .ensures) (c .before .before .before .before .before .before .before .before .before .before .before .before .before .before .numbers .ensures)
+    (sym (c .before .before .before .before .before .before .before .before .before .before .before .before .before .is-done .ensures) ∙ c .before .before .before .before .before .before .before .before .before .before .before .before .if1 .taken)
+    (ap (λ (i : ℕ). x / i) (k .ensures .0))
+    (e .0 ∙ ap (λ (l : ℕ). fileOf (a .f) l (a .point) (a .signal .now) ++ drop (fileSize (widthOf (a .f)) l n) (a .file .now)) (c .before .before .before .before .before .before .before .before .before .before .at-least-one .ensures)) (e .1 .0) (e .1 .1)
+
+returns-2 : tie.Need-returns-2
+returns-2 c =
+    let a = c .before .before .before .before .before .before .before .before .args in
+    write-refused (a .f) (a .levels) (a .point) (a .signal .now) (a .file .now) (a .one .now) (a .two .now) (c .before .before .before .check-write .result) _ (c .before .before .before .check-write .ensures) (c .before .before .numbers .ensures)
+    (sym (c .before .is-done .ensures) ∙ c .if1 .left)
+
+pub write-spec : {M : Type 1} → statement M
+write-spec =
+    tie.close
+    (tie.spec
+    (λ c κs. search needs)
+    (λ c κs. search needs)
+    (λ c κs. search needs)
+    (λ c κs. search needs)
+    (λ c. search needs)
+    (λ c κs. search needs)
+    lay-file-requires
+    (λ c. search needs)
+    (λ c. search needs)
+    (λ c. search needs)
+    returns
+    returns-2)
