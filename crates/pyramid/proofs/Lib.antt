@@ -1,3 +1,5 @@
 pub mod Sized
 pub mod CutWalk
 pub mod Restored
+pub mod Heads
+pub mod Whole
