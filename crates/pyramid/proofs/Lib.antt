@@ -3,3 +3,4 @@ pub mod CutWalk
 pub mod Restored
 pub mod Heads
 pub mod Whole
+pub mod Survives
