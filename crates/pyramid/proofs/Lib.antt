@@ -4,3 +4,5 @@ pub mod Restored
 pub mod Heads
 pub mod Whole
 pub mod Survives
+pub mod Answers
+pub mod Bands

@@ -48,7 +48,7 @@ pub record Roomy (k n o : ℕ) : Type 0 where
   pub room : k * n ≤ o
 
 -- checks that let by, and then others
-skip : (l m : List Check) (s : Refusal) → Passing l → firstOf (l ++ m) s ≡ firstOf m s
+pub skip : (l m : List Check) (s : Refusal) → Passing l → firstOf (l ++ m) s ≡ firstOf m s
 skip [] m s h = refl
 skip (c ∷ l) m s h = ap (λ t. cond t (c .1) (firstOf (l ++ m) s)) (h .0) ∙ skip l m s (h .1)
 
