@@ -11,6 +11,7 @@ use borrow.Author.Tests.{le-ltb, ne-eqb}
 use lib.Dec.{ltb, eqb}
 use lib.ListN.{length, getD, take, drop, length-append}
 use lib.Seq.{length-take-le, take-append-add}
+use Rattle.answers.specs.declared.err.Refusal.the-variants.{MinFilterSize}
 use Rattle.answers.proofs.Chain.{same}
 use Rattle.answers.proofs.Order.{lt-or-le}
 use Rattle.answers.proofs.Passed.{Passing}
@@ -24,6 +25,7 @@ use Rattle.samples.proofs.LeLaws.{leAt-take}
 use Rattle.dwt.specs.declared.filter.Filter.{Filter}
 use Rattle.dwt.specs.declared.filter.Filter.the-variants.{Cdf53I8, Cdf53I16, Cdf53I32, Cdf53F32, Cdf53F64, Cdf97F32, Cdf97F64}
 use Rattle.dwt.specs.Filters.{widthOf, waveletOf}
+use Rattle.dwt.specs.Calls.{short}
 use Rattle.trips.proofs.Undone.{Integers}
 use Rattle.pyramid.specs.Files.{Head, headCount, headSize, bodyOf, bodySize, fileOf, fileSize}
 use Rattle.pyramid.specs.Opens.{filterOf, headIn, headChecks}
@@ -46,12 +48,13 @@ pub record Common (f : Filter) : Type 0 where
   pub again : filterOf (widthOf f) ≡ f
   pub wavelet : waveletOf f ≡ Cdf53
   pub narrow : widthOf f ≤ 4
+  pub early : (n : ℕ) → short f n ≡ MinFilterSize n 3
 
 -- each of them has it
 pub common : (f : Filter) → Integers f → Common f
-common Cdf53I8 i = record { width = refl; again = refl; wavelet = refl; narrow = omega arith }
-common Cdf53I16 i = record { width = refl; again = refl; wavelet = refl; narrow = omega arith }
-common Cdf53I32 i = record { width = refl; again = refl; wavelet = refl; narrow = omega arith }
+common Cdf53I8 i = record { width = refl; again = refl; wavelet = refl; narrow = omega arith; early = λ n. refl }
+common Cdf53I16 i = record { width = refl; again = refl; wavelet = refl; narrow = omega arith; early = λ n. refl }
+common Cdf53I32 i = record { width = refl; again = refl; wavelet = refl; narrow = omega arith; early = λ n. refl }
 common Cdf53F32 i = absurd i
 common Cdf53F64 i = absurd i
 common Cdf97F32 i = absurd i

@@ -6,3 +6,4 @@ pub mod Whole
 pub mod Survives
 pub mod Answers
 pub mod Bands
+pub mod Kept
