@@ -35,7 +35,7 @@ use Rattle.pyramid.specs.Sees.{needed, wholeOf}
 use Rattle.pyramid.proofs.Sized.{file-length}
 use Rattle.pyramid.proofs.Heads.{Recording, common}
 use Rattle.pyramid.proofs.Whole.{first-most}
-use Rattle.pyramid.proofs.Survives.{Roomy, cut-short, survives, count-is}
+use Rattle.pyramid.proofs.Survives.{Sampled, Roomy, cut-short, survives, count-is}
 
 early-refuses : (f : Filter) → Integers f → (n : ℕ) (t : Bool) → done (cond t (short f n) BufferWasTooSmallForLevel) ≡ false
 early-refuses f i n true = ap done (common f i .early n)
@@ -86,9 +86,9 @@ module _ (f : Filter) (l p : ℕ) (x : List ℕ) (i : Integers f) (bx : Bytes x)
       → take (fileSize (widthOf f) (levelsOf l) (length x / widthOf f)) b′ ≡ take (fileSize (widthOf f) (levelsOf l) (length x / widthOf f)) c′
   same-file b u v a b′ u′ v′ w z c g h e c′ g′ h′ w′ z′ = file-in b u v a b′ u′ v′ w z ∙ sym (file-in c g h e c′ g′ h′ w′ z′)
 
-  -- the first c bytes of that file, opened with room for the samples
+  -- the first c bytes of that file, opened for the same width and point, with an output and work areas of whole samples
   module _ (b u v : List ℕ) (a : Answer) (b′ u′ v′ : List ℕ) (w : Write f l p x b u v a b′ u′ v′) (z : a .number ≡ 0) (c : ℕ) (o g h : List ℕ) (r : Answer) (o′ g′ h′ : List ℕ)
-      (open′ : Open (take c b′) (widthOf f) p o g h r o′ g′ h′) (ro : Roomy (widthOf f) (length x / widthOf f) (length o)) (rg : Roomy (widthOf f) (length x / widthOf f) (length g)) (rh : Roomy (widthOf f) (length x / widthOf f) (length h)) where
+      (open′ : Open (take c b′) (widthOf f) p o g h r o′ g′ h′) (y : Sampled (widthOf f) (length o) (length g) (length h)) where
     written : Recording f (levelsOf l) (length x / widthOf f) p x
     written = recorded f l p x (length b) (length u) (length v) i bx hp (is-done (sayWrite f l (length x) (length b) (length u) (length v)) a (w .answer) z)
 
@@ -102,26 +102,28 @@ module _ (f : Filter) (l p : ℕ) (x : List ℕ) (i : Integers f) (bx : Bytes x)
         let n = length x / k in
         let s = take c b′ in
         let said = sayOpen s k p (length o) (length g) (length h) in
-        let t = cut-short f (levelsOf l) n p x written (length o) (length g) (length h) ro rg rh c e in
-        let q : said ≡ CutShort c = ap (λ (y : List ℕ). sayOpen y k p (length o) (length g) (length h)) (front (omega (arith, first-most k (levelsOf l) n))) ∙ t in
-        (open′ .answer ∙ ap answerOf q, open′ .output ∙ ap (λ (y : Refusal). left y (samplesIn s ++ drop (k * countIn s) o) o) q)
+        let t = cut-short f (levelsOf l) n p x written (length o) (length g) (length h) y c e in
+        let q : said ≡ CutShort c = ap (λ (d : List ℕ). sayOpen d k p (length o) (length g) (length h)) (front (omega (arith, first-most k (levelsOf l) n))) ∙ t in
+        (open′ .answer ∙ ap answerOf q, open′ .output ∙ ap (λ (d : Refusal). left d (samplesIn s ++ drop (k * countIn s) o) o) q)
 
-    -- cut later, or not at all, it says the level and how many samples, and gives just the approximations of that level
+    -- cut later, or not at all, and with room for the samples of level j, which the whole sections reach, it says j and how many samples that level has, and gives
+    -- just the approximations of that level
     pub kept : needed (widthOf f) (levelsOf l) (length x / widthOf f) ≤ c → c ≤ fileSize (widthOf f) (levelsOf l) (length x / widthOf f)
-        → (m : ℕ) → m ≡ levelsOf l - wholeOf (widthOf f) (levelsOf l) (length x / widthOf f) c
-        → (r ≡ say 0 m (places m (length x / widthOf f))) × (o′ ≡ approxAt f m x ++ drop (widthOf f * places m (length x / widthOf f)) o)
-    kept e d m em =
+        → (j : ℕ) → levelsOf l - wholeOf (widthOf f) (levelsOf l) (length x / widthOf f) c ≡ j
+        → Roomy (widthOf f) (places j (length x / widthOf f)) (length o) (length g) (length h)
+        → (r ≡ say 0 j (places j (length x / widthOf f))) × (o′ ≡ approxAt f j x ++ drop (widthOf f * places j (length x / widthOf f)) o)
+    kept e d j ej room =
         let k = widthOf f in
         let n = length x / k in
         let s = take c b′ in
-        let j = levelsOf l - wholeOf k (levelsOf l) n c in
-        let file = take c (fileOf f (levelsOf l) p x) in
+        let i = levelsOf l - wholeOf k (levelsOf l) n c in
         let said = sayOpen s k p (length o) (length g) (length h) in
-        let t = survives f (levelsOf l) n p x written (length o) (length g) (length h) ro rg rh c e d in
-        let q : said ≡ Done j (places j n) = ap (λ (y : List ℕ). sayOpen y k p (length o) (length g) (length h)) (front d) ∙ t .says in
-        let xs : samplesIn s ≡ approxAt f j x = ap samplesIn (front d) ∙ t .samples in
-        let cs : countIn s ≡ places j n = ap countIn (front d) ∙ count-is f (levelsOf l) n p x written c e d in
-        subst (λ (y : ℕ). (r ≡ say 0 y (places y n)) × (o′ ≡ approxAt f y x ++ drop (k * places y n) o)) (sym em) (
+        let roomy : Roomy k (places i n) (length o) (length g) (length h) = subst (λ (q : ℕ). Roomy k (places q n) (length o) (length g) (length h)) (sym ej) room in
+        let t = survives f (levelsOf l) n p x written (length o) (length g) (length h) y c e d roomy in
+        let q : said ≡ Done i (places i n) = ap (λ (m : List ℕ). sayOpen m k p (length o) (length g) (length h)) (front d) ∙ t .says in
+        let xs : samplesIn s ≡ approxAt f i x = ap samplesIn (front d) ∙ t .samples in
+        let cs : countIn s ≡ places i n = ap countIn (front d) ∙ count-is f (levelsOf l) n p x written c e d in
+        subst (λ (q : ℕ). (r ≡ say 0 q (places q n)) × (o′ ≡ approxAt f q x ++ drop (k * places q n) o)) ej (
           open′ .answer ∙ ap answerOf q,
-          open′ .output ∙ ap (λ (y : Refusal). left y (samplesIn s ++ drop (k * countIn s) o) o) q ∙ ap₂ (λ (y : List ℕ) (e : ℕ). y ++ drop (k * e) o) xs cs,
+          open′ .output ∙ ap (λ (m : Refusal). left m (samplesIn s ++ drop (k * countIn s) o) o) q ∙ ap₂ (λ (m : List ℕ) (e : ℕ). m ++ drop (k * e) o) xs cs,
         )

@@ -42,25 +42,37 @@ use Rattle.pyramid.proofs.Restored.{restored-cut, whole-all, whole-most
 use Rattle.pyramid.proofs.Heads.{Recording, common, cut-parts, cut-length, file-most, head-is, head-passes}
 use Rattle.pyramid.proofs.Whole.{first-most, reach-none, reach-short, whole-is}
 
--- a lent area of o bytes that holds n samples of k bytes or more, and whole ones
-pub record Roomy (k n o : ℕ) : Type 0 where
-  pub samples : o % k ≡ 0
-  pub room : k * n ≤ o
+-- the output and the work areas, of o, u and v bytes, are whole samples of k bytes
+pub record Sampled (k o u v : ℕ) : Type 0 where
+  pub output : o % k ≡ 0
+  pub first : u % k ≡ 0
+  pub second : v % k ≡ 0
+
+-- each of them has room for c samples
+pub record Roomy (k c o u v : ℕ) : Type 0 where
+  pub output : k * c ≤ o
+  pub first : k * c ≤ u
+  pub second : k * c ≤ v
+
+-- room for n samples is room for fewer
+pub roomy-less : (k c n o u v : ℕ) → c ≤ n → Roomy k n o u v → Roomy k c o u v
+roomy-less k c n o u v h r =
+    let q = mul-le-mul-left k h in
+    record { output = omega (arith, r .output); first = omega (arith, r .first); second = omega (arith, r .second) }
 
 -- checks that let by, and then others
 pub skip : (l m : List Check) (s : Refusal) → Passing l → firstOf (l ++ m) s ≡ firstOf m s
 skip [] m s h = refl
 skip (c ∷ l) m s h = ap (λ t. cond t (c .1) (firstOf (l ++ m) s)) (h .0) ∙ skip l m s (h .1)
 
-areas-pass : (k n o u v : ℕ) → isWidth k ≡ true → Roomy k n o → Roomy k n u → Roomy k n v → Passing (areaChecks k o u v)
-areas-pass k n o u v e ro ru rv = rw e (same (o % k) 0 (ro .samples), (same (u % k) 0 (ru .samples), (same (v % k) 0 (rv .samples), tt)))
+areas-pass : (k o u v : ℕ) → isWidth k ≡ true → Sampled k o u v → Passing (areaChecks k o u v)
+areas-pass k o u v e a = rw e (same (o % k) 0 (a .output), (same (u % k) 0 (a .first), (same (v % k) 0 (a .second), tt)))
 
--- room for n samples is room for c
-enough : (k n c o : ℕ) → 0 < k → c ≤ n → Roomy k n o → ltb (o / k) c ≡ false
-enough k n c o kp h r = le-ltb (o / k) c (le-div-iff-mul-le kp .1 (omega (arith, mul-le-mul-left k h, mul-comm k c, r .room)))
+enough : (k c o : ℕ) → 0 < k → k * c ≤ o → ltb (o / k) c ≡ false
+enough k c o kp h = le-ltb (o / k) c (le-div-iff-mul-le kp .1 (omega (arith, mul-comm k c)))
 
-rooms-pass : (k n c o u v : ℕ) → 0 < k → c ≤ n → Roomy k n o → Roomy k n u → Roomy k n v → Passing (roomsFor k c o u v)
-rooms-pass k n c o u v kp h ro ru rv = (enough k n c o kp h ro, (enough k n c u kp h ru, (enough k n c v kp h rv, tt)))
+rooms-pass : (k c o u v : ℕ) → 0 < k → Roomy k c o u v → Passing (roomsFor k c o u v)
+rooms-pass k c o u v kp r = (enough k c o kp (r .output), (enough k c u kp (r .first), (enough k c v kp (r .second), tt)))
 
 -- what opening s is to give: the level, that many samples, and which
 pub record Opening (s : List ℕ) (k p o u v level count : ℕ) (x : List ℕ) : Type 0 where
@@ -141,7 +153,7 @@ module _ (f : Filter) (l n p : ℕ) (x : List ℕ) (r : Recording f l n p x) whe
       (subst (λ (a : ℕ). restoredOf f (front ++ take j (body ++ [])) (wholeIn k l n j) (places (l - wholeIn k l n j) n) a ≡ approxAt f (l - wholeIn k l n j) x) (front-length f l n p)
       (restored-cut f (undoes f (r .integers)) l n x front [] j (r .bytes) (r .size) deep (omega arith)))
 
-  module _ (o u v : ℕ) (ro : Roomy (widthOf f) n o) (ru : Roomy (widthOf f) n u) (rv : Roomy (widthOf f) n v) where
+  module _ (o u v : ℕ) (a : Sampled (widthOf f) o u v) where
     -- cut in section 0 or 1: "10"
     pub cut-short : (b : ℕ) → b < needed (widthOf f) l n → sayOpen (take b (fileOf f l p x)) (widthOf f) p o u v ≡ CutShort b
     unfolding sayOpen
@@ -155,7 +167,7 @@ module _ (f : Filter) (l n p : ℕ) (x : List ℕ) (r : Recording f l n p x) whe
         let rooms = roomsFor k (countIn s) o u v in
         let ways = wayChecks (wayIn s) (length s) in
         let end = Done (levelIn s) (countIn s) in
-        skip (areaChecks k o u v) (headChecks s k p ++ (ways ++ rooms)) end (areas-pass k n o u v (common f (r .integers) .width) ro ru rv)
+        skip (areaChecks k o u v) (headChecks s k p ++ (ways ++ rooms)) end (areas-pass k o u v (common f (r .integers) .width) a)
         ∙ ⊎-elim
         (λ (h : b < headSize). sym (by _ (le-ltb mostBytes (length s) (omega arith)) (stop _ (lt-ltb (length s) headSize (omega arith)) (ap CutShort (sym size)))))
         (λ (h : headSize ≤ b).
@@ -164,25 +176,29 @@ module _ (f : Filter) (l n p : ℕ) (x : List ℕ) (r : Recording f l n p x) whe
         ∙ ap CutShort size)
         (lt-or-le b headSize)
 
-    -- cut later, or not at all: the approximations of the level that the whole sections reach
-    pub survives : (b : ℕ) → needed (widthOf f) l n ≤ b → b ≤ fileSize (widthOf f) l n
-        → Opening (take b (fileOf f l p x)) (widthOf f) p o u v (l - wholeOf (widthOf f) l n b) (places (l - wholeOf (widthOf f) l n b) n) (approxAt f (l - wholeOf (widthOf f) l n b) x)
+    -- cut later, or not at all: nothing but the room decides
+    pub rooms-decide : (b : ℕ) → needed (widthOf f) l n ≤ b → b ≤ fileSize (widthOf f) l n
+        → sayOpen (take b (fileOf f l p x)) (widthOf f) p o u v
+        ≡ firstOf (roomsFor (widthOf f) (places (l - wholeOf (widthOf f) l n b) n) o u v) (Done (l - wholeOf (widthOf f) l n b) (places (l - wholeOf (widthOf f) l n b) n))
     unfolding sayOpen
-    survives b c e =
+    rooms-decide b c e =
         let k = widthOf f in
         let s = take b (fileOf f l p x) in
-        let m = wholeOf k l n b in
-        let cn : countIn s ≡ places (l - m) n = count-is b c e in
-        let fits : countIn s ≤ n = omega (arith, places-le (l - m) n) in
         let rooms = roomsFor k (countIn s) o u v in
         let ways = wayChecks (wayIn s) (length s) in
         let end = Done (levelIn s) (countIn s) in
+        skip (areaChecks k o u v) (headChecks s k p ++ (ways ++ rooms)) end (areas-pass k o u v (common f (r .integers) .width) a)
+        ∙ skip (headChecks s k p) (ways ++ rooms) end (head-passes f l n p x b r (omega arith) e)
+        ∙ skip ways rooms end (way-passes b c e)
+        ∙ ap₂ (λ (i j : ℕ). firstOf (roomsFor k j o u v) (Done i j)) (level-is b c e) (count-is b c e)
+
+    -- with room for the level that the whole sections reach: that level, and just its approximations
+    pub survives : (b : ℕ) → needed (widthOf f) l n ≤ b → b ≤ fileSize (widthOf f) l n → Roomy (widthOf f) (places (l - wholeOf (widthOf f) l n b) n) o u v
+        → Opening (take b (fileOf f l p x)) (widthOf f) p o u v (l - wholeOf (widthOf f) l n b) (places (l - wholeOf (widthOf f) l n b) n) (approxAt f (l - wholeOf (widthOf f) l n b) x)
+    survives b c e g =
+        let k = widthOf f in
+        let i = l - wholeOf k l n b in
         record {
-          says =
-              skip (areaChecks k o u v) (headChecks s k p ++ (ways ++ rooms)) end (areas-pass k n o u v (common f (r .integers) .width) ro ru rv)
-              ∙ skip (headChecks s k p) (ways ++ rooms) end (head-passes f l n p x b r (omega arith) e)
-              ∙ skip ways rooms end (way-passes b c e)
-              ∙ through rooms end (rooms-pass k n (countIn s) o u v (width-pos f) fits ro ru rv)
-              ∙ ap₂ Done (level-is b c e) cn;
+          says = rooms-decide b c e ∙ through (roomsFor k (places i n) o u v) (Done i (places i n)) (rooms-pass k (places i n) o u v (width-pos f) g);
           samples = samples-are b c e;
         }
