@@ -7,3 +7,4 @@ pub mod Survives
 pub mod Answers
 pub mod Bands
 pub mod Kept
+pub mod Figures

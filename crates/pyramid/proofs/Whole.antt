@@ -3,7 +3,7 @@
 use mathlib.Core.Bool.{cond}
 use mathlib.Core.List.{List, [], _∷_, _++_}
 use mathlib.Core.Logic.{⊎-elim}
-use mathlib.Core.Path.{_≡_, refl, sym, ap, _∙_}
+use mathlib.Core.Path.{_≡_, refl, sym, ap, subst, _∙_}
 use Prim.Native.Nat.{ℕ, zero, suc, _+_, _-_, _*_, _/_, _≤_, _<_}
 use native.Mathlib.Nat.{mul-add, mul-zero}
 use native.Mathlib.Omega.{arith}
@@ -23,7 +23,7 @@ use Rattle.pyramid.specs.declared.walk.Way.the-variants.{Went, Short, Wr
 use Rattle.pyramid.specs.Files.{headSize, bodySize}
 use Rattle.pyramid.specs.Sees.{firstWhole, needed, wholeOf, wholeIn, stopped, reach}
 use Rattle.pyramid.proofs.CutWalk.{reach-whole}
-use Rattle.pyramid.proofs.Restored.{whole-all, whole-less}
+use Rattle.pyramid.proofs.Restored.{whole-all, whole-less, whole-most}
 
 -- section 1 is no more than all sections
 pub first-most : (k l n : ℕ) → bodySize k 0 (places l n) ≤ bodySize k l n
@@ -96,3 +96,55 @@ whole-is k l n b h =
     let z = bodySize k 0 (places l n) in
     let e : b - headSize - z ≡ b - needed k l n = omega arith in
     whole-first k l n (b - headSize) (omega arith) ∙ ap (firstWhole k (lengthsOf l n)) e
+
+-- ---- it is the largest such number
+
+fits-in : (k l n b : ℕ) → bodySize k 0 (places l n) ≤ b → bodySize k (wholeIn k l n b) (places (l - wholeIn k l n b) n) ≤ b
+unfolding places wholeIn
+fits-in k zero n b c = c
+fits-in k (suc l) n b c =
+    let m = wholeIn k l (ups n) b in
+    ⊎-elim
+    (λ (h : b < bodySize k (suc l) n).
+      let e : suc l - m ≡ suc (l - m) = omega (arith, whole-most k l (ups n) b) in
+      rw (lt-leb (bodySize k (suc l) n) b h, e) (fits-in k l (ups n) b c))
+    (λ (h : bodySize k (suc l) n ≤ b).
+      let e : suc l - suc l ≡ 0 = omega arith in
+      rw (le-leb (bodySize k (suc l) n) b h, e) h)
+    (lt-or-le b (bodySize k (suc l) n))
+
+next-out : (k l n b : ℕ) → wholeIn k l n b < l → b < bodySize k (suc (wholeIn k l n b)) (places (l - suc (wholeIn k l n b)) n)
+unfolding places wholeIn
+next-out k zero n b c = absurd (omega arith)
+next-out k (suc l) n b c =
+    let m = wholeIn k l (ups n) b in
+    let most = whole-most k l (ups n) b in
+    ⊎-elim
+    (λ (h : b < bodySize k (suc l) n).
+      rw (lt-leb (bodySize k (suc l) n) b h)
+      (⊎-elim
+      (λ (g : m < l). let e : suc l - suc m ≡ suc (l - suc m) = omega arith in rw e (next-out k l (ups n) b g))
+      (λ (g : l ≤ m).
+        let em : m ≡ l = omega arith in
+        let e : suc l - suc l ≡ 0 = omega arith in
+        rw (em, e) h)
+      (lt-or-le m l)))
+    (λ (h : bodySize k (suc l) n ≤ b). absurd (omega (arith, whole-all k (suc l) n b h)))
+    (lt-or-le b (bodySize k (suc l) n))
+
+-- the sections up to that one are within b bytes
+pub whole-fits : (k l n b : ℕ) → needed k l n ≤ b → headSize + bodySize k (wholeOf k l n b) (places (l - wholeOf k l n b) n) ≤ b
+whole-fits k l n b c =
+    let j = b - headSize in
+    let f : bodySize k (wholeIn k l n j) (places (l - wholeIn k l n j) n) ≤ j = fits-in k l n j (omega arith) in
+    let g : bodySize k (wholeOf k l n b) (places (l - wholeOf k l n b) n) ≤ j = subst (λ (m : ℕ). bodySize k m (places (l - m) n) ≤ j) (whole-is k l n b c) f in
+    omega arith
+
+-- and with the next one they are not
+pub whole-next : (k l n b : ℕ) → needed k l n ≤ b → wholeOf k l n b < l → b < headSize + bodySize k (suc (wholeOf k l n b)) (places (l - suc (wholeOf k l n b)) n)
+whole-next k l n b c h =
+    let j = b - headSize in
+    let e = whole-is k l n b c in
+    let f : j < bodySize k (suc (wholeIn k l n j)) (places (l - suc (wholeIn k l n j)) n) = next-out k l n j (omega arith) in
+    let g : j < bodySize k (suc (wholeOf k l n b)) (places (l - suc (wholeOf k l n b)) n) = subst (λ (m : ℕ). j < bodySize k (suc m) (places (l - suc m) n)) e f in
+    omega arith
