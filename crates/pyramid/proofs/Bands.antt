@@ -1,41 +1,39 @@
 -- Looking a section up in a file that was cut anywhere: a section that is whole is found, and its bytes are its band: section 1 the deepest approximations, the
 -- others the details of their level. One that is not whole is 10. Each of the integer filters.
 -- Assumes nothing.
-use mathlib.Core.Bool.{Bool, true, false, cond, not, _||_}
-use mathlib.Core.List.{List, [], _∷_, _++_, append-assoc, append-nil}
+use mathlib.Core.Bool.{Bool, cond, _||_}
+use mathlib.Core.List.{List, [], _++_, append-assoc, append-nil}
 use mathlib.Core.Logic.{⊎-elim}
-use mathlib.Core.Path.{_≡_, refl, sym, ap, ap₂, subst, _∙_}
-use Prim.Native.Nat.{ℕ, zero, suc, _+_, _-_, _*_, _/_, _≤_, _<_}
+use mathlib.Core.Path.{_≡_, sym, ap, ap₂, subst, _∙_}
+use Prim.Native.Nat.{ℕ, zero, suc, _+_, _-_, _*_, _≤_, _<_}
 use native.Mathlib.Nat.{zero-add, suc-add}
 use native.Mathlib.Omega.{arith}
 use borrow.Author.Tests.{le-ltb, ne-eqb}
-use lib.Dec.{ltb, eqb}
-use lib.ListN.{length, take, drop, length-append}
+use lib.ListN.{length, take, drop}
 use lib.Seq.{drop-at}
 use Rattle.answers.specs.declared.err.Refusal.{Refusal}
 use Rattle.answers.specs.declared.err.Refusal.the-variants.{Done, CutShort}
-use Rattle.answers.specs.Checks.{Check, firstOf}
+use Rattle.answers.specs.Checks.{firstOf}
 use Rattle.answers.proofs.Order.{lt-or-le}
 use Rattle.answers.proofs.Passed.{Passing}
 use Rattle.sizes.specs.Bands.{ups, downs}
 use Rattle.sizes.specs.Levels.{places}
-use Rattle.sizes.proofs.Counts.{places-le, places-after}
+use Rattle.sizes.proofs.Counts.{places-le}
 use Rattle.dwt.specs.declared.filter.Filter.{Filter}
 use Rattle.dwt.specs.Filters.{widthOf, lowOf, highOf}
 use Rattle.dwt.specs.Pyramids.{approxAt}
 use Rattle.dwt.proofs.Cuts.{split-width}
-use Rattle.dwt.proofs.PyramidLaws.{approx-after}
 use Rattle.trips.proofs.Lengths.{length-low, length-high, length-approx}
 use Rattle.pyramid.specs.declared.walk.Way.{Way}
-use Rattle.pyramid.specs.declared.walk.Way.the-variants.{Went, Short, Wrong}
+use Rattle.pyramid.specs.declared.walk.Way.the-variants.{Short}
 use Rattle.pyramid.specs.Files.{Head, headSize, sectionOf, bodyOf, bodySize, fileOf, fileSize}
-use Rattle.pyramid.specs.Walks.{walkOf, lastCount, bytesAt}
+use Rattle.pyramid.specs.Walks.{walkOf, lastCount}
 use Rattle.pyramid.specs.Opens.{headIn, headChecks, wayTo, sectionChecks, numberChecks, lengthOf, endBy, startOf, saySection}
 use Rattle.pyramid.specs.Sees.{wholeIn, reach}
 use Rattle.pyramid.proofs.Sized.{frontOf, front-length, body-length}
 use Rattle.pyramid.proofs.CutWalk.{walk-cut, reach-whole, past}
 use Rattle.pyramid.proofs.Restored.{bytes-whole}
-use Rattle.pyramid.proofs.Heads.{Recording, common, cut-parts, cut-length, head-is, head-passes}
+use Rattle.pyramid.proofs.Heads.{Recording, cut-parts, cut-length, head-is, head-passes}
 use Rattle.pyramid.proofs.Whole.{reach-none, reach-short}
 use Rattle.pyramid.proofs.Survives.{skip}
 

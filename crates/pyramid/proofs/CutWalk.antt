@@ -1,15 +1,15 @@
 -- A walk over the sections of a file that is cut anywhere: it is as far as `reach` says. Any filter.
 -- Assumes nothing.
-use mathlib.Core.Bool.{Bool, true, false, cond, not}
-use mathlib.Core.List.{List, [], _∷_, _++_, append-assoc}
+use mathlib.Core.Bool.{cond}
+use mathlib.Core.List.{List, _++_, append-assoc}
 use mathlib.Core.Logic.{⊎-elim}
 use mathlib.Core.Path.{_≡_, refl, sym, ap, subst, _∙_}
-use Prim.Native.Nat.{ℕ, zero, suc, _+_, _-_, _*_, _/_, _%_, _^_, _≤_, _<_}
+use Prim.Native.Nat.{ℕ, zero, suc, _+_, _-_, _*_, _^_, _≤_, _<_}
 use native.Mathlib.Nat.{add-zero}
 use native.Mathlib.Omega.{arith}
 use borrow.Author.Tests.{lt-ltb, le-ltb, le-leb, lt-leb}
-use lib.Dec.{ltb, leb, eqb}
-use lib.ListN.{length, take, drop, length-take, length-drop, length-append}
+use lib.Dec.{leb}
+use lib.ListN.{length, take, drop, length-drop, length-append}
 use lib.Seq.{drop-at, take-append-add, drop-append-add, length-take-le}
 use Rattle.answers.proofs.Chain.{by, stop, same}
 use Rattle.answers.proofs.Order.{lt-or-le}

@@ -2,15 +2,14 @@
 -- seen to say what the document says.
 -- Assumes nothing.
 use mathlib.Core.List.{List, [], _∷_}
-use mathlib.Core.Path.{_≡_, refl, sym, ap, ap₂, subst, _∙_}
+use mathlib.Core.Path.{_≡_, refl, sym, subst}
 use Prim.Native.Nat.{ℕ, zero, suc, _-_, _≤_, _<_}
 use native.Mathlib.Omega.{arith}
 use borrow.Author.Tests.{le-leb, lt-leb}
-use lib.Dec.{leb}
 use lib.ListN.{getD, take}
 use Rattle.answers.specs.declared.err.Refusal.the-variants.{CutShort}
 use Rattle.sizes.specs.Levels.{places, depthWithin, depthFrom}
-use Rattle.samples.specs.Le.{leAt, leBytes, Bytes}
+use Rattle.samples.specs.Le.{leAt, leBytes}
 use Rattle.samples.specs.Words.{tabulate, wordAt, wordsOf, bytesOf}
 use Rattle.samples.specs.Integers.{val, residue, wrap, decode, encode}
 use Rattle.cdf53i.specs.Lift.{detail, details, approx, approxs}

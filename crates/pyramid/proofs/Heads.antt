@@ -1,15 +1,14 @@
 -- Section 0 of a file that was written is read back from any 14 bytes or more of it, and the checks that opening makes of it let it by.
 -- Assumes nothing.
-use mathlib.Core.Bool.{Bool, true, false, cond, not}
-use mathlib.Core.List.{List, [], _∷_, _++_, append-nil}
+use mathlib.Core.Bool.{true, not}
+use mathlib.Core.List.{List, [], _++_, append-nil}
 use mathlib.Core.Logic.{⊎-elim}
 use mathlib.Core.Path.{_≡_, refl, sym, ap, _∙_}
-use Prim.Native.Nat.{ℕ, zero, suc, _+_, _-_, _*_, _/_, _%_, _^_, _≤_, _<_}
+use Prim.Native.Nat.{ℕ, zero, suc, _+_, _-_, _*_, _^_, _≤_, _<_}
 use native.Mathlib.Nat.{pow-succ', mul-le-mul-right}
 use native.Mathlib.Omega.{arith}
 use borrow.Author.Tests.{le-ltb, ne-eqb}
-use lib.Dec.{ltb, eqb}
-use lib.ListN.{length, getD, take, drop, length-append}
+use lib.ListN.{length, take}
 use lib.Seq.{length-take-le, take-append-add}
 use Rattle.answers.specs.declared.err.Refusal.the-variants.{MinFilterSize}
 use Rattle.answers.proofs.Chain.{same}
@@ -27,7 +26,7 @@ use Rattle.dwt.specs.declared.filter.Filter.the-variants.{Cdf53I8, Cdf53I16, Cd
 use Rattle.dwt.specs.Filters.{widthOf, waveletOf}
 use Rattle.dwt.specs.Calls.{short}
 use Rattle.trips.proofs.Undone.{Integers}
-use Rattle.pyramid.specs.Files.{Head, headCount, headSize, bodyOf, bodySize, fileOf, fileSize}
+use Rattle.pyramid.specs.Files.{Head, headCount, headSize, bodyOf, fileOf, fileSize}
 use Rattle.pyramid.specs.Opens.{filterOf, headIn, headChecks}
 use Rattle.pyramid.proofs.Sized.{frontOf, front-length, file-parts, file-length}
 

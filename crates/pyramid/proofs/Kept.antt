@@ -2,9 +2,9 @@
 -- reach, or is 10; and two writes of one recording are the same bytes. Each of the integer filters.
 -- Assumes nothing.
 use mathlib.Core.Bool.{Bool, true, false, cond}
-use mathlib.Core.List.{List, [], _∷_, _++_}
+use mathlib.Core.List.{List, _∷_, _++_}
 use mathlib.Core.Path.{_≡_, refl, sym, ap, ap₂, subst, _∙_}
-use Prim.Native.Nat.{ℕ, zero, suc, _+_, _-_, _*_, _/_, _%_, _^_, _≤_, _<_}
+use Prim.Native.Nat.{ℕ, _-_, _*_, _/_, _^_, _≤_, _<_}
 use native.Mathlib.Omega.{arith}
 use lib.Dec.{leb}
 use lib.ListN.{length, take, drop}
@@ -14,7 +14,7 @@ use Rattle.answers.specs.declared.err.Refusal.{Refusal}
 use Rattle.answers.specs.declared.err.Refusal.the-variants.{Done, BufferWasTooSmallForLevel, CutShort}
 use Rattle.answers.specs.Answers.{say, answerOf, done}
 use Rattle.answers.specs.Checks.{ragged, left}
-use Rattle.answers.proofs.Endings.{is-done, left-done, left-refused}
+use Rattle.answers.proofs.Endings.{is-done, left-done}
 use Rattle.answers.proofs.Passed.{passing, whole, roomy}
 use Rattle.sizes.specs.declared.Wavelet.{Wavelet}
 use Rattle.sizes.specs.declared.Wavelet.the-variants.{Cdf53}

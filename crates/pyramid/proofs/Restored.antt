@@ -1,17 +1,14 @@
 -- What the sections of a file restore: all of them the samples, and those that are whole in a cut file the approximations of the level that they reach. Of a
 -- filter whose level undoes itself, as each integer filter's does.
 -- Assumes nothing.
-use mathlib.Core.Bool.{cond}
-use mathlib.Core.List.{List, [], _∷_, _++_, append-assoc}
+use mathlib.Core.List.{List, _++_, append-assoc}
 use mathlib.Core.Logic.{⊎-elim}
 use mathlib.Core.Path.{_≡_, refl, sym, ap, ap₂, subst, _∙_}
-use Prim.Native.Nat.{ℕ, zero, suc, _+_, _-_, _*_, _/_, _≤_, _<_}
+use Prim.Native.Nat.{ℕ, zero, suc, _+_, _-_, _*_, _≤_, _<_}
 use native.Mathlib.Omega.{arith}
 use borrow.Author.Tests.{le-leb, lt-leb}
-use lib.Dec.{leb}
 use lib.ListN.{length, take, drop}
 use lib.Seq.{take-take, take-at, drop-at, drop-drop, take-append-add}
-use Rattle.answers.proofs.Chain.{by, stop}
 use Rattle.answers.proofs.Order.{lt-or-le}
 use Rattle.sizes.specs.Bands.{ups, downs, smallestOf}
 use Rattle.sizes.specs.Levels.{places, depthOf}

@@ -1,29 +1,25 @@
 -- A file that was cut anywhere, from document 01: opening its first b bytes is 10 where section 1 is cut, and else gives the deepest level that the whole
 -- sections reach, with just the approximations of that level; all of the file gives the samples. Each of the integer filters.
 -- Assumes nothing.
-use mathlib.Core.Bool.{Bool, true, false, cond, not}
+use mathlib.Core.Bool.{true, false, cond}
 use mathlib.Core.List.{List, [], _∷_, _++_}
 use mathlib.Core.Logic.{⊎-elim}
 use mathlib.Core.Path.{_≡_, refl, sym, ap, ap₂, subst, _∙_}
-use Prim.Native.Nat.{ℕ, zero, suc, _+_, _-_, _*_, _/_, _%_, _^_, _≤_, _<_}
-use native.Mathlib.Nat.{le-div-iff-mul-le, mul-le-mul-left, mul-comm, le-trans, sub-self}
+use Prim.Native.Nat.{ℕ, _+_, _-_, _*_, _/_, _%_, _≤_, _<_}
+use native.Mathlib.Nat.{le-div-iff-mul-le, mul-le-mul-left, mul-comm}
 use native.Mathlib.Omega.{arith}
 use borrow.Author.Tests.{lt-ltb, le-ltb, ne-eqb}
-use lib.Dec.{ltb, eqb}
-use lib.ListN.{length, take, drop, length-append}
-use lib.Seq.{take-all}
+use lib.Dec.{ltb}
+use lib.ListN.{length, take, length-append}
 use Rattle.answers.specs.declared.err.Refusal.{Refusal}
 use Rattle.answers.specs.declared.err.Refusal.the-variants.{Done, CutShort}
-use Rattle.answers.specs.Answers.{answerOf}
 use Rattle.answers.specs.Checks.{Check, firstOf}
 use Rattle.answers.proofs.Chain.{by, stop, same}
 use Rattle.answers.proofs.Order.{lt-or-le}
-use Rattle.answers.proofs.Passed.{Passing, pass-both, through}
+use Rattle.answers.proofs.Passed.{Passing, through}
 use Rattle.sizes.specs.declared.Wavelet.{Wavelet}
-use Rattle.sizes.specs.declared.Wavelet.the-variants.{Cdf53}
 use Rattle.sizes.specs.Bands.{mostBytes}
 use Rattle.sizes.specs.Levels.{places, depthOf}
-use Rattle.sizes.proofs.Counts.{places-le}
 use Rattle.samples.specs.Integers.{isWidth}
 use Rattle.dwt.specs.declared.filter.Filter.{Filter}
 use Rattle.dwt.specs.Filters.{widthOf, waveletOf}
@@ -31,14 +27,13 @@ use Rattle.dwt.specs.Pyramids.{approxAt}
 use Rattle.dwt.proofs.Cuts.{width-pos}
 use Rattle.trips.proofs.Undone.{undoes}
 use Rattle.pyramid.specs.declared.walk.Way.{Way}
-use Rattle.pyramid.specs.declared.walk.Way.the-variants.{Went, Short, Wrong}
 use Rattle.pyramid.specs.Files.{Head, headSize, bodyOf, bodySize, fileOf, fileSize}
 use Rattle.pyramid.specs.Walks.{walkOf, restoredOf}
-use Rattle.pyramid.specs.Opens.{filterOf, headIn, headChecks, wayIn, wayChecks, wholeDetails, levelIn, countIn, samplesIn, areaChecks, roomsFor, sayOpen}
+use Rattle.pyramid.specs.Opens.{filterOf, headChecks, wayIn, wayChecks, wholeDetails, levelIn, countIn, samplesIn, areaChecks, roomsFor, sayOpen}
 use Rattle.pyramid.specs.Sees.{needed, wholeOf, wholeIn, reach}
-use Rattle.pyramid.proofs.Sized.{frontOf, front-length, body-length, file-length}
+use Rattle.pyramid.proofs.Sized.{frontOf, front-length, body-length}
 use Rattle.pyramid.proofs.CutWalk.{walk-cut, reach-whole}
-use Rattle.pyramid.proofs.Restored.{restored-cut, whole-all, whole-most}
+use Rattle.pyramid.proofs.Restored.{restored-cut, whole-all}
 use Rattle.pyramid.proofs.Heads.{Recording, common, cut-parts, cut-length, file-most, head-is, head-passes}
 use Rattle.pyramid.proofs.Whole.{first-most, reach-none, reach-short, whole-is}
 

@@ -4,13 +4,12 @@ use mathlib.Core.Bool.{cond}
 use mathlib.Core.List.{List, [], _∷_, _++_}
 use mathlib.Core.Logic.{⊎-elim}
 use mathlib.Core.Path.{_≡_, refl, sym, ap, subst, _∙_}
-use Prim.Native.Nat.{ℕ, zero, suc, _+_, _-_, _*_, _/_, _≤_, _<_}
+use Prim.Native.Nat.{ℕ, zero, suc, _+_, _-_, _*_, _≤_, _<_}
 use native.Mathlib.Nat.{mul-add, mul-zero}
 use native.Mathlib.Omega.{arith}
 use borrow.Author.Tests.{le-leb, lt-leb}
 use lib.Dec.{leb}
 use lib.ListN.{length}
-use Rattle.answers.proofs.Chain.{by, stop}
 use Rattle.answers.proofs.Order.{lt-or-le}
 use Rattle.sizes.specs.Bands.{ups, downs}
 use Rattle.sizes.specs.Levels.{places}
@@ -18,12 +17,11 @@ use Rattle.dwt.specs.Pyramids.{lengthsOf}
 use Rattle.dwt.specs.Backward.{total}
 use Rattle.dwt.proofs.Cuts.{split-width}
 use Rattle.trips.proofs.Lengths.{length-lengths, places-total}
-use Rattle.pyramid.specs.declared.walk.Way.{Way}
-use Rattle.pyramid.specs.declared.walk.Way.the-variants.{Went, Short, Wrong}
+use Rattle.pyramid.specs.declared.walk.Way.the-variants.{Short}
 use Rattle.pyramid.specs.Files.{headSize, bodySize}
-use Rattle.pyramid.specs.Sees.{firstWhole, needed, wholeOf, wholeIn, stopped, reach}
+use Rattle.pyramid.specs.Sees.{firstWhole, needed, wholeOf, wholeIn, reach}
 use Rattle.pyramid.proofs.CutWalk.{reach-whole}
-use Rattle.pyramid.proofs.Restored.{whole-all, whole-less, whole-most}
+use Rattle.pyramid.proofs.Restored.{whole-all, whole-most}
 
 -- section 1 is no more than all sections
 pub first-most : (k l n : ℕ) → bodySize k 0 (places l n) ≤ bodySize k l n
@@ -106,11 +104,11 @@ fits-in k (suc l) n b c =
     let m = wholeIn k l (ups n) b in
     ⊎-elim
     (λ (h : b < bodySize k (suc l) n).
-      let e : suc l - m ≡ suc (l - m) = omega (arith, whole-most k l (ups n) b) in
-      rw (lt-leb (bodySize k (suc l) n) b h, e) (fits-in k l (ups n) b c))
+    let e : suc l - m ≡ suc (l - m) = omega (arith, whole-most k l (ups n) b) in
+    rw (lt-leb (bodySize k (suc l) n) b h, e) (fits-in k l (ups n) b c))
     (λ (h : bodySize k (suc l) n ≤ b).
-      let e : suc l - suc l ≡ 0 = omega arith in
-      rw (le-leb (bodySize k (suc l) n) b h, e) h)
+    let e : suc l - suc l ≡ 0 = omega arith in
+    rw (le-leb (bodySize k (suc l) n) b h, e) h)
     (lt-or-le b (bodySize k (suc l) n))
 
 next-out : (k l n b : ℕ) → wholeIn k l n b < l → b < bodySize k (suc (wholeIn k l n b)) (places (l - suc (wholeIn k l n b)) n)
@@ -121,14 +119,14 @@ next-out k (suc l) n b c =
     let most = whole-most k l (ups n) b in
     ⊎-elim
     (λ (h : b < bodySize k (suc l) n).
-      rw (lt-leb (bodySize k (suc l) n) b h)
-      (⊎-elim
-      (λ (g : m < l). let e : suc l - suc m ≡ suc (l - suc m) = omega arith in rw e (next-out k l (ups n) b g))
-      (λ (g : l ≤ m).
-        let em : m ≡ l = omega arith in
-        let e : suc l - suc l ≡ 0 = omega arith in
-        rw (em, e) h)
-      (lt-or-le m l)))
+    rw (lt-leb (bodySize k (suc l) n) b h)
+    (⊎-elim
+    (λ (g : m < l). let e : suc l - suc m ≡ suc (l - suc m) = omega arith in rw e (next-out k l (ups n) b g))
+    (λ (g : l ≤ m).
+    let em : m ≡ l = omega arith in
+    let e : suc l - suc l ≡ 0 = omega arith in
+    rw (em, e) h)
+    (lt-or-le m l)))
     (λ (h : bodySize k (suc l) n ≤ b). absurd (omega (arith, whole-all k (suc l) n b h)))
     (lt-or-le b (bodySize k (suc l) n))
 
