@@ -8,15 +8,16 @@ use mathlib.Core.Path.{_≡_, sym, ap, ap₂, subst, _∙_}
 use Prim.Native.Nat.{ℕ, zero, suc, _+_, _-_, _*_, _≤_, _<_}
 use native.Mathlib.Nat.{zero-add, suc-add}
 use native.Mathlib.Omega.{arith}
-use borrow.Author.Tests.{le-ltb, ne-eqb}
+use borrow.Author.Tests.{lt-ltb, le-ltb, ne-eqb}
 use lib.ListN.{length, take, drop}
 use lib.Seq.{drop-at}
 use Rattle.answers.specs.declared.err.Refusal.{Refusal}
 use Rattle.answers.specs.declared.err.Refusal.the-variants.{Done, CutShort}
 use Rattle.answers.specs.Checks.{firstOf}
+use Rattle.answers.proofs.Chain.{by, stop}
 use Rattle.answers.proofs.Order.{lt-or-le}
 use Rattle.answers.proofs.Passed.{Passing}
-use Rattle.sizes.specs.Bands.{ups, downs}
+use Rattle.sizes.specs.Bands.{mostBytes, ups, downs}
 use Rattle.sizes.specs.Levels.{places}
 use Rattle.sizes.proofs.Counts.{places-le}
 use Rattle.dwt.specs.declared.filter.Filter.{Filter}
@@ -197,3 +198,11 @@ module _ (f : Filter) (l n p : ℕ) (x : List ℕ) (r : Recording f l n p x) (b 
       ∙ subst (λ (a : ℕ). drop (a + z) (front ++ take g (body ++ (sec ++ t))) ≡ take (g - z) (sec ++ t)) (front-length f l n p) (past front body (sec ++ t) z g lb (omega arith)) in
       ap₂ (λ (q a : ℕ). take q (drop a s)) el es
       ∙ bytes-whole s (highOf f y) t k (downs m) (headSize + z) (g - z) d (length-high f y m ey) (within-at k j m b w′)
+
+-- cut in section 0, whatever the number
+pub section-early : (f : Filter) (l n p : ℕ) (x : List ℕ) → Recording f l n p x → (b q : ℕ) → b < headSize → saySection (take b (fileOf f l p x)) (widthOf f) p q ≡ CutShort b
+unfolding saySection
+section-early f l n p x r b q h =
+    let s = take b (fileOf f l p x) in
+    let size : length s ≡ b = cut-length f l n p x b (r .size) (omega arith) in
+    sym (by _ (le-ltb mostBytes (length s) (omega arith)) (stop _ (lt-ltb (length s) headSize (omega arith)) (ap CutShort (sym size))))
