@@ -3,3 +3,13 @@ pub mod Parts
 pub mod Opening
 pub mod Opened
 pub mod Writing
+pub mod Sized
+pub mod CutWalk
+pub mod Restored
+pub mod Heads
+pub mod Whole
+pub mod Survives
+pub mod Answers
+pub mod Bands
+pub mod Kept
+pub mod Figures

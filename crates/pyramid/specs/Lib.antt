@@ -2,3 +2,4 @@ pub mod Files
 pub mod Walks
 pub mod Opens
 pub mod Writes
+pub mod Sees

@@ -1,0 +1,96 @@
+-- Document 01's figures P6 to P10: P5's samples as a file of 31 bytes, and what each of its first bytes open as. By the laws of every file, so that these are
+-- seen to say what the document says.
+-- Assumes nothing.
+use mathlib.Core.List.{List, [], _∷_}
+use mathlib.Core.Path.{_≡_, refl, sym, subst}
+use Prim.Native.Nat.{ℕ, zero, suc, _-_, _≤_, _<_}
+use native.Mathlib.Omega.{arith}
+use borrow.Author.Tests.{le-leb, lt-leb}
+use lib.ListN.{getD, take}
+use Rattle.answers.specs.declared.err.Refusal.the-variants.{CutShort}
+use Rattle.sizes.specs.Levels.{places, depthWithin, depthFrom}
+use Rattle.samples.specs.Le.{leAt, leBytes}
+use Rattle.samples.specs.Words.{tabulate, wordAt, wordsOf, bytesOf}
+use Rattle.samples.specs.Integers.{val, residue, wrap, decode, encode}
+use Rattle.cdf53i.specs.Lift.{detail, details, approx, approxs}
+use Rattle.cdf53i.specs.Bands.{low, high}
+use Rattle.dwt.specs.declared.filter.Filter.the-variants.{Cdf53I8}
+use Rattle.dwt.specs.Pyramids.{approxAt, lengthsOf}
+use Rattle.pyramid.specs.Files.{bodyOf, fileOf}
+use Rattle.pyramid.specs.Opens.{sayOpen}
+use Rattle.pyramid.specs.Sees.{firstWhole, wholeOf}
+use Rattle.pyramid.proofs.Heads.{Recording}
+use Rattle.pyramid.proofs.Survives.{Sampled, Roomy, Opening, cut-short, survives}
+use Rattle.pyramid.proofs.Answers.{opens-whole}
+
+-- P5's samples, 0, 3, -4, 1, 7
+abbrev pub five : List ℕ
+five = 0 ∷ 3 ∷ 252 ∷ 1 ∷ 7 ∷ []
+
+-- "0A 00 00 00 01 02 05 00 00 00 0E 00 00 00 02 00 00 00 FF 03 01 00 00 00 F8 02 00 00 00 05 00"
+abbrev pub thirtyOne : List ℕ
+thirtyOne =
+    0x0A ∷ 0 ∷ 0 ∷ 0 ∷ 0x01 ∷ 0x02 ∷ 0x05 ∷ 0 ∷ 0 ∷ 0 ∷ 0x0E ∷ 0 ∷ 0 ∷ 0 ∷ 0x02 ∷ 0 ∷ 0 ∷ 0 ∷ 0xFF ∷ 0x03 ∷ 0x01 ∷ 0 ∷ 0 ∷ 0 ∷ 0xF8 ∷ 0x02 ∷ 0 ∷ 0 ∷ 0 ∷ 0x05 ∷ 0 ∷ []
+
+-- opened for 8 bits and point 14, with output and work areas of five samples
+pub record Figures : Type 0 where
+  -- "P5 as a file for point 14, 31 bytes"
+  pub p6 : fileOf Cdf53I8 2 14 five ≡ thirtyOne
+  -- "its first 0 to 19 bytes: 10"
+  pub p7 : (b : ℕ) → b ≤ 19 → sayOpen (take b thirtyOne) 1 14 5 5 5 ≡ CutShort b
+  -- "20 to 24: level 2, -1, 3"
+  pub p8 : (b : ℕ) → 20 ≤ b → b ≤ 24 → Opening (take b thirtyOne) 1 14 5 5 5 2 2 (255 ∷ 3 ∷ [])
+  -- "25 to 30: level 1, 3, -3, 7"
+  pub p9 : (b : ℕ) → 25 ≤ b → b ≤ 30 → Opening (take b thirtyOne) 1 14 5 5 5 1 3 (3 ∷ 253 ∷ 7 ∷ [])
+  -- "31: the samples"
+  pub p10 : Opening thirtyOne 1 14 5 5 5 0 5 five
+
+file : fileOf Cdf53I8 2 14 five ≡ thirtyOne
+unfolding fileOf bodyOf leAt leBytes tabulate wordAt wordsOf bytesOf val residue wrap decode encode detail details approx approxs low high
+file = refl
+
+five-bytes : (i : ℕ) → getD five i 0 < 256
+five-bytes zero = omega arith
+five-bytes (suc zero) = omega arith
+five-bytes (suc (suc zero)) = omega arith
+five-bytes (suc (suc (suc zero))) = omega arith
+five-bytes (suc (suc (suc (suc zero)))) = omega arith
+five-bytes (suc (suc (suc (suc (suc i))))) = omega arith
+
+recording : Recording Cdf53I8 2 5 14 five
+unfolding depthFrom depthWithin
+recording = record { integers = tt; bytes = record { byte = five-bytes }; size = refl; least = omega arith; most = omega arith; some = omega arith; deep = omega arith; point = omega arith }
+
+sampled : Sampled 1 5 5 5
+sampled = record { output = refl; first = refl; second = refl }
+
+room : (c : ℕ) → c ≤ 5 → Roomy 1 c 5 5 5
+room c h = record { output = omega arith; first = omega arith; second = omega arith }
+
+-- no section of details is whole, and one is
+none : (b : ℕ) → b ≤ 24 → wholeOf 1 2 5 b ≡ 0
+unfolding places lengthsOf firstWhole
+none b h = rw (lt-leb 5 (b - 20) (omega arith))
+
+one : (b : ℕ) → 25 ≤ b → b ≤ 30 → wholeOf 1 2 5 b ≡ 1
+unfolding places lengthsOf firstWhole
+one b h g = rw (le-leb 5 (b - 20) (omega arith), lt-leb 6 (b - 20 - 5) (omega arith))
+
+-- what so many whole sections give
+given : (b m : ℕ) → 20 ≤ b → b ≤ 31 → wholeOf 1 2 5 b ≡ m → places (2 - m) 5 ≤ 5 → Opening (take b (fileOf Cdf53I8 2 14 five)) 1 14 5 5 5 (2 - m) (places (2 - m) 5) (approxAt Cdf53I8 (2 - m) five)
+unfolding places
+given b m c e q h =
+    subst (λ (i : ℕ). Opening (take b (fileOf Cdf53I8 2 14 five)) 1 14 5 5 5 (2 - i) (places (2 - i) 5) (approxAt Cdf53I8 (2 - i) five)) q
+    (survives Cdf53I8 2 5 14 five recording 5 5 5 sampled b c e (subst (λ (i : ℕ). Roomy 1 (places (2 - i) 5) 5 5 5) (sym q) (room (places (2 - m) 5) h)))
+
+-- they hold
+pub figures : Figures
+unfolding places approxAt leAt leBytes tabulate wordAt wordsOf bytesOf val residue wrap decode encode detail details approx approxs low high
+figures =
+    record {
+      p6 = file;
+      p7 = λ b h. subst (λ (s : List ℕ). sayOpen (take b s) 1 14 5 5 5 ≡ CutShort b) file (cut-short Cdf53I8 2 5 14 five recording 5 5 5 sampled b (omega arith));
+      p8 = λ b h g. subst (λ (s : List ℕ). Opening (take b s) 1 14 5 5 5 2 2 (255 ∷ 3 ∷ [])) file (given b 0 h (omega arith) (none b g) (omega arith));
+      p9 = λ b h g. subst (λ (s : List ℕ). Opening (take b s) 1 14 5 5 5 1 3 (3 ∷ 253 ∷ 7 ∷ [])) file (given b 1 (omega arith) (omega arith) (one b h g) (omega arith));
+      p10 = subst (λ (s : List ℕ). Opening s 1 14 5 5 5 0 5 five) file (opens-whole Cdf53I8 2 5 14 five recording 5 5 5 sampled (room 5 (omega arith)));
+    }

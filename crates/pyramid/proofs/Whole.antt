@@ -1,0 +1,148 @@
+-- How far a walk over a cut file gets, by how many sections are whole; and that a walk's way to tell how many is that of counting them from the first on.
+-- Assumes nothing.
+use mathlib.Core.Bool.{cond}
+use mathlib.Core.List.{List, [], _∷_, _++_}
+use mathlib.Core.Logic.{⊎-elim}
+use mathlib.Core.Path.{_≡_, refl, sym, ap, subst, _∙_}
+use Prim.Native.Nat.{ℕ, zero, suc, _+_, _-_, _*_, _≤_, _<_}
+use native.Mathlib.Nat.{mul-add, mul-zero}
+use native.Mathlib.Omega.{arith}
+use borrow.Author.Tests.{le-leb, lt-leb}
+use lib.Dec.{leb}
+use lib.ListN.{length}
+use Rattle.answers.proofs.Order.{lt-or-le}
+use Rattle.sizes.specs.Bands.{ups, downs}
+use Rattle.sizes.specs.Levels.{places}
+use Rattle.dwt.specs.Pyramids.{lengthsOf}
+use Rattle.dwt.specs.Backward.{total}
+use Rattle.dwt.proofs.Cuts.{split-width}
+use Rattle.trips.proofs.Lengths.{length-lengths, places-total}
+use Rattle.pyramid.specs.declared.walk.Way.the-variants.{Short}
+use Rattle.pyramid.specs.Files.{headSize, bodySize}
+use Rattle.pyramid.specs.Sees.{firstWhole, needed, wholeOf, wholeIn, reach}
+use Rattle.pyramid.proofs.CutWalk.{reach-whole}
+use Rattle.pyramid.proofs.Restored.{whole-all, whole-most}
+
+-- section 1 is no more than all sections
+pub first-most : (k l n : ℕ) → bodySize k 0 (places l n) ≤ bodySize k l n
+unfolding places
+first-most k zero n = omega arith
+first-most k (suc l) n = omega (arith, first-most k l (ups n), split-width k n)
+
+-- where section 1 is cut, the walk stops there
+pub reach-none : (k l n p b : ℕ) → b < bodySize k 0 (places l n) → reach k l n p b ≡ Short 1
+unfolding reach places
+reach-none k zero n p b h = rw (lt-leb (bodySize k 0 n) b h)
+reach-none k (suc l) n p b h =
+    let g : b < bodySize k (suc l) n = omega (arith, first-most k l (ups n), split-width k n) in
+    rw (lt-leb (bodySize k (suc l) n) b g, reach-none k l (ups n) p b h)
+
+-- where a later section is cut, the walk stops in the first that is not whole
+pub reach-short : (k l n p b : ℕ) → bodySize k 0 (places l n) ≤ b → b < bodySize k l n → reach k l n p b ≡ Short (wholeIn k l n b + 2)
+unfolding reach places wholeIn
+reach-short k zero n p b c h = absurd (omega arith)
+reach-short k (suc l) n p b c h =
+    ⊎-elim
+    (λ (g : b < bodySize k l (ups n)). rw (lt-leb (bodySize k (suc l) n) b h, reach-short k l (ups n) p b c g))
+    (λ (g : bodySize k l (ups n) ≤ b).
+    let e : suc l + 1 ≡ l + 2 = omega arith in
+    rw (lt-leb (bodySize k (suc l) n) b h, ← reach-whole k l (ups n) p b g, whole-all k l (ups n) b g) (ap Short e))
+    (lt-or-le b (bodySize k l (ups n)))
+
+-- one section more at the end: it is whole where all are
+first-more : (k : ℕ) (cs : List ℕ) (c b : ℕ)
+    → firstWhole k (cs ++ (c ∷ [])) b ≡ cond (leb (4 * suc (length cs) + (k * total cs + k * c)) b) (suc (length cs)) (firstWhole k cs b)
+unfolding firstWhole total
+first-more k [] c b =
+    let e : 4 * 1 + (k * 0 + k * c) ≡ 4 + k * c = omega (arith, mul-zero k) in
+    sym (ap (λ (z : ℕ). cond (leb z b) 1 0) e)
+first-more k (d ∷ cs) c b =
+    let z = 4 + k * d in
+    let y = 4 * suc (length cs) + (k * total cs + k * c) in
+    let a = 4 * suc (suc (length cs)) + (k * (d + total cs) + k * c) in
+    let e : a ≡ z + y = omega (arith, mul-add k d (total cs)) in
+    ⊎-elim
+    (λ (h : b < z). rw (lt-leb z b h, lt-leb a b (omega arith)))
+    (λ (h : z ≤ b).
+    ⊎-elim
+    (λ (g : b - z < y). rw (le-leb z b h, first-more k cs c (b - z), lt-leb y (b - z) g, lt-leb a b (omega arith)))
+    (λ (g : y ≤ b - z). rw (le-leb z b h, first-more k cs c (b - z), le-leb y (b - z) g, le-leb a b (omega arith)))
+    (lt-or-le (b - z) y))
+    (lt-or-le b z)
+
+-- what a walk finds to be whole is what is whole from the first section on, where section 1 is
+pub whole-first : (k l n b : ℕ) → bodySize k 0 (places l n) ≤ b → wholeIn k l n b ≡ firstWhole k (lengthsOf l n) (b - bodySize k 0 (places l n))
+unfolding wholeIn firstWhole places lengthsOf
+whole-first k zero n b c = refl
+whole-first k (suc l) n b c =
+    let q = places l (ups n) in
+    let ms = lengthsOf l (ups n) in
+    let a = 4 * suc (length ms) + (k * total ms + k * downs n) in
+    let j = b - bodySize k 0 q in
+    let e : bodySize k (suc l) n ≡ bodySize k 0 q + a =
+    omega (arith, length-lengths l (ups n), mul-add k q (total ms), ap (λ (i : ℕ). k * i) (places-total l (ups n)), split-width k n) in
+    ⊎-elim
+    (λ (h : b < bodySize k (suc l) n).
+    rw (lt-leb (bodySize k (suc l) n) b h, first-more k ms (downs n) j, lt-leb a j (omega arith)) (whole-first k l (ups n) b c))
+    (λ (h : bodySize k (suc l) n ≤ b).
+    rw (le-leb (bodySize k (suc l) n) b h, first-more k ms (downs n) j, le-leb a j (omega arith)) (ap suc (sym (length-lengths l (ups n)))))
+    (lt-or-le b (bodySize k (suc l) n))
+
+-- the same of a whole file
+pub whole-is : (k l n b : ℕ) → needed k l n ≤ b → wholeIn k l n (b - headSize) ≡ wholeOf k l n b
+whole-is k l n b h =
+    let z = bodySize k 0 (places l n) in
+    let e : b - headSize - z ≡ b - needed k l n = omega arith in
+    whole-first k l n (b - headSize) (omega arith) ∙ ap (firstWhole k (lengthsOf l n)) e
+
+-- ---- it is the largest such number
+
+fits-in : (k l n b : ℕ) → bodySize k 0 (places l n) ≤ b → bodySize k (wholeIn k l n b) (places (l - wholeIn k l n b) n) ≤ b
+unfolding places wholeIn
+fits-in k zero n b c = c
+fits-in k (suc l) n b c =
+    let m = wholeIn k l (ups n) b in
+    ⊎-elim
+    (λ (h : b < bodySize k (suc l) n).
+    let e : suc l - m ≡ suc (l - m) = omega (arith, whole-most k l (ups n) b) in
+    rw (lt-leb (bodySize k (suc l) n) b h, e) (fits-in k l (ups n) b c))
+    (λ (h : bodySize k (suc l) n ≤ b).
+    let e : suc l - suc l ≡ 0 = omega arith in
+    rw (le-leb (bodySize k (suc l) n) b h, e) h)
+    (lt-or-le b (bodySize k (suc l) n))
+
+next-out : (k l n b : ℕ) → wholeIn k l n b < l → b < bodySize k (suc (wholeIn k l n b)) (places (l - suc (wholeIn k l n b)) n)
+unfolding places wholeIn
+next-out k zero n b c = absurd (omega arith)
+next-out k (suc l) n b c =
+    let m = wholeIn k l (ups n) b in
+    let most = whole-most k l (ups n) b in
+    ⊎-elim
+    (λ (h : b < bodySize k (suc l) n).
+    rw (lt-leb (bodySize k (suc l) n) b h)
+    (⊎-elim
+    (λ (g : m < l). let e : suc l - suc m ≡ suc (l - suc m) = omega arith in rw e (next-out k l (ups n) b g))
+    (λ (g : l ≤ m).
+    let em : m ≡ l = omega arith in
+    let e : suc l - suc l ≡ 0 = omega arith in
+    rw (em, e) h)
+    (lt-or-le m l)))
+    (λ (h : bodySize k (suc l) n ≤ b). absurd (omega (arith, whole-all k (suc l) n b h)))
+    (lt-or-le b (bodySize k (suc l) n))
+
+-- the sections up to that one are within b bytes
+pub whole-fits : (k l n b : ℕ) → needed k l n ≤ b → headSize + bodySize k (wholeOf k l n b) (places (l - wholeOf k l n b) n) ≤ b
+whole-fits k l n b c =
+    let j = b - headSize in
+    let f : bodySize k (wholeIn k l n j) (places (l - wholeIn k l n j) n) ≤ j = fits-in k l n j (omega arith) in
+    let g : bodySize k (wholeOf k l n b) (places (l - wholeOf k l n b) n) ≤ j = subst (λ (m : ℕ). bodySize k m (places (l - m) n) ≤ j) (whole-is k l n b c) f in
+    omega arith
+
+-- and with the next one they are not
+pub whole-next : (k l n b : ℕ) → needed k l n ≤ b → wholeOf k l n b < l → b < headSize + bodySize k (suc (wholeOf k l n b)) (places (l - suc (wholeOf k l n b)) n)
+whole-next k l n b c h =
+    let j = b - headSize in
+    let e = whole-is k l n b c in
+    let f : j < bodySize k (suc (wholeIn k l n j)) (places (l - suc (wholeIn k l n j)) n) = next-out k l n j (omega arith) in
+    let g : j < bodySize k (suc (wholeOf k l n b)) (places (l - suc (wholeOf k l n b)) n) = subst (λ (m : ℕ). j < bodySize k (suc m) (places (l - suc m) n)) e f in
+    omega arith
