@@ -111,7 +111,7 @@ module _ (f : Filter) (l n p : ℕ) (x : List ℕ) (r : Recording f l n p x) (b 
   numbers-pass : (q : ℕ) → 1 ≤ q → q ≤ l + 1 → Passing (numberChecks q (headIn (take b (fileOf f l p x)) .levels))
   numbers-pass q h g =
       let el = ap (λ (h : Head). h .levels) (head-is f l n p x b r c) in
-      (ap₂ (λ (s t : Bool). s || t) (ne-eqb q 0 (λ z. omega arith)) (le-ltb (headIn (take b (fileOf f l p x)) .levels + 1) q (omega arith)), tt)
+      (ne-eqb q 0 (λ z. omega arith), (le-ltb (headIn (take b (fileOf f l p x)) .levels + 1) q (omega arith), tt))
 
   -- a section that is whole is found
   pub section-found : (q : ℕ) → 1 ≤ q → q ≤ l + 1 → upTo (widthOf f) l n q ≤ b

@@ -13,3 +13,4 @@ pub mod Answers
 pub mod Bands
 pub mod Kept
 pub mod Figures
+pub mod Sections

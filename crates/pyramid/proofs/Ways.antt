@@ -4,6 +4,7 @@ use mathlib.Core.List.{List, []}
 use mathlib.Core.Logic.{_⊎_, inl, inr, ⊎-elim}
 use mathlib.Core.Path.{_≡_, refl, sym, ap, subst, _∙_}
 use Prim.Native.Nat.{ℕ, zero, suc, _+_, _-_, _*_, _/_, _≤_, _<_}
+use native.Mathlib.Nat.{mul-le-mul-right}
 use native.Mathlib.Omega.{arith}
 use borrow.Author.Tests.{ltb-false, eq-eqb, ne-eqb}
 use lib.Dec.{ltb, eqb, eqb·suc-zero}
@@ -16,6 +17,10 @@ use Rattle.pyramid.specs.declared.walk.Way.{Way}
 use Rattle.pyramid.specs.declared.walk.Way.the-variants.{Went, Short, Wrong}
 use Rattle.pyramid.specs.Files.{bodySize}
 use Rattle.pyramid.specs.Walks.{oneOf, goOn, walkOf, lastCount}
+
+-- a byte times a u32 is small
+pub small : (k n : ℕ) → k < 256 → n < 4294967296 → k * n < 9223372036854775808
+small k n p q = let a : k * n ≤ 256 * n = mul-le-mul-right n (omega arith) in omega arith
 
 -- a walk past a section of c samples stands right behind it, and in the slice
 pub record At (s : List ℕ) (w c at p : ℕ) : Type 0 where

@@ -1,15 +1,15 @@
 -- Opening a file, from document 01, "Opening checks": the checks as one list in its order, and what the call promises.
 -- Assumes nothing: these are definitions.
-use mathlib.Core.Bool.{Bool, true, cond, not, _||_}
+use mathlib.Core.Bool.{Bool, true, cond, not}
 use mathlib.Core.List.{List, [], _∷_, _++_}
 use mathlib.Core.Path.{_≡_}
 use Prim.Native.Nat.{ℕ, _+_, _-_, _*_, _/_}
 use lib.Dec.{ltb, eqb}
-use lib.ListN.{length, drop}
+use lib.ListN.{length, take, drop}
 use Rattle.answers.specs.declared.err.Answer.{Answer}
 use Rattle.answers.specs.declared.err.Refusal.{Refusal}
 use Rattle.answers.specs.declared.err.Refusal.the-variants.{Done, MinFilterSize, BufferWasTooSmallForLevel, TooLong, OtherWidth, BadCount, CutShort, OtherPoint, Trailing, NoSuchPlace}
-use Rattle.answers.specs.Answers.{answerOf}
+use Rattle.answers.specs.Answers.{answerOf, done}
 use Rattle.answers.specs.Checks.{Check, firstOf, ragged, tight, left, Spared}
 use Rattle.sizes.specs.declared.Wavelet.the-variants.{Cdf53}
 use Rattle.sizes.specs.Bands.{mostSamples, mostBytes}
@@ -114,7 +114,7 @@ sectionChecks (Wrong j found) b = (true, BadCount j found) ∷ []
 
 -- "number 0 or above L+1 is 13 (number, L+1), given after 11"
 abbrev pub numberChecks : ℕ → ℕ → List Check
-numberChecks j l = (eqb j 0 || ltb (l + 1) j, NoSuchPlace j (l + 1)) ∷ []
+numberChecks j l = (eqb j 0, NoSuchPlace j (l + 1)) ∷ (ltb (l + 1) j, NoSuchPlace j (l + 1)) ∷ []
 
 -- how many bytes section j has after its count, and where they start
 abbrev pub lengthOf : List ℕ → ℕ → ℕ
@@ -131,3 +131,7 @@ startOf s j = endBy (wayTo s j) - lengthOf s j
 unfoldable pub saySection : List ℕ → ℕ → ℕ → ℕ → Refusal
 saySection s w p j =
     firstOf (headChecks s w p ++ (numberChecks j (headIn s .levels) ++ sectionChecks (wayTo s j) (length s))) (Done (startOf s j) (lengthOf s j))
+
+-- "the call hands back that stretch of the caller's file itself"; "when refused, .. an empty stretch"
+unfoldable pub sectionIn : List ℕ → ℕ → ℕ → ℕ → List ℕ
+sectionIn s w p j = cond (done (saySection s w p j)) (take (lengthOf s j) (drop (startOf s j) s)) []

@@ -1,16 +1,13 @@
 -- `way_in` meets its contract: a byte and a u32 are small, whatever they say. Assumes nothing.
 use mathlib.Core.Path.{_≡_, sym, ap, _∙_}
 use Prim.Native.Nat.{ℕ, _*_, _<_, _≤_}
-use native.Mathlib.Nat.{mul-le-mul-right}
 use native.Mathlib.Omega.{arith}
 use Rattle.pyramid.specs.Files.{headSize}
 use Rattle.pyramid.specs.Walks.{walkOf}
+use Rattle.pyramid.proofs.Ways.{small}
 use borrow.Author.Needs.{needs}
 use Rattle.pyramid.proofs.open.way_in.Statement.{statement}
 use Rattle.pyramid.proofs.open.way_in.Tie as tie
-
-small : (k n : ℕ) → k < 256 → n < 4294967296 → k * n < 9223372036854775808
-small k n p q = let a : k * n ≤ 256 * n = mul-le-mul-right n (omega arith) in omega arith
 
 returns : tie.Need-returns
 returns c =

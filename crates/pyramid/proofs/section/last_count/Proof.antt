@@ -1,0 +1,15 @@
+-- `last_count` meets its contract. Assumes nothing.
+use borrow.Author.Tests.{eq-eqb, ne-eqb}
+use mathlib.Core.Path.{refl}
+use native.Mathlib.Omega.{arith}
+use Rattle.answers.proofs.Chain.{by, stop}
+use borrow.Author.Needs.{needs}
+use Rattle.pyramid.proofs.section.last_count.Statement.{statement}
+use Rattle.pyramid.proofs.section.last_count.Tie as tie
+
+pub last-count-spec : {M : Type 1} → statement M
+last-count-spec =
+    tie.close
+    (tie.spec
+    (λ c. (stop _ (eq-eqb _ _ (c .if1 .taken)) refl, omega arith))
+    (λ c. (by _ (ne-eqb _ _ (c .if1 .left)) refl, omega arith)))
