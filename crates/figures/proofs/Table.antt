@@ -10,6 +10,7 @@ use Rattle.cdf53i.specs.Bands.{low, high, back}
 use Rattle.cdf53i.specs.T800 as t800
 use Rattle.dwt.specs.Pyramids.{approxAt, pyramid, samplesOf}
 use Rattle.figures.specs.Worked.{OneLevel, TwoLevels, Worked}
+use Rattle.figures.proofs.Files.{p6-to-p10}
 
 pub worked : Worked
 unfolding leAt leBytes tabulate wordAt wordsOf bytesOf val residue wrap decode encode detail details approx approxs even odd sample restored low high back approxAt pyramid samplesOf t800.pse t800.extended t800.high
@@ -22,4 +23,5 @@ worked =
       p4 = record { low = refl; high = refl; back = refl };
       p5 = record { down = refl; back = refl };
       p5-level1 = refl;
+      p6-to-p10 = p6-to-p10;
     }

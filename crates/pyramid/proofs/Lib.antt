@@ -12,5 +12,4 @@ pub mod Survives
 pub mod Answers
 pub mod Bands
 pub mod Kept
-pub mod Figures
 pub mod Sections

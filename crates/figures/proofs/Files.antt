@@ -16,34 +16,13 @@ use Rattle.cdf53i.specs.Lift.{detail, details, approx, approxs}
 use Rattle.cdf53i.specs.Bands.{low, high}
 use Rattle.dwt.specs.declared.filter.Filter.the-variants.{Cdf53I8}
 use Rattle.dwt.specs.Pyramids.{approxAt, lengthsOf}
 use Rattle.pyramid.specs.Files.{bodyOf, fileOf}
 use Rattle.pyramid.specs.Opens.{sayOpen}
 use Rattle.pyramid.specs.Sees.{firstWhole, wholeOf}
 use Rattle.pyramid.proofs.Heads.{Recording}
 use Rattle.pyramid.proofs.Survives.{Sampled, Roomy, Opening, cut-short, survives}
 use Rattle.pyramid.proofs.Answers.{opens-whole}
-
--- P5's samples, 0, 3, -4, 1, 7
-abbrev pub five : List ℕ
-five = 0 ∷ 3 ∷ 252 ∷ 1 ∷ 7 ∷ []
-
--- "0A 00 00 00 01 02 05 00 00 00 0E 00 00 00 02 00 00 00 FF 03 01 00 00 00 F8 02 00 00 00 05 00"
-abbrev pub thirtyOne : List ℕ
-thirtyOne =
-    0x0A ∷ 0 ∷ 0 ∷ 0 ∷ 0x01 ∷ 0x02 ∷ 0x05 ∷ 0 ∷ 0 ∷ 0 ∷ 0x0E ∷ 0 ∷ 0 ∷ 0 ∷ 0x02 ∷ 0 ∷ 0 ∷ 0 ∷ 0xFF ∷ 0x03 ∷ 0x01 ∷ 0 ∷ 0 ∷ 0 ∷ 0xF8 ∷ 0x02 ∷ 0 ∷ 0 ∷ 0 ∷ 0x05 ∷ 0 ∷ []
-
--- opened for 8 bits and point 14, with output and work areas of five samples
-pub record Figures : Type 0 where
-  -- "P5 as a file for point 14, 31 bytes"
-  pub p6 : fileOf Cdf53I8 2 14 five ≡ thirtyOne
-  -- "its first 0 to 19 bytes: 10"
-  pub p7 : (b : ℕ) → b ≤ 19 → sayOpen (take b thirtyOne) 1 14 5 5 5 ≡ CutShort b
-  -- "20 to 24: level 2, -1, 3"
-  pub p8 : (b : ℕ) → 20 ≤ b → b ≤ 24 → Opening (take b thirtyOne) 1 14 5 5 5 2 2 (255 ∷ 3 ∷ [])
-  -- "25 to 30: level 1, 3, -3, 7"
-  pub p9 : (b : ℕ) → 25 ≤ b → b ≤ 30 → Opening (take b thirtyOne) 1 14 5 5 5 1 3 (3 ∷ 253 ∷ 7 ∷ [])
-  -- "31: the samples"
-  pub p10 : Opening thirtyOne 1 14 5 5 5 0 5 five
+use Rattle.figures.specs.Worked.{five, thirtyOne, File}
 
 file : fileOf Cdf53I8 2 14 five ≡ thirtyOne
 unfolding fileOf bodyOf leAt leBytes tabulate wordAt wordsOf bytesOf val residue wrap decode encode detail details approx approxs low high
@@ -84,9 +63,9 @@ given b m c e q h =
     (survives Cdf53I8 2 5 14 five recording 5 5 5 sampled b c e (subst (λ (i : ℕ). Roomy 1 (places (2 - i) 5) 5 5 5) (sym q) (room (places (2 - m) 5) h)))
 
 -- they hold
-pub figures : Figures
+pub p6-to-p10 : File
 unfolding places approxAt leAt leBytes tabulate wordAt wordsOf bytesOf val residue wrap decode encode detail details approx approxs low high
-figures =
+p6-to-p10 =
     record {
       p6 = file;
       p7 = λ b h. subst (λ (s : List ℕ). sayOpen (take b s) 1 14 5 5 5 ≡ CutShort b) file (cut-short Cdf53I8 2 5 14 five recording 5 5 5 sampled b (omega arith));
