@@ -685,12 +685,5 @@ pub extern "C" fn bk_pyramid_open(
 ) -> Answer
     ensures { λ r. ⌜ Open (now (file .entry)) width point (now (output .entry)) (now (work1 .entry)) (now (work2 .entry)) r (now (output .exit)) (now (work1 .exit)) (now (work2 .exit)) ⌝ }
 {
-    open(
-        file,
-        width as usize,
-        point as usize,
-        output,
-        work1,
-        work2,
-    )
+    open(file, width as usize, point as usize, output, work1, work2)
 }
