@@ -259,6 +259,73 @@ bk_answer bk_cdf97_dwt_f64(const uint8_t *signal, size_t signal_bytes, uint32_t 
                            size_t approx_bytes, uint8_t *details, size_t details_bytes, uint8_t *work1,
                            size_t work1_bytes, uint8_t *work2, size_t work2_bytes);
 
+/*
+ * The samples in `signal`, 8, 16 or 32 bits each, as a pyramid file for a point, into `file`. A file is sections in a fixed
+ * order, each after its count, a u32, little-endian. Section 0 has the count 10: the width of a sample in bytes (one byte), the
+ * levels (one byte), n (u32) and the point (u32). Section 1 has the deepest approximations of integer 5/3, sections 2 to
+ * levels + 1 the details, deepest first, each counted in samples. The size is 14 + 4(levels + 1) + width n bytes; what is past
+ * it in `file` is as it was. 0 levels means 1, and 1 is what the file says. `work1` and `work2` are room; what their first n
+ * samples hold after a done call is not said, and what is beyond them is as it was.
+ *
+ * Refused, in this order:
+ *   9 (0, length)    a slice's byte length is no multiple of the width: the first of signal, work1, work2; file may have any
+ *   6                over 16,777,216 samples
+ *   1 (n, 3)         0 or 1 levels: fewer than 3 samples
+ *   4                more levels: fewer levels in the recording than asked
+ *   7 (have, size)   file has fewer bytes than the file's size
+ *   7 (have, n)      work1 holds fewer than n samples, then work2
+ */
+bk_answer bk_pyramid_write_i8(const uint8_t *signal, size_t signal_bytes, uint32_t levels, uint32_t point,
+                              uint8_t *file, size_t file_bytes, uint8_t *work1, size_t work1_bytes, uint8_t *work2,
+                              size_t work2_bytes);
+bk_answer bk_pyramid_write_i16(const uint8_t *signal, size_t signal_bytes, uint32_t levels, uint32_t point,
+                               uint8_t *file, size_t file_bytes, uint8_t *work1, size_t work1_bytes, uint8_t *work2,
+                               size_t work2_bytes);
+bk_answer bk_pyramid_write_i32(const uint8_t *signal, size_t signal_bytes, uint32_t levels, uint32_t point,
+                               uint8_t *file, size_t file_bytes, uint8_t *work1, size_t work1_bytes, uint8_t *work2,
+                               size_t work2_bytes);
+
+/*
+ * The samples of the finest level that a pyramid file, or the front of one that was cut, has whole, into `output`: its
+ * approximations at that level, or at level 0 the recording itself. `width`, in bytes, and `point` are those that the file
+ * must have. A file cut in section 1 is refused; one cut later ends there, and the broken section is ignored.
+ * Done: first is the level, second the count of samples, n halved, rounded up, so many times as the level says. Samples in
+ * `output` past the count are as they were. `work1` and `work2` are room; what their first count samples hold after a done call
+ * is not said, and what is beyond them is as it was.
+ *
+ * Refused, in this order:
+ *   9 (0, length)         a slice's byte length is no multiple of the width asked: the first of output, work1, work2; not asked
+ *                         where that width is not 1, 2 or 4; file may have any
+ *   6                     over 67,108,974 bytes
+ *   10 (length, 0)        under 14 bytes
+ *   9 (0, found)          the count of section 0 is not 10
+ *   8 (file's, asked)     the file's width is not the one asked, or that is not 1, 2 or 4
+ *   1 (n, 3)              fewer than 3 samples
+ *   6                     over 16,777,216 samples
+ *   4                     0 levels, or more than the recording has
+ *   11 (file's, asked)    the file's point is not the one asked
+ *   10 (length, 0)        the file ends in the count of section 1
+ *   9 (section, found)    section by section: its count is not the one that n and the levels give
+ *   10 (length, 0)        the file ends in the samples of section 1, whose count is right
+ *   12 (left, 0)          bytes after the last section
+ *   7 (have, count)       output holds fewer than count samples, then work1, then work2
+ */
+bk_answer bk_pyramid_open(const uint8_t *file, size_t file_bytes, uint32_t width, uint32_t point, uint8_t *output,
+                          size_t output_bytes, uint8_t *work1, size_t work1_bytes, uint8_t *work2, size_t work2_bytes);
+
+/*
+ * Where section `number` of a pyramid file has its bytes, after its count: nothing is copied, the caller reads its own file
+ * there. Section 1 has the deepest approximations, section 2 to levels + 1 the details of the deepest level down to level 1.
+ * Sections after it are not looked at, so it may be asked of a file that was cut behind it.
+ * Done: first is the place of its first byte in `file`, second how many bytes it has.
+ *
+ * Refused, in this order: as bk_pyramid_open from 6 (over 67,108,974 bytes) to 11, then
+ *   13 (number, levels + 1)   number is 0 or above levels + 1
+ *   9 (section, found)        section by section up to this one: its count is not the one that n and the levels give
+ *   10 (length, 0)            the file ends in this section or before it
+ */
+bk_answer bk_pyramid_section(const uint8_t *file, size_t file_bytes, uint32_t width, uint32_t point, uint32_t number);
+
 #ifdef __cplusplus
 }
 #endif

@@ -79,11 +79,19 @@ static bk_answer call_rwmmmm(function f, const struct arg *a) {
         a[4].count, a[5].bytes, a[5].count);
 }
 
+static bk_answer call_rwwmmm(function f, const struct arg *a) {
+    return ((bk_answer(*)(const uint8_t *, size_t, uint32_t, uint32_t, uint8_t *, size_t, uint8_t *, size_t, uint8_t *,
+                          size_t))f)(
+        a[0].bytes, a[0].count, (uint32_t)a[1].number, (uint32_t)a[2].number, a[3].bytes, a[3].count, a[4].bytes,
+        a[4].count, a[5].bytes, a[5].count);
+}
+
 static const struct shape shape_n = {"n", call_n};
 static const struct shape shape_rmm = {"rmm", call_rmm};
 static const struct shape shape_rrm = {"rrm", call_rrm};
 static const struct shape shape_rwmmm = {"rwmmm", call_rwmmm};
 static const struct shape shape_rwmmmm = {"rwmmmm", call_rwmmmm};
+static const struct shape shape_rwwmmm = {"rwwmmm", call_rwwmmm};
 static const struct shape shape_rrrmmm = {"rrrmmm", call_rrrmmm};
 
 static const struct row {
@@ -128,6 +136,10 @@ static const struct row {
     {"cdf53_dwt_f64", &shape_rwmmmm, (function)bk_cdf53_dwt_f64},
     {"cdf97_dwt_f32", &shape_rwmmmm, (function)bk_cdf97_dwt_f32},
     {"cdf97_dwt_f64", &shape_rwmmmm, (function)bk_cdf97_dwt_f64},
+    {"pyramid_write_i8", &shape_rwwmmm, (function)bk_pyramid_write_i8},
+    {"pyramid_write_i16", &shape_rwwmmm, (function)bk_pyramid_write_i16},
+    {"pyramid_write_i32", &shape_rwwmmm, (function)bk_pyramid_write_i32},
+    {"pyramid_open", &shape_rwwmmm, (function)bk_pyramid_open},
 };
 
 // ---- writing

@@ -8,6 +8,8 @@ ghost use Rattle.floats.specs.Bands as bands;
 ghost use lib.Ieee.{binary32, binary64};
 ghost use Rattle.dwt.specs.Calls.{Multi, Dwt};
 ghost use Rattle.dwt.specs.Backward.{MultiBack};
+ghost use Rattle.pyramid.specs.Writes.{Write};
+ghost use Rattle.pyramid.specs.Opens.{Open, saySection};
 use answers::err::Answer;
 use cdf53i::cdf53i::execute_forward;
 use cdf53i::cdf53i::execute_inverse;
@@ -17,6 +19,9 @@ use dwt::last::dwt;
 use dwt::levels::multi_dwt;
 use floats::cdf53f;
 use floats::cdf97f;
+use pyramid::open::open;
+use pyramid::section::section_answer;
+use pyramid::write::write;
 use sizes::Wavelet;
 use sizes::ask_depth;
 
@@ -602,4 +607,92 @@ pub extern "C" fn bk_cdf97_dwt_f64(
         work1,
         work2,
     )
+}
+
+#[no_mangle]
+pub extern "C" fn bk_pyramid_write_i8(
+    signal: &[u8],
+    levels: u32,
+    point: u32,
+    file: &mut [u8],
+    work1: &mut [u8],
+    work2: &mut [u8],
+) -> Answer
+    ensures { λ r. ⌜ Write Filter.Cdf53I8 levels point (now (signal .entry)) (now (file .entry)) (now (work1 .entry)) (now (work2 .entry)) r (now (file .exit)) (now (work1 .exit)) (now (work2 .exit)) ⌝ }
+{
+    write(
+        Filter::Cdf53I8,
+        levels as usize,
+        point,
+        signal,
+        file,
+        work1,
+        work2,
+    )
+}
+
+#[no_mangle]
+pub extern "C" fn bk_pyramid_write_i16(
+    signal: &[u8],
+    levels: u32,
+    point: u32,
+    file: &mut [u8],
+    work1: &mut [u8],
+    work2: &mut [u8],
+) -> Answer
+    ensures { λ r. ⌜ Write Filter.Cdf53I16 levels point (now (signal .entry)) (now (file .entry)) (now (work1 .entry)) (now (work2 .entry)) r (now (file .exit)) (now (work1 .exit)) (now (work2 .exit)) ⌝ }
+{
+    write(
+        Filter::Cdf53I16,
+        levels as usize,
+        point,
+        signal,
+        file,
+        work1,
+        work2,
+    )
+}
+
+#[no_mangle]
+pub extern "C" fn bk_pyramid_write_i32(
+    signal: &[u8],
+    levels: u32,
+    point: u32,
+    file: &mut [u8],
+    work1: &mut [u8],
+    work2: &mut [u8],
+) -> Answer
+    ensures { λ r. ⌜ Write Filter.Cdf53I32 levels point (now (signal .entry)) (now (file .entry)) (now (work1 .entry)) (now (work2 .entry)) r (now (file .exit)) (now (work1 .exit)) (now (work2 .exit)) ⌝ }
+{
+    write(
+        Filter::Cdf53I32,
+        levels as usize,
+        point,
+        signal,
+        file,
+        work1,
+        work2,
+    )
+}
+
+#[no_mangle]
+pub extern "C" fn bk_pyramid_open(
+    file: &[u8],
+    width: u32,
+    point: u32,
+    output: &mut [u8],
+    work1: &mut [u8],
+    work2: &mut [u8],
+) -> Answer
+    ensures { λ r. ⌜ Open (now (file .entry)) width point (now (output .entry)) (now (work1 .entry)) (now (work2 .entry)) r (now (output .exit)) (now (work1 .exit)) (now (work2 .exit)) ⌝ }
+{
+    open(file, width as usize, point as usize, output, work1, work2)
+}
+
+// Where a section starts after its count, and how long it is: a part of the caller's own file.
+#[no_mangle]
+pub extern "C" fn bk_pyramid_section(file: &[u8], width: u32, point: u32, number: u32) -> Answer
+    ensures { λ r. ⌜ r ≡ answerOf (saySection (now (file .entry)) width point number) ⌝ }
+{
+    section_answer(file, width as usize, point as usize, number as usize)
 }
