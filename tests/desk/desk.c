@@ -86,6 +86,11 @@ static bk_answer call_rwwmmm(function f, const struct arg *a) {
         a[4].count, a[5].bytes, a[5].count);
 }
 
+static bk_answer call_rwww(function f, const struct arg *a) {
+    return ((bk_answer(*)(const uint8_t *, size_t, uint32_t, uint32_t, uint32_t))f)(
+        a[0].bytes, a[0].count, (uint32_t)a[1].number, (uint32_t)a[2].number, (uint32_t)a[3].number);
+}
+
 static const struct shape shape_n = {"n", call_n};
 static const struct shape shape_rmm = {"rmm", call_rmm};
 static const struct shape shape_rrm = {"rrm", call_rrm};
@@ -93,6 +98,7 @@ static const struct shape shape_rwmmm = {"rwmmm", call_rwmmm};
 static const struct shape shape_rwmmmm = {"rwmmmm", call_rwmmmm};
 static const struct shape shape_rwwmmm = {"rwwmmm", call_rwwmmm};
 static const struct shape shape_rrrmmm = {"rrrmmm", call_rrrmmm};
+static const struct shape shape_rwww = {"rwww", call_rwww};
 
 static const struct row {
     const char *name;
@@ -140,6 +146,7 @@ static const struct row {
     {"pyramid_write_i16", &shape_rwwmmm, (function)bk_pyramid_write_i16},
     {"pyramid_write_i32", &shape_rwwmmm, (function)bk_pyramid_write_i32},
     {"pyramid_open", &shape_rwwmmm, (function)bk_pyramid_open},
+    {"pyramid_section", &shape_rwww, (function)bk_pyramid_section},
 };
 
 // ---- writing
