@@ -1,0 +1,469 @@
+#!/usr/bin/env python3
+# Has the desk write and open pyramid files, and compares with a writer and a reader in Python, made from document 01
+# alone. Call: tests/pyramid.py [--seed N] [--large]
+# First tests/desk/build. --large asks about the limits alone, in lines of many megabytes.
+#
+# Every lent slice starts as random bytes, most are longer than they need to be, and what must be left alone of them is
+# looked at. The first answer that differs ends the run.
+import argparse
+import os
+import random
+import struct
+import subprocess
+import sys
+from typing import NamedTuple
+
+LIMIT = 16_777_216
+MOST_BYTES = 67_108_974
+LAST_U32 = 2**32 - 1
+FORMATS = {1: "b", 2: "h", 4: "i"}
+HEAD = struct.Struct("<IBBII")
+POINTS = [0, 1, 14, 255, 256, 65_536, 2**31 - 1, 2**31, LAST_U32]
+P5 = struct.pack("5b", 0, 3, -4, 1, 7)
+P6 = bytes.fromhex("0A000000 01 02 05000000 0E000000 02000000 FF03 01000000 F8 02000000 0500")
+
+
+# ---- integer 5/3
+
+def wrapped(value, width):
+    half = 1 << (8 * width - 1)
+    return (value + half) % (2 * half) - half
+
+
+# The left and the right detail of every even sample.
+def beside(details, evens):
+    last = len(details) - 1
+    return [(details[max(i - 1, 0)], details[min(i, last)]) for i in range(evens)]
+
+
+def forward(x, width):
+    n = len(x)
+    d = [wrapped(x[i] - (x[i - 1] + x[i + 1 if i + 1 < n else i - 1]) // 2, width) for i in range(1, n, 2)]
+    a = [wrapped(even + (left + right + 2) // 4, width) for even, (left, right) in zip(x[::2], beside(d, (n + 1) // 2))]
+    return a, d
+
+
+def inverse(a, d, width):
+    n = len(a) + len(d)
+    x = [0] * n
+    x[::2] = [wrapped(low - (left + right + 2) // 4, width) for low, (left, right) in zip(a, beside(d, len(a)))]
+    for i in range(1, n, 2):
+        x[i] = wrapped(d[i // 2] + (x[i - 1] + x[i + 1 if i + 1 < n else i - 1]) // 2, width)
+    return x
+
+
+def packed(samples, width):
+    return struct.pack(f"<{len(samples)}{FORMATS[width]}", *samples)
+
+
+def unpacked(data, width):
+    return list(struct.unpack(f"<{len(data) // width}{FORMATS[width]}", data))
+
+
+# How many samples level 0, 1, .. have, as long as there is a level more.
+def sizes(n):
+    found = [n]
+    while found[-1] >= 3:
+        found.append((found[-1] + 1) // 2)
+    return found
+
+
+def depth(n):
+    return len(sizes(n)) - 1
+
+
+# How many samples sections 1 to levels + 1 have.
+def counts(n, levels):
+    had = sizes(n)
+    return [had[levels]] + [had[level - 1] // 2 for level in range(levels, 0, -1)]
+
+
+# ---- what document 01 says
+
+def head(width, levels, n, point):
+    return HEAD.pack(10, width, levels, n, point)
+
+
+def file_of(samples, width, levels, point):
+    a, sections = samples, []
+    for _ in range(levels):
+        a, d = forward(a, width)
+        sections.insert(0, d)
+    sections.insert(0, a)
+    body = (struct.pack("<I", len(section)) + packed(section, width) for section in sections)
+    return head(width, levels, len(samples), point) + b"".join(body)
+
+
+def ragged(width, *lengths):
+    return next(((9, 0, length) for length in lengths if length % width), None)
+
+
+def no_room(*areas):
+    return next(((7, have, need) for have, need in areas if have < need), None)
+
+
+# The answer to writing, and the file; lengths are in bytes.
+def written(signal, width, levels, point, room, *works):
+    n, stored = len(signal) // width, max(levels, 1)
+    said = ragged(width, len(signal), *works)
+    if not said and n > LIMIT:
+        said = 6, 0, 0
+    if not said and depth(n) < stored:
+        said = (1, n, 3) if levels <= 1 else (4, 0, 0)
+    said = said or no_room((room, 14 + 4 * (stored + 1) + width * n), *((work // width, n) for work in works))
+    return (said, b"") if said else ((0, 0, 0), file_of(unpacked(signal, width), width, stored, point))
+
+
+# The answer to opening where there is room, and the samples.
+def opened(file, width, point):
+    if len(file) > MOST_BYTES:
+        return (6, 0, 0), b""
+    if len(file) < 14:
+        return (10, len(file), 0), b""
+    ten, own, levels, n, place = HEAD.unpack_from(file)
+    if ten != 10:
+        return (9, 0, ten), b""
+    if own != width or width not in FORMATS:
+        return (8, own, width), b""
+    if n < 3:
+        return (1, n, 3), b""
+    if n > LIMIT:
+        return (6, 0, 0), b""
+    if levels == 0 or levels > depth(n):
+        return (4, 0, 0), b""
+    if place != point:
+        return (11, place, point), b""
+    at, sections = 14, []
+    for section, count in enumerate(counts(n, levels), 1):
+        end = at + 4 + count * width
+        if len(file) >= at + 4 and (found := int.from_bytes(file[at:at + 4], "little")) != count:
+            return (9, section, found), b""
+        if len(file) < end:
+            if section == 1:
+                return (10, len(file), 0), b""
+            break
+        sections.append(unpacked(file[at + 4:end], width))
+        at = end
+    else:
+        if len(file) > at:
+            return (12, len(file) - at, 0), b""
+    samples, *details = sections
+    for d in details:
+        samples = inverse(samples, d, width)
+    return (0, levels - len(details), len(samples)), packed(samples, width)
+
+
+# ---- asking
+
+# A request, the numbers of its answer, and for each lent slice how many bytes at its front nobody knows, and all of it.
+class Ask(NamedTuple):
+    request: str
+    said: tuple
+    lent: list
+
+
+def request(name, slices, *numbers):
+    first, *rest = ("x" + data.hex() for data in slices)
+    return " ".join([name, first, *map(str, numbers), *rest])
+
+
+# What a call must leave: `front` in the first lent slice, and the work areas as they were past as many bytes as `need`.
+def left(said, front, need, lent):
+    if said[0]:
+        return [(0, slice) for slice in lent]
+    return [(0, front + lent[0][len(front):])] + [(need, slice) for slice in lent[1:]]
+
+
+# Lengths of lent slices are in bytes.
+def write(random, signal, width, levels, point, *lengths):
+    said, file = written(signal, width, levels, point, *lengths)
+    lent = [random.randbytes(length) for length in lengths]
+    asked = request(f"pyramid_write_i{8 * width}", [signal, *lent], levels, point)
+    return Ask(asked, said, left(said, file, len(signal), lent))
+
+
+# A call with room to spare, or with lent slices of the lengths that `lengths` gives for the bytes of the samples.
+def open_file(random, file, width, point, lengths=None):
+    said, samples = opened(file, width, point)
+    unit = width if width in FORMATS else 1
+    spare = random.choices((0, 1, 1, 2, 5), k=3)
+    sized = lengths(len(samples)) if lengths else [len(samples) + unit * more for more in spare]
+    if not said[0]:
+        said = no_room(*((have // width, said[2]) for have in sized)) or said
+    if width in FORMATS:
+        said = ragged(width, *sized) or said
+    lent = [random.randbytes(length) for length in sized]
+    return Ask(request("pyramid_open", [file, *lent], width, point), said, left(said, samples, len(samples), lent))
+
+
+class Tally:
+    def __init__(self):
+        self.files = self.opens = self.refused = 0
+
+    def count(self, ask, answer):
+        numbers, slices = answer.split(" ")[:3], answer.split(" ")[3:]
+        wanted = [str(number) for number in ask.said]
+        if numbers != wanted or not all(self.same(*pair) for pair in zip(ask.lent, slices, strict=True)):
+            print("the desk differs from document 01", ask.request, sep="\n  ")
+            print("  wanted", *wanted, *("-" * (2 * skip) + data[skip:].hex() for skip, data in ask.lent))
+            sys.exit(f"  got    {answer}")
+        if ask.request.startswith("pyramid_open"):
+            self.opens += 1
+            self.refused += ask.said[0] != 0
+        else:
+            self.files += ask.said[0] == 0
+
+    # Whether a slice of the answer has the bytes that it must have; the first few are anyone's.
+    def same(self, wanted, word):
+        skip, data = wanted
+        return len(word) == 1 + 2 * len(data) and word[1 + 2 * skip:] == data[skip:].hex()
+
+
+# Asks are sent in parts of about 4 MiB.
+def compare(asks):
+    tally, part, size = Tally(), [], 0
+    for ask in asks:
+        part.append(ask)
+        size += len(ask.request)
+        if size > 1 << 22:
+            send(part, tally)
+            part, size = [], 0
+    send(part, tally)
+    return tally
+
+
+def send(part, tally):
+    lines = "".join(ask.request + "\n" for ask in part)
+    server = subprocess.run(["tests/desk/run"], input=lines, stdout=subprocess.PIPE, text=True)
+    answers = server.stdout.splitlines()
+    for place, ask in enumerate(part):
+        tally.count(ask, answers[place] if place < len(answers) else "no answer")
+    if server.returncode or len(answers) > len(part):
+        sys.exit(f"{len(answers)} answers to {len(part)} requests, and status {server.returncode}")
+
+
+# ---- the asks
+
+def recordings(random, width, n):
+    most = 2 ** (8 * width - 1) - 1
+    yield [random.randint(-most - 1, most) for _ in range(n)]
+    yield random.choices((-most - 1, -most, -1, 0, 1, most), k=n)
+    yield [(most, -most - 1)[i % 2] for i in range(n)]
+    yield [random.randint(-4, 4) for _ in range(n)]
+    yield [random.choice((-most - 1, most))] * n
+
+
+def any_recording(random, width, n):
+    return random.choice(list(recordings(random, width, n)))
+
+
+def any_point(random):
+    return random.choice([*POINTS, random.randint(0, LAST_U32)])
+
+
+def any_file(random, width, n, levels=None):
+    levels = levels or random.randint(1, depth(n))
+    return file_of(any_recording(random, width, n), width, levels, any_point(random))
+
+
+def own(file):
+    _, width, levels, n, point = HEAD.unpack_from(file)
+    return width, levels, n, point
+
+
+# A file opened as itself.
+def reopen(random, file, lengths=None):
+    width, _, _, point = own(file)
+    return open_file(random, file, width, point, lengths)
+
+
+# P5 to P10, answers and all.
+def figures(random):
+    yield write(random, P5, 1, 2, 14, 31, 5, 5)
+    assert file_of(unpacked(P5, 1), 1, 2, 14) == P6
+    for cut in range(32):
+        ask = open_file(random, P6[:cut], 1, 14)
+        said, samples = opened(P6[:cut], 1, 14)
+        if cut < 20:
+            figure = (10, cut, 0), []
+        elif cut < 25:
+            figure = (0, 2, 2), [-1, 3]
+        elif cut < 31:
+            figure = (0, 1, 3), [3, -3, 7]
+        else:
+            figure = (0, 0, 5), [0, 3, -4, 1, 7]
+        assert (said, unpacked(samples, 1)) == figure == (ask.said, figure[1])
+        yield ask
+
+
+# Files of every length to 60 and of a few above, and every prefix of those of at most 200 bytes.
+def files(random):
+    for width in FORMATS:
+        for n in [*range(3, 61), 127, 128, 129, 255, 256, 257, 511, 513, 600, 1025]:
+            for levels in range(depth(n) + 1):
+                sorts = list(recordings(random, width, n))
+                for samples in sorts if n < 8 else random.sample(sorts, 2):
+                    point = any_point(random)
+                    file = file_of(samples, width, max(levels, 1), point)
+                    lengths = [len(file) + random.choice((0, 1, 2, 3, 9))]
+                    lengths += [width * (n + random.choice((0, 1, 4))) for _ in range(2)]
+                    yield write(random, packed(samples, width), width, levels, point, *lengths)
+                    for cut in range(len(file) + 1) if len(file) <= 200 else [len(file)]:
+                        yield open_file(random, file[:cut], width, point)
+    samples = [random.randint(-128, 127) for _ in range(70_001)]
+    file = file_of(samples, 1, 16, LAST_U32)
+    yield write(random, packed(samples, 1), 1, 16, LAST_U32, len(file) + 1, len(samples), len(samples) + 1)
+    for cut in (len(file), len(file) - 1, len(file) // 2):
+        yield open_file(random, file[:cut], 1, LAST_U32)
+
+
+# Writes that are refused, and those that just are not.
+def write_bounds(random):
+    for width in FORMATS:
+        for n in [*range(40), 64, 65]:
+            signal, deep = random.randbytes(width * n), depth(n)
+            for levels in {0, 1, 2, deep, deep + 1, deep + 2, 23, 24, 255, 256, 257, 65_537, LAST_U32}:
+                size, full = 14 + 4 * (max(levels, 1) + 1) + width * n, width * n
+                lent = [(min(size, 500), full, full), (0, 0, 0)]
+                if levels <= deep:
+                    lent += [(size - 1, full, full), (size, full - width, full), (size, full, full - width)]
+                    lent += [(size - 1, full - width, full - width), (size, full - width, full - width)]
+                    lent += [(size + 1, full, full + width), (0, full, full), (size, 0, 0)]
+                for lengths in lent:
+                    lengths = [max(length, 0) for length in lengths]
+                    yield write(random, signal, width, levels, any_point(random), *lengths)
+            for off in range(1, width):
+                full, size = width * n, 100 + width * n
+                yield write(random, signal + bytes(off), width, 1, 7, size, full + width, full + width)
+                yield write(random, signal + bytes(off), width, 1, 7, size, full + 1, full + width + 1)
+                yield write(random, signal, width, 1, 7, size, full + off, full)
+                yield write(random, signal, width, 1, 7, 0, full, full + off)
+
+
+# By how many samples, or bytes, the lent slices of an opening are longer than need be.
+SAMPLES_MORE = [(0, 0, 0), (-1, 0, 0), (0, -1, 0), (0, 0, -1), (-1, -1, -1), (0, -1, -1), (-1, 0, 1), (1, 2, 3)]
+BYTES_MORE = [(1, 0, 0), (0, 1, 0), (0, 0, 1), (1, 1, 1), (-1, 0, 0)]
+
+
+# Every level of a file, with lent slices that are exactly full, a sample short, or no whole number of samples.
+def open_bounds(random):
+    for width in FORMATS:
+        changes = [[width * more for more in change] for change in SAMPLES_MORE]
+        changes += [[off * more for more in change] for off in range(1, width) for change in BYTES_MORE]
+        for n in (3, 4, 5, 8, 9, 17, 33, 50, 257):
+            for levels in range(1, depth(n) + 1):
+                file, end = any_file(random, width, n, levels), 14
+                for count in counts(n, levels):
+                    end += 4 + width * count
+                    yield reopen(random, file[:end], lambda full: [0, 0, 0])
+                    for change in changes:
+                        yield from with_room(random, file, end, lambda full: [max(0, full + more) for more in change])
+
+
+# A file that ends there, and others that are refused before their lent slices are looked at.
+def with_room(random, file, end, lengths):
+    width, _, _, point = own(file)
+    for other in file[:end], file[:9], file[:15], file + b"\0", file[:4] + b"\7" + file[5:]:
+        yield open_file(random, other, width, point, lengths)
+
+
+# Files with a byte changed, with several, with more at the end, and opened for another width or point.
+def damaged(random):
+    for width in FORMATS:
+        for n in (3, 4, 5, 6, 7, 8, 9, 12, 17, 20):
+            for levels in range(1, depth(n) + 1):
+                file = any_file(random, width, n, levels)
+                for place, byte in enumerate(file):
+                    for to in {(byte + 1) % 256, (byte - 1) % 256, byte ^ random.choice((16, 32, 64, 128))}:
+                        changed = file[:place] + bytes([to]) + file[place + 1:]
+                        yield open_file(random, changed, width, own(file)[3])
+                        if random.random() < 0.2:
+                            yield reopen(random, changed[:random.randint(14, len(file))])
+                for more in 1, 2, 3, 4, 5, 8, 100:
+                    yield reopen(random, file + random.randbytes(more))
+                yield reopen(random, file + file)
+    for _ in range(3000):
+        file = bytearray(any_file(random, random.choice(list(FORMATS)), random.randint(3, 40)))
+        width, _, _, point = own(file)
+        for _ in range(random.choice((1, 2, 3))):
+            place = random.choice((random.randrange(len(file)), random.choice((0, 4, 5, 6, 10, 14))))
+            file[place] = random.choice((0, 1, 2, 3, 4, 10, 255, random.randrange(256)))
+        cut = random.choice((len(file), random.randint(0, len(file))))
+        yield open_file(random, bytes(file[:cut]), width, point)
+
+
+def other_asked(random):
+    for width in FORMATS:
+        for n in (3, 5, 9, 20):
+            file = any_file(random, width, n)
+            point = own(file)[3]
+            for asked in 0, 1, 2, 3, 4, 5, 8, 255, 256 + width, 65_536 + width, 2**31 + width, LAST_U32:
+                for other in {point, point ^ 1, point ^ 2**31, LAST_U32 - point, any_point(random)}:
+                    for cut in len(file), len(file) - 1, 14, 13, 0:
+                        yield open_file(random, file[:cut], asked, other)
+                yield open_file(random, file, asked, point, lambda _: [1, 3, 5])
+            for bit in range(32):
+                yield open_file(random, file, width, point ^ 1 << bit)
+    # files that say so themselves
+    for width in 0, 3, 5, 8, 16, 255:
+        for asked in 0, 1, 2, 3, 4, 5, 8, 16, 255:
+            yield open_file(random, head(width, 1, 5, 9) + random.randbytes(40), asked, 9, lambda _: [7, 9, 11])
+
+
+HEAD_LENGTHS = [*range(10), 16, 17, 255, 256, 257, 65_536, 65_537, LIMIT // 2]
+HEAD_LENGTHS += [LIMIT - 1, LIMIT, LIMIT + 1, 2**31, LAST_U32]
+
+
+# Heads of recordings of every length and number of levels near a bound, with as many sections as are small.
+def heads(random):
+    for width in FORMATS:
+        for n in HEAD_LENGTHS:
+            deep = depth(n) if n <= LIMIT else 23
+            for levels in {0, 1, 2, deep - 1, deep, deep + 1, 23, 24, 32, 64, 255} & set(range(256)):
+                file = head(width, levels, n, 77)
+                for point in 77, 78:
+                    yield open_file(random, file, width, point)
+                if n < 3 or n > LIMIT or not 0 < levels <= deep:
+                    continue
+                for count in counts(n, levels):
+                    known = len(file)
+                    file += struct.pack("<I", count)
+                    if count < 100:
+                        file += random.randbytes(width * count)
+                    for cut in {*range(known, len(file), 3), known + 1, known + 4, len(file) - 1, len(file)}:
+                        yield open_file(random, file[:cut], width, 77)
+                    for wrong in {count + 1, abs(count - 1), count ^ 2**31, width * count} - {count}:
+                        yield open_file(random, file[:known] + struct.pack("<I", wrong) + file[known + 4:], width, 77)
+                    if count >= 100:
+                        break
+
+
+# The longest recordings and files, and those that are too long.
+def limits(random):
+    for width in FORMATS:
+        for n in LIMIT, LIMIT + 1:
+            for levels in 0, 23, 24:
+                yield write(random, random.randbytes(width * n), width, levels, 5, 0, 0, 0)
+    for length in MOST_BYTES, MOST_BYTES + 1:
+        file = head(4, 23, LIMIT, 5) + struct.pack("<IiiI", 2, 1, 2, 1)
+        file += random.randbytes(length - len(file))
+        yield open_file(random, file, 4, 6, lambda full: [0, 0, 0])
+        yield open_file(random, file, 4, 5, lambda full: [0, 0, 0])
+        yield open_file(random, file, 4, 5, lambda full: [0, 4, 7])
+
+
+PARTS = [figures, files, write_bounds, open_bounds, damaged, other_asked, heads]
+
+
+def main():
+    parser = argparse.ArgumentParser()
+    parser.add_argument("--seed", type=int, default=53)
+    parser.add_argument("--large", dest="parts", action="store_const", const=[limits], default=PARTS)
+    asked = parser.parse_args()
+    os.chdir(os.path.join(os.path.dirname(os.path.abspath(__file__)), ".."))
+    source = random.Random(asked.seed)
+    tally = compare(ask for part in asked.parts for ask in part(source))
+    print(f"ok pyramid: {tally.files} files, {tally.opens} opens, {tally.refused} of them refused")
+
+
+main()
