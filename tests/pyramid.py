@@ -114,25 +114,48 @@ def written(signal, width, levels, point, room, *works):
     return (said, b"") if said else ((0, 0, 0), file_of(unpacked(signal, width), width, stored, point))
 
 
-# The answer to opening where there is room, and the samples.
-def opened(file, width, point):
+# What section 0 is refused for, if it is.
+def headed(file, width, point):
     if len(file) > MOST_BYTES:
-        return (6, 0, 0), b""
+        return 6, 0, 0
     if len(file) < 14:
-        return (10, len(file), 0), b""
+        return 10, len(file), 0
     ten, own, levels, n, place = HEAD.unpack_from(file)
     if ten != 10:
-        return (9, 0, ten), b""
+        return 9, 0, ten
     if own != width or width not in FORMATS:
-        return (8, own, width), b""
+        return 8, own, width
     if n < 3:
-        return (1, n, 3), b""
+        return 1, n, 3
     if n > LIMIT:
-        return (6, 0, 0), b""
+        return 6, 0, 0
     if levels == 0 or levels > depth(n):
-        return (4, 0, 0), b""
-    if place != point:
-        return (11, place, point), b""
+        return 4, 0, 0
+    return None if place == point else (11, place, point)
+
+
+# The answer to looking a section up: its place and its length, or the refusal.
+def found(file, width, point, number):
+    if said := headed(file, width, point):
+        return said
+    _, _, levels, n, _ = HEAD.unpack_from(file)
+    if not 1 <= number <= levels + 1:
+        return 13, number, levels + 1
+    end = 14
+    for section, count in list(enumerate(counts(n, levels), 1))[:number]:
+        at, end = end, end + 4 + count * width
+        if len(file) >= at + 4 and (got := int.from_bytes(file[at:at + 4], "little")) != count:
+            return 9, section, got
+        if len(file) < end:
+            return 10, len(file), 0
+    return 0, at + 4, end - at - 4
+
+
+# The answer to opening where there is room, and the samples.
+def opened(file, width, point):
+    if said := headed(file, width, point):
+        return said, b""
+    _, _, levels, n, _ = HEAD.unpack_from(file)
     at, sections = 14, []
     for section, count in enumerate(counts(n, levels), 1):
         end = at + 4 + count * width
@@ -196,9 +219,13 @@ def open_file(random, file, width, point, lengths=None):
     return Ask(request("pyramid_open", [file, *lent], width, point), said, left(said, samples, len(samples), lent))
 
 
+def look_up(file, width, point, number):
+    return Ask(request("pyramid_section", [file], width, point, number), found(file, width, point, number), [])
+
+
 class Tally:
     def __init__(self):
-        self.files = self.opens = self.refused = 0
+        self.files = self.opens = self.refused = self.sections = self.missing = 0
 
     def count(self, ask, answer):
         numbers, slices = answer.split(" ")[:3], answer.split(" ")[3:]
@@ -210,6 +237,9 @@ class Tally:
         if ask.request.startswith("pyramid_open"):
             self.opens += 1
             self.refused += ask.said[0] != 0
+        elif ask.request.startswith("pyramid_section"):
+            self.sections += 1
+            self.missing += ask.said[0] != 0
         else:
             self.files += ask.said[0] == 0
 
@@ -315,6 +345,27 @@ def files(random):
     yield write(random, packed(samples, 1), 1, 16, LAST_U32, len(file) + 1, len(samples), len(samples) + 1)
     for cut in (len(file), len(file) - 1, len(file) // 2):
         yield open_file(random, file[:cut], 1, LAST_U32)
+
+
+# Sections of every prefix of small files, of files with a byte changed, and asked by any number.
+def sections(random):
+    for width in FORMATS:
+        for n in (3, 4, 5, 8, 9, 17, 20):
+            for levels in range(1, depth(n) + 1):
+                file = any_file(random, width, n, levels)
+                point = own(file)[3]
+                for cut in range(len(file) + 1):
+                    for number in range(levels + 3):
+                        yield look_up(file[:cut], width, point, number)
+                for place, byte in enumerate(file):
+                    changed = file[:place] + bytes([byte ^ random.choice((1, 2, 16, 128))]) + file[place + 1:]
+                    yield look_up(changed, width, point, random.randint(1, levels + 1))
+                for number in (levels + 2, 255, 256, 257, 2**31, LAST_U32):
+                    yield look_up(file, width, point, number)
+                yield look_up(file + b"\0", width, point, levels + 1)
+                for asked in (0, 3, 5, 8, width ^ 3):
+                    yield look_up(file, asked, point, 1)
+                yield look_up(file, width, point ^ 1, 1)
 
 
 # Writes that are refused, and those that just are not.
@@ -452,7 +503,7 @@ def limits(random):
         yield open_file(random, file, 4, 5, lambda full: [0, 4, 7])
 
 
-PARTS = [figures, files, write_bounds, open_bounds, damaged, other_asked, heads]
+PARTS = [figures, files, sections, write_bounds, open_bounds, damaged, other_asked, heads]
 
 
 def main():
@@ -463,7 +514,7 @@ def main():
     os.chdir(os.path.join(os.path.dirname(os.path.abspath(__file__)), ".."))
     source = random.Random(asked.seed)
     tally = compare(ask for part in asked.parts for ask in part(source))
-    print(f"ok pyramid: {tally.files} files, {tally.opens} opens, {tally.refused} of them refused")
+    print(f"ok pyramid: {tally.files} files, {tally.opens} opens, {tally.refused} of them refused, {tally.sections} sections asked for, {tally.missing} of them refused")
 
 
 main()
