@@ -1,0 +1,19 @@
+-- The number of a word, in the lower half and in the upper. Assumes nothing.
+use mathlib.Core.Bool.{cond}
+use mathlib.Core.Path.{_≡_, refl, sym, ap, _∙_}
+use Prim.Native.Nat.{ℕ, suc, _-_, _*_, _/_, _^_, _≤_, _<_}
+use native.Mathlib.Omega.{arith}
+use borrow.Author.Tests.{lt-ltb, le-ltb}
+use lib.IntN.{pos, negsuc, negℤ}
+use Rattle.samples.specs.Integers.{val, Width}
+
+pub lower : (M u h : ℕ) → h ≡ M / 2 → u < h → pos u ≡ val M u
+unfolding val
+lower M u h e l = sym (ap (λ b. cond b (pos u) (negsuc (M - suc u))) (lt-ltb u (M / 2) (omega (arith, e, l))))
+
+pub upper : {k : ℕ} → Width k → (u h : ℕ) → h ≡ 256 ^ k / 2 → h ≤ u → u < 256 ^ k → negℤ (pos (2 * h - u)) ≡ val (256 ^ k) u
+unfolding val
+upper {k} w u h e l b =
+    let M = 256 ^ k in
+    let n : 2 * h - u ≡ suc (M - suc u) = omega (arith, e, b, w .words) in
+    ap (λ (j : ℕ). negℤ (pos j)) n ∙ sym (ap (λ b. cond b (pos u) (negsuc (M - suc u))) (le-ltb u (M / 2) (omega (arith, e, l))))

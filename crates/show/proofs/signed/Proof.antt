@@ -1,0 +1,15 @@
+-- `signed` meets its contract: the lower half of the words, and the upper. Assumes nothing.
+use borrow.Author.Needs.{needs}
+use native.Mathlib.Omega.{arith}
+use Rattle.show.proofs.Signs.{lower, upper}
+use Rattle.show.proofs.signed.Statement.{statement}
+use Rattle.show.proofs.signed.Tie as tie
+
+returns : tie.Need-returns
+returns c = lower _ _ _ (c .before .half .ensures) (c .if1 .taken)
+
+returns-2 : tie.Need-returns-2
+returns-2 c = upper (c .before .before .pre .0) _ _ (c .before .half .ensures) (c .if1 .left) (c .before .before .pre .1)
+
+pub signed-spec : {M : Type 1} → statement M
+signed-spec = tie.close (tie.spec (λ c κs. search needs) returns (λ c. search needs) (λ c. search needs) returns-2)

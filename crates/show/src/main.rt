@@ -1,0 +1,140 @@
+// A pyramid file on standard input: what its section 0 says, and the samples that opening it for its own width and point gives.
+ghost use mathlib.Core.Path.{_≡_};
+ghost use Prim.Native.Nat.{_/_, _^_, _≤_, _<_};
+ghost use lib.ListN.{length};
+ghost use Rattle.samples.specs.Integers.{Width, val};
+ghost use Rattle.pyramid.specs.Files.{headSize};
+ghost use Rattle.show.specs.Numbers.{numberOf};
+use libc::STDIN_FILENO;
+use libc::STDOUT_FILENO;
+use pyramid::open::levels_in;
+use pyramid::open::open;
+use pyramid::open::point_in;
+use pyramid::open::samples_in;
+use pyramid::open::width_in;
+use samples::integers::get;
+
+// The longest input.
+const MOST: usize = 65536;
+
+// The number of an input that is longer.
+const TOO_LONG: u32 = 6;
+
+// A signed number: its size, and whether it is below 0.
+struct Number {
+    negative: bool,
+    size: u64,
+}
+
+// Half of the words of k bytes: the negative numbers start there.
+fn half(k: usize) -> u64
+    requires { ⌜ Width k ⌝ }
+    ensures { λ r. ⌜ r ≡ 256 ^ k / 2 ⌝ }
+{
+    if k == 1 {
+        return 128;
+    }
+    if k == 2 {
+        return 32768;
+    }
+    2147483648
+}
+
+// The number that a word of k bytes stands for.
+fn signed(k: usize, word: u32) -> Number
+    requires { ⌜ Width k ⌝ }
+    requires { ⌜ word < 256 ^ k ⌝ }
+    ensures { λ r. ⌜ numberOf r ≡ val (256 ^ k) word ⌝ }
+{
+    let u = word as u64;
+    let middle = half(k);
+    if u < middle {
+        return Number {
+            negative: false,
+            size: u,
+        };
+    }
+    Number {
+        negative: true,
+        size: 2 * middle - u,
+    }
+}
+
+// A word before a number, and the number.
+fn print_named(name: &[u8], n: u64) {
+    io::write_all(STDOUT_FILENO, name);
+    io::print_decimal(STDOUT_FILENO, n);
+}
+
+fn end_line() {
+    io::write_all(STDOUT_FILENO, b"\n");
+}
+
+fn print_refused(number: u32) {
+    print_named(b"refused ", number as u64);
+    end_line();
+}
+
+fn print_number(v: Number) {
+    if v.negative {
+        io::write_all(STDOUT_FILENO, b"-");
+    }
+    io::print_decimal(STDOUT_FILENO, v.size);
+    end_line();
+}
+
+// What section 0 says.
+fn print_head(s: &[u8])
+    requires { ⌜ headSize ≤ length (now s) ⌝ }
+{
+    print_named(b"point ", point_in(s) as u64);
+    print_named(b" width ", width_in(s) as u64);
+    print_named(b" samples ", samples_in(s) as u64);
+    print_named(b" levels ", levels_in(s) as u64);
+    end_line();
+}
+
+// The first n samples of k bytes, a line for each.
+fn print_samples(k: usize, s: &[u8], n: usize)
+    requires { ⌜ Width k ⌝ }
+    requires { ⌜ n ≤ length (now s) / k ⌝ }
+{
+    let mut i = 0;
+    while i < n {
+        print_number(signed(k, get(k, s, i)));
+        i += 1;
+    }
+}
+
+// The file s, opened for its own width and point into the three areas. One that has no section 0 says neither, and is refused.
+fn show(s: &[u8], out: &mut [u8], one: &mut [u8], two: &mut [u8]) {
+    if s.len() < 14 {
+        let r = open(s, 1, 0, out, one, two);
+        print_refused(r.number);
+        return;
+    }
+    let width = width_in(s);
+    let r = open(s, width, point_in(s), out, one, two);
+    if r.number != 0 {
+        print_refused(r.number);
+        return;
+    }
+    print_head(s);
+    print_named(b"level ", r.first);
+    print_named(b" count ", r.second);
+    end_line();
+    print_samples(width, out, r.second as usize);
+}
+
+fn main() {
+    let mut input = [0u8; 65537];
+    let n = io::read_full(STDIN_FILENO, &mut input);
+    if MOST < n {
+        print_refused(TOO_LONG);
+        return;
+    }
+    let mut out = io::large_buffer();
+    let mut one = io::large_buffer();
+    let mut two = io::large_buffer();
+    show(&input[..n], &mut out, &mut one, &mut two);
+}
