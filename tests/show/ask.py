@@ -119,7 +119,7 @@ def made():
 
 def printed(command, data):
     ran = subprocess.run(command, input=data, stdout=subprocess.PIPE)
-    return ran.stdout.decode() + f"status {ran.returncode}\n" * (ran.returncode != 0)
+    return ran.stdout.decode("latin-1") + f"status {ran.returncode}\n" * (ran.returncode != 0)
 
 
 # The same where the bytes come in two parts.
@@ -128,7 +128,7 @@ def printed_of_parts(command, first, second):
         program.stdin.write(first)
         program.stdin.flush()
         time.sleep(0.2)
-        return program.communicate(second)[0].decode()
+        return program.communicate(second)[0].decode("latin-1")
 
 
 def main(*command):

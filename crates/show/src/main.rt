@@ -4,7 +4,10 @@ ghost use Prim.Native.Nat.{_/_, _^_, _≤_, _<_};
 ghost use lib.ListN.{length};
 ghost use Rattle.samples.specs.Integers.{Width, val};
 ghost use Rattle.pyramid.specs.Files.{headSize};
+ghost use Rattle.pyramid.specs.Opens.{Open};
 ghost use Rattle.show.specs.Numbers.{numberOf};
+ghost use Rattle.show.specs.Own.{ownWidth, ownPoint};
+use answers::err::Answer;
 use libc::STDIN_FILENO;
 use libc::STDOUT_FILENO;
 use pyramid::open::levels_in;
@@ -106,15 +109,19 @@ fn print_samples(k: usize, s: &[u8], n: usize)
     }
 }
 
-// The file s, opened for its own width and point into the three areas. One that has no section 0 says neither, and is refused.
-fn show(s: &[u8], out: &mut [u8], one: &mut [u8], two: &mut [u8]) {
+// The file s, opened for the width and the point that its section 0 says, and for 1 and 0 where it has none.
+fn open_own(s: &[u8], out: &mut [u8], one: &mut [u8], two: &mut [u8]) -> Answer
+    ensures { λ r. ⌜ Open (now (s .entry)) (ownWidth (now (s .entry))) (ownPoint (now (s .entry))) (now (out .entry)) (now (one .entry)) (now (two .entry)) r (now (out .exit)) (now (one .exit)) (now (two .exit)) ⌝ }
+{
     if s.len() < 14 {
-        let r = open(s, 1, 0, out, one, two);
-        print_refused(r.number);
-        return;
+        return open(s, 1, 0, out, one, two);
     }
-    let width = width_in(s);
-    let r = open(s, width, point_in(s), out, one, two);
+    open(s, width_in(s), point_in(s), out, one, two)
+}
+
+// What opening the file s gives, by way of three areas.
+fn show(s: &[u8], out: &mut [u8], one: &mut [u8], two: &mut [u8]) {
+    let r = open_own(s, out, one, two);
     if r.number != 0 {
         print_refused(r.number);
         return;
@@ -123,7 +130,7 @@ fn show(s: &[u8], out: &mut [u8], one: &mut [u8], two: &mut [u8]) {
     print_named(b"level ", r.first);
     print_named(b" count ", r.second);
     end_line();
-    print_samples(width, out, r.second as usize);
+    print_samples(width_in(s), out, r.second as usize);
 }
 
 fn main() {

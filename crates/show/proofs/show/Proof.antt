@@ -1,15 +1,18 @@
 -- `show` is safe: a file that is opened has section 0, samples of a known width, and as many in the output as are printed. Assumes nothing.
 use borrow.Author.Needs.{needs}
 use native.Mathlib.Omega.{arith}
-use Rattle.show.proofs.Shown.{shown, as-many}
+use Rattle.show.proofs.Shown.{Shown, shown}
 use Rattle.show.proofs.show.Statement.{statement}
 use Rattle.show.proofs.show.Tie as tie
 
+opened : (c : tie.Else1) → let d = c .before .before .before .before .before .before .before .before in Shown (d .before .before .before .before .before .before .before .before .args .s .now) (d .before .before .before .before .before .before .before .before .args .out .now) (d .open-own .result)
+opened c = shown (c .before .before .before .before .before .before .before .before .open-own .ensures) (c .if1 .left)
+
 print-samples-requires : tie.Need-print-samples-requires
 print-samples-requires c κs =
-    let e = c .before .before .before .before .before .before .before in
-    let h = shown _ _ _ _ _ _ _ _ _ _ (e .before .before .before .before .before .before .before .before .open2 .ensures) (e .if2 .left) in
-    (h .0, as-many _ _ _ _ (h .1) (omega arith))
+    let h = opened (c .before .before .before .before .before .before .before .before) in
+    let e = c .before .width-in .ensures .0 in
+    (h .known _ e, h .room _ _ (omega arith) e)
 
 pub show-spec : {M : Type 1} → statement M
 show-spec =
@@ -21,20 +24,13 @@ show-spec =
     (λ c. search needs)
     (λ c. search needs)
     (λ c. search needs)
-    (λ c κs. search needs)
-    (λ c κs. search needs)
-    (λ c κs. search needs)
-    (λ c κs. search needs)
-    (λ c. search needs)
-    (λ c. search needs)
-    (λ c. search needs)
-    (λ c. search needs)
-    (λ c κs. search needs)
+    (λ c κs. opened c .there)
     (λ c. search needs)
     (λ c κs. search needs)
     (λ c. search needs)
     (λ c κs. search needs)
     (λ c κs. search needs)
+    (λ c κs. opened (c .before .before .before .before .before .before) .there)
     print-samples-requires
     (λ c. search needs)
     (λ c. search needs)
