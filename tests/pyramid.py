@@ -232,7 +232,7 @@ class Tally:
         wanted = [str(number) for number in ask.said]
         if numbers != wanted or not all(self.same(*pair) for pair in zip(ask.lent, slices, strict=True)):
             print("the desk differs from document 01", ask.request, sep="\n  ")
-            print("  wanted", *wanted, *("-" * (2 * skip) + data[skip:].hex() for skip, data in ask.lent))
+            print("  wanted", *wanted, *("x" + "-" * (2 * skip) + data[skip:].hex() for skip, data in ask.lent))
             sys.exit(f"  got    {answer}")
         if ask.request.startswith("pyramid_open"):
             self.opens += 1
