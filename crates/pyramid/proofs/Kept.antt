@@ -20,6 +20,7 @@ use Rattle.sizes.specs.declared.Wavelet.{Wavelet}
 use Rattle.sizes.specs.declared.Wavelet.the-variants.{Cdf53}
 use Rattle.sizes.specs.Bands.{mostSamples}
 use Rattle.sizes.specs.Levels.{places, depthOf, levelsOf}
+use Rattle.sizes.proofs.Counts.{places-le}
 use Rattle.sizes.proofs.Depths.{step}
 use Rattle.samples.specs.Le.{Bytes}
 use Rattle.dwt.specs.declared.filter.Filter.{Filter}
@@ -35,7 +36,7 @@ use Rattle.pyramid.specs.Sees.{needed, wholeOf}
 use Rattle.pyramid.proofs.Sized.{file-length}
 use Rattle.pyramid.proofs.Heads.{Recording, common}
 use Rattle.pyramid.proofs.Whole.{first-most}
-use Rattle.pyramid.proofs.Survives.{Sampled, Roomy, cut-short, survives, count-is}
+use Rattle.pyramid.proofs.Survives.{Sampled, Roomy, roomy-less, cut-short, survives, count-is}
 
 early-refuses : (f : Filter) → Integers f → (n : ℕ) (t : Bool) → done (cond t (short f n) BufferWasTooSmallForLevel) ≡ false
 early-refuses f i n true = ap done (common f i .early n)
@@ -127,3 +128,15 @@ module _ (f : Filter) (l p : ℕ) (x : List ℕ) (i : Integers f) (bx : Bytes x)
           open′ .answer ∙ ap answerOf q,
           open′ .output ∙ ap (λ (m : Refusal). left m (samplesIn s ++ drop (k * countIn s) o) o) q ∙ ap₂ (λ (m : List ℕ) (e : ℕ). m ++ drop (k * e) o) xs cs,
         )
+
+    -- demand 3, whole: with room for the recording, what is left of its file is refused with 10 where section 1 is not whole, and else gives level L - m, m the
+    -- detail sections that are whole, how many samples that level has, and exactly its approximations of the original recording
+    pub demand3 : c ≤ fileSize (widthOf f) (levelsOf l) (length x / widthOf f) → Roomy (widthOf f) (length x / widthOf f) (length o) (length g) (length h)
+        → let n = length x / widthOf f in
+        let j = levelsOf l - wholeOf (widthOf f) (levelsOf l) n c in
+        (c < needed (widthOf f) (levelsOf l) n → (r ≡ say 10 c 0) × (o′ ≡ o))
+        × (needed (widthOf f) (levelsOf l) n ≤ c → (r ≡ say 0 j (places j n)) × (o′ ≡ approxAt f j x ++ drop (widthOf f * places j n) o))
+    demand3 d room =
+        let n = length x / widthOf f in
+        let j = levelsOf l - wholeOf (widthOf f) (levelsOf l) n c in
+        (kept-none, λ e. kept e d j refl (roomy-less (widthOf f) (places j n) n (length o) (length g) (length h) (places-le j n) room))
