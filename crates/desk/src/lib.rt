@@ -1,24 +1,19 @@
 // The exported functions and nothing else: the desk, in C, calls these. include/beksanour.h is their manual.
+// In every call x is the samples, a approximations, d details, out the output, one and two the work areas.
 ghost use mathlib.Core.Path.{_≡_};
 ghost use Rattle.answers.specs.Answers.{answerOf};
-ghost use Rattle.sizes.specs.Calls.{Forward, Inverse};
 ghost use Rattle.sizes.specs.Levels.{sayDepth};
-ghost use Rattle.cdf53i.specs.Bands.{low, high, back};
-ghost use Rattle.floats.specs.Bands as bands;
-ghost use lib.Ieee.{binary32, binary64};
-ghost use Rattle.dwt.specs.Calls.{Multi, Dwt};
+ghost use Rattle.dwt.specs.Calls.{OneForward, OneInverse, Multi, Dwt};
 ghost use Rattle.dwt.specs.Backward.{MultiBack};
 ghost use Rattle.pyramid.specs.Writes.{Write};
 ghost use Rattle.pyramid.specs.Opens.{Open, saySection};
 use answers::err::Answer;
-use cdf53i::cdf53i::execute_forward;
-use cdf53i::cdf53i::execute_inverse;
 use dwt::back::multi_idwt;
 use dwt::filter::Filter;
+use dwt::filter::execute_forward;
+use dwt::filter::execute_inverse;
 use dwt::last::dwt;
 use dwt::levels::multi_dwt;
-use floats::cdf53f;
-use floats::cdf97f;
 use pyramid::open::open;
 use pyramid::section::section_answer;
 use pyramid::write::write;
@@ -39,640 +34,439 @@ pub extern "C" fn bk_cdf97_depth(n: u64) -> Answer
     ask_depth(Wavelet::Cdf97, n as usize)
 }
 
+// One level forward, and back.
+
 #[no_mangle]
-pub extern "C" fn bk_cdf53_forward_i8(input: &[u8], approx: &mut [u8], details: &mut [u8]) -> Answer
-    ensures { λ r. ⌜ Forward Wavelet.Cdf53 1 (low 1) (high 1) (now (input .entry)) (now (approx .entry)) (now (details .entry)) r (now (approx .exit)) (now (details .exit)) ⌝ }
+pub extern "C" fn bk_cdf53_forward_i8(x: &[u8], a: &mut [u8], d: &mut [u8]) -> Answer
+    ensures { λ r. ⌜ OneForward Filter.Cdf53I8 (now (x .entry)) (now (a .entry)) (now (d .entry)) r (now (a .exit)) (now (d .exit)) ⌝ }
 {
-    execute_forward(1, input, approx, details)
+    execute_forward(Filter::Cdf53I8, x, a, d)
 }
 
 #[no_mangle]
-pub extern "C" fn bk_cdf53_inverse_i8(approx: &[u8], details: &[u8], output: &mut [u8]) -> Answer
-    ensures { λ r. ⌜ Inverse Wavelet.Cdf53 1 (back 1) (now (approx .entry)) (now (details .entry)) (now (output .entry)) r (now (output .exit)) ⌝ }
+pub extern "C" fn bk_cdf53_forward_i16(x: &[u8], a: &mut [u8], d: &mut [u8]) -> Answer
+    ensures { λ r. ⌜ OneForward Filter.Cdf53I16 (now (x .entry)) (now (a .entry)) (now (d .entry)) r (now (a .exit)) (now (d .exit)) ⌝ }
 {
-    execute_inverse(1, approx, details, output)
+    execute_forward(Filter::Cdf53I16, x, a, d)
 }
 
 #[no_mangle]
-pub extern "C" fn bk_cdf53_forward_i16(
-    input: &[u8],
-    approx: &mut [u8],
-    details: &mut [u8],
-) -> Answer
-    ensures { λ r. ⌜ Forward Wavelet.Cdf53 2 (low 2) (high 2) (now (input .entry)) (now (approx .entry)) (now (details .entry)) r (now (approx .exit)) (now (details .exit)) ⌝ }
+pub extern "C" fn bk_cdf53_forward_i32(x: &[u8], a: &mut [u8], d: &mut [u8]) -> Answer
+    ensures { λ r. ⌜ OneForward Filter.Cdf53I32 (now (x .entry)) (now (a .entry)) (now (d .entry)) r (now (a .exit)) (now (d .exit)) ⌝ }
 {
-    execute_forward(2, input, approx, details)
+    execute_forward(Filter::Cdf53I32, x, a, d)
 }
 
 #[no_mangle]
-pub extern "C" fn bk_cdf53_inverse_i16(approx: &[u8], details: &[u8], output: &mut [u8]) -> Answer
-    ensures { λ r. ⌜ Inverse Wavelet.Cdf53 2 (back 2) (now (approx .entry)) (now (details .entry)) (now (output .entry)) r (now (output .exit)) ⌝ }
+pub extern "C" fn bk_cdf53_forward_f32(x: &[u8], a: &mut [u8], d: &mut [u8]) -> Answer
+    ensures { λ r. ⌜ OneForward Filter.Cdf53F32 (now (x .entry)) (now (a .entry)) (now (d .entry)) r (now (a .exit)) (now (d .exit)) ⌝ }
 {
-    execute_inverse(2, approx, details, output)
+    execute_forward(Filter::Cdf53F32, x, a, d)
 }
 
 #[no_mangle]
-pub extern "C" fn bk_cdf53_forward_i32(
-    input: &[u8],
-    approx: &mut [u8],
-    details: &mut [u8],
-) -> Answer
-    ensures { λ r. ⌜ Forward Wavelet.Cdf53 4 (low 4) (high 4) (now (input .entry)) (now (approx .entry)) (now (details .entry)) r (now (approx .exit)) (now (details .exit)) ⌝ }
+pub extern "C" fn bk_cdf53_forward_f64(x: &[u8], a: &mut [u8], d: &mut [u8]) -> Answer
+    ensures { λ r. ⌜ OneForward Filter.Cdf53F64 (now (x .entry)) (now (a .entry)) (now (d .entry)) r (now (a .exit)) (now (d .exit)) ⌝ }
 {
-    execute_forward(4, input, approx, details)
+    execute_forward(Filter::Cdf53F64, x, a, d)
 }
 
 #[no_mangle]
-pub extern "C" fn bk_cdf53_inverse_i32(approx: &[u8], details: &[u8], output: &mut [u8]) -> Answer
-    ensures { λ r. ⌜ Inverse Wavelet.Cdf53 4 (back 4) (now (approx .entry)) (now (details .entry)) (now (output .entry)) r (now (output .exit)) ⌝ }
+pub extern "C" fn bk_cdf97_forward_f32(x: &[u8], a: &mut [u8], d: &mut [u8]) -> Answer
+    ensures { λ r. ⌜ OneForward Filter.Cdf97F32 (now (x .entry)) (now (a .entry)) (now (d .entry)) r (now (a .exit)) (now (d .exit)) ⌝ }
 {
-    execute_inverse(4, approx, details, output)
+    execute_forward(Filter::Cdf97F32, x, a, d)
 }
 
 #[no_mangle]
-pub extern "C" fn bk_cdf53_forward_f32(
-    input: &[u8],
-    approx: &mut [u8],
-    details: &mut [u8],
-) -> Answer
-    ensures { λ r. ⌜ Forward Wavelet.Cdf53 4 (bands.low binary32 Wavelet.Cdf53) (bands.high binary32 Wavelet.Cdf53) (now (input .entry)) (now (approx .entry)) (now (details .entry)) r (now (approx .exit)) (now (details .exit)) ⌝ }
+pub extern "C" fn bk_cdf97_forward_f64(x: &[u8], a: &mut [u8], d: &mut [u8]) -> Answer
+    ensures { λ r. ⌜ OneForward Filter.Cdf97F64 (now (x .entry)) (now (a .entry)) (now (d .entry)) r (now (a .exit)) (now (d .exit)) ⌝ }
 {
-    cdf53f::execute_forward_f32(input, approx, details)
+    execute_forward(Filter::Cdf97F64, x, a, d)
 }
 
 #[no_mangle]
-pub extern "C" fn bk_cdf53_inverse_f32(approx: &[u8], details: &[u8], output: &mut [u8]) -> Answer
-    ensures { λ r. ⌜ Inverse Wavelet.Cdf53 4 (bands.back binary32 Wavelet.Cdf53) (now (approx .entry)) (now (details .entry)) (now (output .entry)) r (now (output .exit)) ⌝ }
+pub extern "C" fn bk_cdf53_inverse_i8(a: &[u8], d: &[u8], out: &mut [u8]) -> Answer
+    ensures { λ r. ⌜ OneInverse Filter.Cdf53I8 (now (a .entry)) (now (d .entry)) (now (out .entry)) r (now (out .exit)) ⌝ }
 {
-    cdf53f::execute_inverse_f32(approx, details, output)
+    execute_inverse(Filter::Cdf53I8, a, d, out)
 }
 
 #[no_mangle]
-pub extern "C" fn bk_cdf53_forward_f64(
-    input: &[u8],
-    approx: &mut [u8],
-    details: &mut [u8],
-) -> Answer
-    ensures { λ r. ⌜ Forward Wavelet.Cdf53 8 (bands.low binary64 Wavelet.Cdf53) (bands.high binary64 Wavelet.Cdf53) (now (input .entry)) (now (approx .entry)) (now (details .entry)) r (now (approx .exit)) (now (details .exit)) ⌝ }
+pub extern "C" fn bk_cdf53_inverse_i16(a: &[u8], d: &[u8], out: &mut [u8]) -> Answer
+    ensures { λ r. ⌜ OneInverse Filter.Cdf53I16 (now (a .entry)) (now (d .entry)) (now (out .entry)) r (now (out .exit)) ⌝ }
 {
-    cdf53f::execute_forward_f64(input, approx, details)
+    execute_inverse(Filter::Cdf53I16, a, d, out)
 }
 
 #[no_mangle]
-pub extern "C" fn bk_cdf53_inverse_f64(approx: &[u8], details: &[u8], output: &mut [u8]) -> Answer
-    ensures { λ r. ⌜ Inverse Wavelet.Cdf53 8 (bands.back binary64 Wavelet.Cdf53) (now (approx .entry)) (now (details .entry)) (now (output .entry)) r (now (output .exit)) ⌝ }
+pub extern "C" fn bk_cdf53_inverse_i32(a: &[u8], d: &[u8], out: &mut [u8]) -> Answer
+    ensures { λ r. ⌜ OneInverse Filter.Cdf53I32 (now (a .entry)) (now (d .entry)) (now (out .entry)) r (now (out .exit)) ⌝ }
 {
-    cdf53f::execute_inverse_f64(approx, details, output)
+    execute_inverse(Filter::Cdf53I32, a, d, out)
 }
 
 #[no_mangle]
-pub extern "C" fn bk_cdf97_forward_f32(
-    input: &[u8],
-    approx: &mut [u8],
-    details: &mut [u8],
-) -> Answer
-    ensures { λ r. ⌜ Forward Wavelet.Cdf97 4 (bands.low binary32 Wavelet.Cdf97) (bands.high binary32 Wavelet.Cdf97) (now (input .entry)) (now (approx .entry)) (now (details .entry)) r (now (approx .exit)) (now (details .exit)) ⌝ }
+pub extern "C" fn bk_cdf53_inverse_f32(a: &[u8], d: &[u8], out: &mut [u8]) -> Answer
+    ensures { λ r. ⌜ OneInverse Filter.Cdf53F32 (now (a .entry)) (now (d .entry)) (now (out .entry)) r (now (out .exit)) ⌝ }
 {
-    cdf97f::execute_forward_f32(input, approx, details)
+    execute_inverse(Filter::Cdf53F32, a, d, out)
 }
 
 #[no_mangle]
-pub extern "C" fn bk_cdf97_inverse_f32(approx: &[u8], details: &[u8], output: &mut [u8]) -> Answer
-    ensures { λ r. ⌜ Inverse Wavelet.Cdf97 4 (bands.back binary32 Wavelet.Cdf97) (now (approx .entry)) (now (details .entry)) (now (output .entry)) r (now (output .exit)) ⌝ }
+pub extern "C" fn bk_cdf53_inverse_f64(a: &[u8], d: &[u8], out: &mut [u8]) -> Answer
+    ensures { λ r. ⌜ OneInverse Filter.Cdf53F64 (now (a .entry)) (now (d .entry)) (now (out .entry)) r (now (out .exit)) ⌝ }
 {
-    cdf97f::execute_inverse_f32(approx, details, output)
+    execute_inverse(Filter::Cdf53F64, a, d, out)
 }
 
 #[no_mangle]
-pub extern "C" fn bk_cdf97_forward_f64(
-    input: &[u8],
-    approx: &mut [u8],
-    details: &mut [u8],
-) -> Answer
-    ensures { λ r. ⌜ Forward Wavelet.Cdf97 8 (bands.low binary64 Wavelet.Cdf97) (bands.high binary64 Wavelet.Cdf97) (now (input .entry)) (now (approx .entry)) (now (details .entry)) r (now (approx .exit)) (now (details .exit)) ⌝ }
+pub extern "C" fn bk_cdf97_inverse_f32(a: &[u8], d: &[u8], out: &mut [u8]) -> Answer
+    ensures { λ r. ⌜ OneInverse Filter.Cdf97F32 (now (a .entry)) (now (d .entry)) (now (out .entry)) r (now (out .exit)) ⌝ }
 {
-    cdf97f::execute_forward_f64(input, approx, details)
+    execute_inverse(Filter::Cdf97F32, a, d, out)
 }
 
 #[no_mangle]
-pub extern "C" fn bk_cdf97_inverse_f64(approx: &[u8], details: &[u8], output: &mut [u8]) -> Answer
-    ensures { λ r. ⌜ Inverse Wavelet.Cdf97 8 (bands.back binary64 Wavelet.Cdf97) (now (approx .entry)) (now (details .entry)) (now (output .entry)) r (now (output .exit)) ⌝ }
+pub extern "C" fn bk_cdf97_inverse_f64(a: &[u8], d: &[u8], out: &mut [u8]) -> Answer
+    ensures { λ r. ⌜ OneInverse Filter.Cdf97F64 (now (a .entry)) (now (d .entry)) (now (out .entry)) r (now (out .exit)) ⌝ }
 {
-    cdf97f::execute_inverse_f64(approx, details, output)
+    execute_inverse(Filter::Cdf97F64, a, d, out)
 }
 
-#[no_mangle]
-pub extern "C" fn bk_cdf53_multi_dwt_i8(
-    signal: &[u8],
-    levels: u32,
-    output: &mut [u8],
-    work1: &mut [u8],
-    work2: &mut [u8],
-) -> Answer
-    ensures { λ r. ⌜ Multi Filter.Cdf53I8 levels (now (signal .entry)) (now (output .entry)) (now (work1 .entry)) (now (work2 .entry)) r (now (output .exit)) (now (work1 .exit)) (now (work2 .exit)) ⌝ }
-{
-    multi_dwt(
-        Filter::Cdf53I8,
-        levels as usize,
-        signal,
-        output,
-        work1,
-        work2,
-    )
-}
-
-#[no_mangle]
-pub extern "C" fn bk_cdf53_multi_dwt_i16(
-    signal: &[u8],
-    levels: u32,
-    output: &mut [u8],
-    work1: &mut [u8],
-    work2: &mut [u8],
-) -> Answer
-    ensures { λ r. ⌜ Multi Filter.Cdf53I16 levels (now (signal .entry)) (now (output .entry)) (now (work1 .entry)) (now (work2 .entry)) r (now (output .exit)) (now (work1 .exit)) (now (work2 .exit)) ⌝ }
-{
-    multi_dwt(
-        Filter::Cdf53I16,
-        levels as usize,
-        signal,
-        output,
-        work1,
-        work2,
-    )
-}
-
-#[no_mangle]
-pub extern "C" fn bk_cdf53_multi_dwt_i32(
-    signal: &[u8],
-    levels: u32,
-    output: &mut [u8],
-    work1: &mut [u8],
-    work2: &mut [u8],
-) -> Answer
-    ensures { λ r. ⌜ Multi Filter.Cdf53I32 levels (now (signal .entry)) (now (output .entry)) (now (work1 .entry)) (now (work2 .entry)) r (now (output .exit)) (now (work1 .exit)) (now (work2 .exit)) ⌝ }
-{
-    multi_dwt(
-        Filter::Cdf53I32,
-        levels as usize,
-        signal,
-        output,
-        work1,
-        work2,
-    )
-}
-
-#[no_mangle]
-pub extern "C" fn bk_cdf53_multi_dwt_f32(
-    signal: &[u8],
-    levels: u32,
-    output: &mut [u8],
-    work1: &mut [u8],
-    work2: &mut [u8],
-) -> Answer
-    ensures { λ r. ⌜ Multi Filter.Cdf53F32 levels (now (signal .entry)) (now (output .entry)) (now (work1 .entry)) (now (work2 .entry)) r (now (output .exit)) (now (work1 .exit)) (now (work2 .exit)) ⌝ }
-{
-    multi_dwt(
-        Filter::Cdf53F32,
-        levels as usize,
-        signal,
-        output,
-        work1,
-        work2,
-    )
-}
-
-#[no_mangle]
-pub extern "C" fn bk_cdf53_multi_dwt_f64(
-    signal: &[u8],
-    levels: u32,
-    output: &mut [u8],
-    work1: &mut [u8],
-    work2: &mut [u8],
-) -> Answer
-    ensures { λ r. ⌜ Multi Filter.Cdf53F64 levels (now (signal .entry)) (now (output .entry)) (now (work1 .entry)) (now (work2 .entry)) r (now (output .exit)) (now (work1 .exit)) (now (work2 .exit)) ⌝ }
-{
-    multi_dwt(
-        Filter::Cdf53F64,
-        levels as usize,
-        signal,
-        output,
-        work1,
-        work2,
-    )
-}
-
-#[no_mangle]
-pub extern "C" fn bk_cdf97_multi_dwt_f32(
-    signal: &[u8],
-    levels: u32,
-    output: &mut [u8],
-    work1: &mut [u8],
-    work2: &mut [u8],
-) -> Answer
-    ensures { λ r. ⌜ Multi Filter.Cdf97F32 levels (now (signal .entry)) (now (output .entry)) (now (work1 .entry)) (now (work2 .entry)) r (now (output .exit)) (now (work1 .exit)) (now (work2 .exit)) ⌝ }
-{
-    multi_dwt(
-        Filter::Cdf97F32,
-        levels as usize,
-        signal,
-        output,
-        work1,
-        work2,
-    )
-}
-
-#[no_mangle]
-pub extern "C" fn bk_cdf97_multi_dwt_f64(
-    signal: &[u8],
-    levels: u32,
-    output: &mut [u8],
-    work1: &mut [u8],
-    work2: &mut [u8],
-) -> Answer
-    ensures { λ r. ⌜ Multi Filter.Cdf97F64 levels (now (signal .entry)) (now (output .entry)) (now (work1 .entry)) (now (work2 .entry)) r (now (output .exit)) (now (work1 .exit)) (now (work2 .exit)) ⌝ }
-{
-    multi_dwt(
-        Filter::Cdf97F64,
-        levels as usize,
-        signal,
-        output,
-        work1,
-        work2,
-    )
-}
-
-#[no_mangle]
-pub extern "C" fn bk_cdf53_multi_idwt_i8(
-    approx: &[u8],
-    details: &[u8],
-    lengths: &[u8],
-    output: &mut [u8],
-    work1: &mut [u8],
-    work2: &mut [u8],
-) -> Answer
-    ensures { λ r. ⌜ MultiBack Filter.Cdf53I8 (now (approx .entry)) (now (details .entry)) (now (lengths .entry)) (now (output .entry)) (now (work1 .entry)) (now (work2 .entry)) r (now (output .exit)) (now (work1 .exit)) (now (work2 .exit)) ⌝ }
-{
-    multi_idwt(
-        Filter::Cdf53I8,
-        approx,
-        details,
-        lengths,
-        output,
-        work1,
-        work2,
-    )
-}
-
-#[no_mangle]
-pub extern "C" fn bk_cdf53_multi_idwt_i16(
-    approx: &[u8],
-    details: &[u8],
-    lengths: &[u8],
-    output: &mut [u8],
-    work1: &mut [u8],
-    work2: &mut [u8],
-) -> Answer
-    ensures { λ r. ⌜ MultiBack Filter.Cdf53I16 (now (approx .entry)) (now (details .entry)) (now (lengths .entry)) (now (output .entry)) (now (work1 .entry)) (now (work2 .entry)) r (now (output .exit)) (now (work1 .exit)) (now (work2 .exit)) ⌝ }
-{
-    multi_idwt(
-        Filter::Cdf53I16,
-        approx,
-        details,
-        lengths,
-        output,
-        work1,
-        work2,
-    )
-}
-
-#[no_mangle]
-pub extern "C" fn bk_cdf53_multi_idwt_i32(
-    approx: &[u8],
-    details: &[u8],
-    lengths: &[u8],
-    output: &mut [u8],
-    work1: &mut [u8],
-    work2: &mut [u8],
-) -> Answer
-    ensures { λ r. ⌜ MultiBack Filter.Cdf53I32 (now (approx .entry)) (now (details .entry)) (now (lengths .entry)) (now (output .entry)) (now (work1 .entry)) (now (work2 .entry)) r (now (output .exit)) (now (work1 .exit)) (now (work2 .exit)) ⌝ }
-{
-    multi_idwt(
-        Filter::Cdf53I32,
-        approx,
-        details,
-        lengths,
-        output,
-        work1,
-        work2,
-    )
-}
-
-#[no_mangle]
-pub extern "C" fn bk_cdf53_multi_idwt_f32(
-    approx: &[u8],
-    details: &[u8],
-    lengths: &[u8],
-    output: &mut [u8],
-    work1: &mut [u8],
-    work2: &mut [u8],
-) -> Answer
-    ensures { λ r. ⌜ MultiBack Filter.Cdf53F32 (now (approx .entry)) (now (details .entry)) (now (lengths .entry)) (now (output .entry)) (now (work1 .entry)) (now (work2 .entry)) r (now (output .exit)) (now (work1 .exit)) (now (work2 .exit)) ⌝ }
-{
-    multi_idwt(
-        Filter::Cdf53F32,
-        approx,
-        details,
-        lengths,
-        output,
-        work1,
-        work2,
-    )
-}
-
-#[no_mangle]
-pub extern "C" fn bk_cdf53_multi_idwt_f64(
-    approx: &[u8],
-    details: &[u8],
-    lengths: &[u8],
-    output: &mut [u8],
-    work1: &mut [u8],
-    work2: &mut [u8],
-) -> Answer
-    ensures { λ r. ⌜ MultiBack Filter.Cdf53F64 (now (approx .entry)) (now (details .entry)) (now (lengths .entry)) (now (output .entry)) (now (work1 .entry)) (now (work2 .entry)) r (now (output .exit)) (now (work1 .exit)) (now (work2 .exit)) ⌝ }
-{
-    multi_idwt(
-        Filter::Cdf53F64,
-        approx,
-        details,
-        lengths,
-        output,
-        work1,
-        work2,
-    )
-}
-
-#[no_mangle]
-pub extern "C" fn bk_cdf97_multi_idwt_f32(
-    approx: &[u8],
-    details: &[u8],
-    lengths: &[u8],
-    output: &mut [u8],
-    work1: &mut [u8],
-    work2: &mut [u8],
-) -> Answer
-    ensures { λ r. ⌜ MultiBack Filter.Cdf97F32 (now (approx .entry)) (now (details .entry)) (now (lengths .entry)) (now (output .entry)) (now (work1 .entry)) (now (work2 .entry)) r (now (output .exit)) (now (work1 .exit)) (now (work2 .exit)) ⌝ }
-{
-    multi_idwt(
-        Filter::Cdf97F32,
-        approx,
-        details,
-        lengths,
-        output,
-        work1,
-        work2,
-    )
-}
-
-#[no_mangle]
-pub extern "C" fn bk_cdf97_multi_idwt_f64(
-    approx: &[u8],
-    details: &[u8],
-    lengths: &[u8],
-    output: &mut [u8],
-    work1: &mut [u8],
-    work2: &mut [u8],
-) -> Answer
-    ensures { λ r. ⌜ MultiBack Filter.Cdf97F64 (now (approx .entry)) (now (details .entry)) (now (lengths .entry)) (now (output .entry)) (now (work1 .entry)) (now (work2 .entry)) r (now (output .exit)) (now (work1 .exit)) (now (work2 .exit)) ⌝ }
-{
-    multi_idwt(
-        Filter::Cdf97F64,
-        approx,
-        details,
-        lengths,
-        output,
-        work1,
-        work2,
-    )
-}
+// The last of many levels.
 
 #[no_mangle]
 pub extern "C" fn bk_cdf53_dwt_i8(
-    signal: &[u8],
+    x: &[u8],
     levels: u32,
-    approx: &mut [u8],
-    details: &mut [u8],
-    work1: &mut [u8],
-    work2: &mut [u8],
+    a: &mut [u8],
+    d: &mut [u8],
+    one: &mut [u8],
+    two: &mut [u8],
 ) -> Answer
-    ensures { λ r. ⌜ Dwt Filter.Cdf53I8 levels (now (signal .entry)) (now (approx .entry)) (now (details .entry)) (now (work1 .entry)) (now (work2 .entry)) r (now (approx .exit)) (now (details .exit)) (now (work1 .exit)) (now (work2 .exit)) ⌝ }
+    ensures { λ r. ⌜ Dwt Filter.Cdf53I8 levels (now (x .entry)) (now (a .entry)) (now (d .entry)) (now (one .entry)) (now (two .entry)) r (now (a .exit)) (now (d .exit)) (now (one .exit)) (now (two .exit)) ⌝ }
 {
-    dwt(
-        Filter::Cdf53I8,
-        levels as usize,
-        signal,
-        approx,
-        details,
-        work1,
-        work2,
-    )
+    dwt(Filter::Cdf53I8, levels as usize, x, a, d, one, two)
 }
 
 #[no_mangle]
 pub extern "C" fn bk_cdf53_dwt_i16(
-    signal: &[u8],
+    x: &[u8],
     levels: u32,
-    approx: &mut [u8],
-    details: &mut [u8],
-    work1: &mut [u8],
-    work2: &mut [u8],
+    a: &mut [u8],
+    d: &mut [u8],
+    one: &mut [u8],
+    two: &mut [u8],
 ) -> Answer
-    ensures { λ r. ⌜ Dwt Filter.Cdf53I16 levels (now (signal .entry)) (now (approx .entry)) (now (details .entry)) (now (work1 .entry)) (now (work2 .entry)) r (now (approx .exit)) (now (details .exit)) (now (work1 .exit)) (now (work2 .exit)) ⌝ }
+    ensures { λ r. ⌜ Dwt Filter.Cdf53I16 levels (now (x .entry)) (now (a .entry)) (now (d .entry)) (now (one .entry)) (now (two .entry)) r (now (a .exit)) (now (d .exit)) (now (one .exit)) (now (two .exit)) ⌝ }
 {
-    dwt(
-        Filter::Cdf53I16,
-        levels as usize,
-        signal,
-        approx,
-        details,
-        work1,
-        work2,
-    )
+    dwt(Filter::Cdf53I16, levels as usize, x, a, d, one, two)
 }
 
 #[no_mangle]
 pub extern "C" fn bk_cdf53_dwt_i32(
-    signal: &[u8],
+    x: &[u8],
     levels: u32,
-    approx: &mut [u8],
-    details: &mut [u8],
-    work1: &mut [u8],
-    work2: &mut [u8],
+    a: &mut [u8],
+    d: &mut [u8],
+    one: &mut [u8],
+    two: &mut [u8],
 ) -> Answer
-    ensures { λ r. ⌜ Dwt Filter.Cdf53I32 levels (now (signal .entry)) (now (approx .entry)) (now (details .entry)) (now (work1 .entry)) (now (work2 .entry)) r (now (approx .exit)) (now (details .exit)) (now (work1 .exit)) (now (work2 .exit)) ⌝ }
+    ensures { λ r. ⌜ Dwt Filter.Cdf53I32 levels (now (x .entry)) (now (a .entry)) (now (d .entry)) (now (one .entry)) (now (two .entry)) r (now (a .exit)) (now (d .exit)) (now (one .exit)) (now (two .exit)) ⌝ }
 {
-    dwt(
-        Filter::Cdf53I32,
-        levels as usize,
-        signal,
-        approx,
-        details,
-        work1,
-        work2,
-    )
+    dwt(Filter::Cdf53I32, levels as usize, x, a, d, one, two)
 }
 
 #[no_mangle]
 pub extern "C" fn bk_cdf53_dwt_f32(
-    signal: &[u8],
+    x: &[u8],
     levels: u32,
-    approx: &mut [u8],
-    details: &mut [u8],
-    work1: &mut [u8],
-    work2: &mut [u8],
+    a: &mut [u8],
+    d: &mut [u8],
+    one: &mut [u8],
+    two: &mut [u8],
 ) -> Answer
-    ensures { λ r. ⌜ Dwt Filter.Cdf53F32 levels (now (signal .entry)) (now (approx .entry)) (now (details .entry)) (now (work1 .entry)) (now (work2 .entry)) r (now (approx .exit)) (now (details .exit)) (now (work1 .exit)) (now (work2 .exit)) ⌝ }
+    ensures { λ r. ⌜ Dwt Filter.Cdf53F32 levels (now (x .entry)) (now (a .entry)) (now (d .entry)) (now (one .entry)) (now (two .entry)) r (now (a .exit)) (now (d .exit)) (now (one .exit)) (now (two .exit)) ⌝ }
 {
-    dwt(
-        Filter::Cdf53F32,
-        levels as usize,
-        signal,
-        approx,
-        details,
-        work1,
-        work2,
-    )
+    dwt(Filter::Cdf53F32, levels as usize, x, a, d, one, two)
 }
 
 #[no_mangle]
 pub extern "C" fn bk_cdf53_dwt_f64(
-    signal: &[u8],
+    x: &[u8],
     levels: u32,
-    approx: &mut [u8],
-    details: &mut [u8],
-    work1: &mut [u8],
-    work2: &mut [u8],
+    a: &mut [u8],
+    d: &mut [u8],
+    one: &mut [u8],
+    two: &mut [u8],
 ) -> Answer
-    ensures { λ r. ⌜ Dwt Filter.Cdf53F64 levels (now (signal .entry)) (now (approx .entry)) (now (details .entry)) (now (work1 .entry)) (now (work2 .entry)) r (now (approx .exit)) (now (details .exit)) (now (work1 .exit)) (now (work2 .exit)) ⌝ }
+    ensures { λ r. ⌜ Dwt Filter.Cdf53F64 levels (now (x .entry)) (now (a .entry)) (now (d .entry)) (now (one .entry)) (now (two .entry)) r (now (a .exit)) (now (d .exit)) (now (one .exit)) (now (two .exit)) ⌝ }
 {
-    dwt(
-        Filter::Cdf53F64,
-        levels as usize,
-        signal,
-        approx,
-        details,
-        work1,
-        work2,
-    )
+    dwt(Filter::Cdf53F64, levels as usize, x, a, d, one, two)
 }
 
 #[no_mangle]
 pub extern "C" fn bk_cdf97_dwt_f32(
-    signal: &[u8],
+    x: &[u8],
     levels: u32,
-    approx: &mut [u8],
-    details: &mut [u8],
-    work1: &mut [u8],
-    work2: &mut [u8],
+    a: &mut [u8],
+    d: &mut [u8],
+    one: &mut [u8],
+    two: &mut [u8],
 ) -> Answer
-    ensures { λ r. ⌜ Dwt Filter.Cdf97F32 levels (now (signal .entry)) (now (approx .entry)) (now (details .entry)) (now (work1 .entry)) (now (work2 .entry)) r (now (approx .exit)) (now (details .exit)) (now (work1 .exit)) (now (work2 .exit)) ⌝ }
+    ensures { λ r. ⌜ Dwt Filter.Cdf97F32 levels (now (x .entry)) (now (a .entry)) (now (d .entry)) (now (one .entry)) (now (two .entry)) r (now (a .exit)) (now (d .exit)) (now (one .exit)) (now (two .exit)) ⌝ }
 {
-    dwt(
-        Filter::Cdf97F32,
-        levels as usize,
-        signal,
-        approx,
-        details,
-        work1,
-        work2,
-    )
+    dwt(Filter::Cdf97F32, levels as usize, x, a, d, one, two)
 }
 
 #[no_mangle]
 pub extern "C" fn bk_cdf97_dwt_f64(
-    signal: &[u8],
+    x: &[u8],
     levels: u32,
-    approx: &mut [u8],
-    details: &mut [u8],
-    work1: &mut [u8],
-    work2: &mut [u8],
+    a: &mut [u8],
+    d: &mut [u8],
+    one: &mut [u8],
+    two: &mut [u8],
 ) -> Answer
-    ensures { λ r. ⌜ Dwt Filter.Cdf97F64 levels (now (signal .entry)) (now (approx .entry)) (now (details .entry)) (now (work1 .entry)) (now (work2 .entry)) r (now (approx .exit)) (now (details .exit)) (now (work1 .exit)) (now (work2 .exit)) ⌝ }
+    ensures { λ r. ⌜ Dwt Filter.Cdf97F64 levels (now (x .entry)) (now (a .entry)) (now (d .entry)) (now (one .entry)) (now (two .entry)) r (now (a .exit)) (now (d .exit)) (now (one .exit)) (now (two .exit)) ⌝ }
 {
-    dwt(
-        Filter::Cdf97F64,
-        levels as usize,
-        signal,
-        approx,
-        details,
-        work1,
-        work2,
-    )
+    dwt(Filter::Cdf97F64, levels as usize, x, a, d, one, two)
+}
+
+// All levels, and back.
+
+#[no_mangle]
+pub extern "C" fn bk_cdf53_multi_dwt_i8(
+    x: &[u8],
+    levels: u32,
+    out: &mut [u8],
+    one: &mut [u8],
+    two: &mut [u8],
+) -> Answer
+    ensures { λ r. ⌜ Multi Filter.Cdf53I8 levels (now (x .entry)) (now (out .entry)) (now (one .entry)) (now (two .entry)) r (now (out .exit)) (now (one .exit)) (now (two .exit)) ⌝ }
+{
+    multi_dwt(Filter::Cdf53I8, levels as usize, x, out, one, two)
 }
 
 #[no_mangle]
+pub extern "C" fn bk_cdf53_multi_dwt_i16(
+    x: &[u8],
+    levels: u32,
+    out: &mut [u8],
+    one: &mut [u8],
+    two: &mut [u8],
+) -> Answer
+    ensures { λ r. ⌜ Multi Filter.Cdf53I16 levels (now (x .entry)) (now (out .entry)) (now (one .entry)) (now (two .entry)) r (now (out .exit)) (now (one .exit)) (now (two .exit)) ⌝ }
+{
+    multi_dwt(Filter::Cdf53I16, levels as usize, x, out, one, two)
+}
+
+#[no_mangle]
+pub extern "C" fn bk_cdf53_multi_dwt_i32(
+    x: &[u8],
+    levels: u32,
+    out: &mut [u8],
+    one: &mut [u8],
+    two: &mut [u8],
+) -> Answer
+    ensures { λ r. ⌜ Multi Filter.Cdf53I32 levels (now (x .entry)) (now (out .entry)) (now (one .entry)) (now (two .entry)) r (now (out .exit)) (now (one .exit)) (now (two .exit)) ⌝ }
+{
+    multi_dwt(Filter::Cdf53I32, levels as usize, x, out, one, two)
+}
+
+#[no_mangle]
+pub extern "C" fn bk_cdf53_multi_dwt_f32(
+    x: &[u8],
+    levels: u32,
+    out: &mut [u8],
+    one: &mut [u8],
+    two: &mut [u8],
+) -> Answer
+    ensures { λ r. ⌜ Multi Filter.Cdf53F32 levels (now (x .entry)) (now (out .entry)) (now (one .entry)) (now (two .entry)) r (now (out .exit)) (now (one .exit)) (now (two .exit)) ⌝ }
+{
+    multi_dwt(Filter::Cdf53F32, levels as usize, x, out, one, two)
+}
+
+#[no_mangle]
+pub extern "C" fn bk_cdf53_multi_dwt_f64(
+    x: &[u8],
+    levels: u32,
+    out: &mut [u8],
+    one: &mut [u8],
+    two: &mut [u8],
+) -> Answer
+    ensures { λ r. ⌜ Multi Filter.Cdf53F64 levels (now (x .entry)) (now (out .entry)) (now (one .entry)) (now (two .entry)) r (now (out .exit)) (now (one .exit)) (now (two .exit)) ⌝ }
+{
+    multi_dwt(Filter::Cdf53F64, levels as usize, x, out, one, two)
+}
+
+#[no_mangle]
+pub extern "C" fn bk_cdf97_multi_dwt_f32(
+    x: &[u8],
+    levels: u32,
+    out: &mut [u8],
+    one: &mut [u8],
+    two: &mut [u8],
+) -> Answer
+    ensures { λ r. ⌜ Multi Filter.Cdf97F32 levels (now (x .entry)) (now (out .entry)) (now (one .entry)) (now (two .entry)) r (now (out .exit)) (now (one .exit)) (now (two .exit)) ⌝ }
+{
+    multi_dwt(Filter::Cdf97F32, levels as usize, x, out, one, two)
+}
+
+#[no_mangle]
+pub extern "C" fn bk_cdf97_multi_dwt_f64(
+    x: &[u8],
+    levels: u32,
+    out: &mut [u8],
+    one: &mut [u8],
+    two: &mut [u8],
+) -> Answer
+    ensures { λ r. ⌜ Multi Filter.Cdf97F64 levels (now (x .entry)) (now (out .entry)) (now (one .entry)) (now (two .entry)) r (now (out .exit)) (now (one .exit)) (now (two .exit)) ⌝ }
+{
+    multi_dwt(Filter::Cdf97F64, levels as usize, x, out, one, two)
+}
+
+#[no_mangle]
+pub extern "C" fn bk_cdf53_multi_idwt_i8(
+    a: &[u8],
+    d: &[u8],
+    lengths: &[u8],
+    out: &mut [u8],
+    one: &mut [u8],
+    two: &mut [u8],
+) -> Answer
+    ensures { λ r. ⌜ MultiBack Filter.Cdf53I8 (now (a .entry)) (now (d .entry)) (now (lengths .entry)) (now (out .entry)) (now (one .entry)) (now (two .entry)) r (now (out .exit)) (now (one .exit)) (now (two .exit)) ⌝ }
+{
+    multi_idwt(Filter::Cdf53I8, a, d, lengths, out, one, two)
+}
+
+#[no_mangle]
+pub extern "C" fn bk_cdf53_multi_idwt_i16(
+    a: &[u8],
+    d: &[u8],
+    lengths: &[u8],
+    out: &mut [u8],
+    one: &mut [u8],
+    two: &mut [u8],
+) -> Answer
+    ensures { λ r. ⌜ MultiBack Filter.Cdf53I16 (now (a .entry)) (now (d .entry)) (now (lengths .entry)) (now (out .entry)) (now (one .entry)) (now (two .entry)) r (now (out .exit)) (now (one .exit)) (now (two .exit)) ⌝ }
+{
+    multi_idwt(Filter::Cdf53I16, a, d, lengths, out, one, two)
+}
+
+#[no_mangle]
+pub extern "C" fn bk_cdf53_multi_idwt_i32(
+    a: &[u8],
+    d: &[u8],
+    lengths: &[u8],
+    out: &mut [u8],
+    one: &mut [u8],
+    two: &mut [u8],
+) -> Answer
+    ensures { λ r. ⌜ MultiBack Filter.Cdf53I32 (now (a .entry)) (now (d .entry)) (now (lengths .entry)) (now (out .entry)) (now (one .entry)) (now (two .entry)) r (now (out .exit)) (now (one .exit)) (now (two .exit)) ⌝ }
+{
+    multi_idwt(Filter::Cdf53I32, a, d, lengths, out, one, two)
+}
+
+#[no_mangle]
+pub extern "C" fn bk_cdf53_multi_idwt_f32(
+    a: &[u8],
+    d: &[u8],
+    lengths: &[u8],
+    out: &mut [u8],
+    one: &mut [u8],
+    two: &mut [u8],
+) -> Answer
+    ensures { λ r. ⌜ MultiBack Filter.Cdf53F32 (now (a .entry)) (now (d .entry)) (now (lengths .entry)) (now (out .entry)) (now (one .entry)) (now (two .entry)) r (now (out .exit)) (now (one .exit)) (now (two .exit)) ⌝ }
+{
+    multi_idwt(Filter::Cdf53F32, a, d, lengths, out, one, two)
+}
+
+#[no_mangle]
+pub extern "C" fn bk_cdf53_multi_idwt_f64(
+    a: &[u8],
+    d: &[u8],
+    lengths: &[u8],
+    out: &mut [u8],
+    one: &mut [u8],
+    two: &mut [u8],
+) -> Answer
+    ensures { λ r. ⌜ MultiBack Filter.Cdf53F64 (now (a .entry)) (now (d .entry)) (now (lengths .entry)) (now (out .entry)) (now (one .entry)) (now (two .entry)) r (now (out .exit)) (now (one .exit)) (now (two .exit)) ⌝ }
+{
+    multi_idwt(Filter::Cdf53F64, a, d, lengths, out, one, two)
+}
+
+#[no_mangle]
+pub extern "C" fn bk_cdf97_multi_idwt_f32(
+    a: &[u8],
+    d: &[u8],
+    lengths: &[u8],
+    out: &mut [u8],
+    one: &mut [u8],
+    two: &mut [u8],
+) -> Answer
+    ensures { λ r. ⌜ MultiBack Filter.Cdf97F32 (now (a .entry)) (now (d .entry)) (now (lengths .entry)) (now (out .entry)) (now (one .entry)) (now (two .entry)) r (now (out .exit)) (now (one .exit)) (now (two .exit)) ⌝ }
+{
+    multi_idwt(Filter::Cdf97F32, a, d, lengths, out, one, two)
+}
+
+#[no_mangle]
+pub extern "C" fn bk_cdf97_multi_idwt_f64(
+    a: &[u8],
+    d: &[u8],
+    lengths: &[u8],
+    out: &mut [u8],
+    one: &mut [u8],
+    two: &mut [u8],
+) -> Answer
+    ensures { λ r. ⌜ MultiBack Filter.Cdf97F64 (now (a .entry)) (now (d .entry)) (now (lengths .entry)) (now (out .entry)) (now (one .entry)) (now (two .entry)) r (now (out .exit)) (now (one .exit)) (now (two .exit)) ⌝ }
+{
+    multi_idwt(Filter::Cdf97F64, a, d, lengths, out, one, two)
+}
+
+// The pyramid file.
+
+#[no_mangle]
 pub extern "C" fn bk_pyramid_write_i8(
-    signal: &[u8],
+    x: &[u8],
     levels: u32,
     point: u32,
     file: &mut [u8],
-    work1: &mut [u8],
-    work2: &mut [u8],
+    one: &mut [u8],
+    two: &mut [u8],
 ) -> Answer
-    ensures { λ r. ⌜ Write Filter.Cdf53I8 levels point (now (signal .entry)) (now (file .entry)) (now (work1 .entry)) (now (work2 .entry)) r (now (file .exit)) (now (work1 .exit)) (now (work2 .exit)) ⌝ }
+    ensures { λ r. ⌜ Write Filter.Cdf53I8 levels point (now (x .entry)) (now (file .entry)) (now (one .entry)) (now (two .entry)) r (now (file .exit)) (now (one .exit)) (now (two .exit)) ⌝ }
 {
-    write(
-        Filter::Cdf53I8,
-        levels as usize,
-        point,
-        signal,
-        file,
-        work1,
-        work2,
-    )
+    write(Filter::Cdf53I8, levels as usize, point, x, file, one, two)
 }
 
 #[no_mangle]
 pub extern "C" fn bk_pyramid_write_i16(
-    signal: &[u8],
+    x: &[u8],
     levels: u32,
     point: u32,
     file: &mut [u8],
-    work1: &mut [u8],
-    work2: &mut [u8],
+    one: &mut [u8],
+    two: &mut [u8],
 ) -> Answer
-    ensures { λ r. ⌜ Write Filter.Cdf53I16 levels point (now (signal .entry)) (now (file .entry)) (now (work1 .entry)) (now (work2 .entry)) r (now (file .exit)) (now (work1 .exit)) (now (work2 .exit)) ⌝ }
+    ensures { λ r. ⌜ Write Filter.Cdf53I16 levels point (now (x .entry)) (now (file .entry)) (now (one .entry)) (now (two .entry)) r (now (file .exit)) (now (one .exit)) (now (two .exit)) ⌝ }
 {
-    write(
-        Filter::Cdf53I16,
-        levels as usize,
-        point,
-        signal,
-        file,
-        work1,
-        work2,
-    )
+    write(Filter::Cdf53I16, levels as usize, point, x, file, one, two)
 }
 
 #[no_mangle]
 pub extern "C" fn bk_pyramid_write_i32(
-    signal: &[u8],
+    x: &[u8],
     levels: u32,
     point: u32,
     file: &mut [u8],
-    work1: &mut [u8],
-    work2: &mut [u8],
+    one: &mut [u8],
+    two: &mut [u8],
 ) -> Answer
-    ensures { λ r. ⌜ Write Filter.Cdf53I32 levels point (now (signal .entry)) (now (file .entry)) (now (work1 .entry)) (now (work2 .entry)) r (now (file .exit)) (now (work1 .exit)) (now (work2 .exit)) ⌝ }
+    ensures { λ r. ⌜ Write Filter.Cdf53I32 levels point (now (x .entry)) (now (file .entry)) (now (one .entry)) (now (two .entry)) r (now (file .exit)) (now (one .exit)) (now (two .exit)) ⌝ }
 {
-    write(
-        Filter::Cdf53I32,
-        levels as usize,
-        point,
-        signal,
-        file,
-        work1,
-        work2,
-    )
+    write(Filter::Cdf53I32, levels as usize, point, x, file, one, two)
 }
 
 #[no_mangle]
@@ -680,13 +474,13 @@ pub extern "C" fn bk_pyramid_open(
     file: &[u8],
     width: u32,
     point: u32,
-    output: &mut [u8],
-    work1: &mut [u8],
-    work2: &mut [u8],
+    out: &mut [u8],
+    one: &mut [u8],
+    two: &mut [u8],
 ) -> Answer
-    ensures { λ r. ⌜ Open (now (file .entry)) width point (now (output .entry)) (now (work1 .entry)) (now (work2 .entry)) r (now (output .exit)) (now (work1 .exit)) (now (work2 .exit)) ⌝ }
+    ensures { λ r. ⌜ Open (now (file .entry)) width point (now (out .entry)) (now (one .entry)) (now (two .entry)) r (now (out .exit)) (now (one .exit)) (now (two .exit)) ⌝ }
 {
-    open(file, width as usize, point as usize, output, work1, work2)
+    open(file, width as usize, point as usize, out, one, two)
 }
 
 // Where a section starts after its count, and how long it is: a part of the caller's own file.

@@ -1,4 +1,4 @@
--- The drivers' checks, each a list in document 01's order, and what each call promises. Over the filter.
+-- What the calls promise, over the filter: one level, and the drivers with their checks, each a list in document 01's order.
 -- Assumes nothing: these are definitions.
 use mathlib.Core.Bool.{Bool, cond, not}
 use mathlib.Core.List.{List, [], _∷_}
@@ -12,11 +12,19 @@ use Rattle.answers.specs.declared.err.Refusal.the-variants.{Done, MinFilterSize
 use Rattle.answers.specs.Answers.{answerOf}
 use Rattle.answers.specs.Checks.{Check, firstOf, ragged, tight, left, Spared}
 use Rattle.sizes.specs.Bands.{mostSamples, ups, downs}
+use Rattle.sizes.specs.Calls.{Forward, Inverse}
 use Rattle.sizes.specs.Levels.{places, depthOf, levelsOf}
 use Rattle.dwt.specs.declared.filter.Filter.{Filter}
 use Rattle.dwt.specs.declared.filter.Filter.the-variants.{Cdf53I8, Cdf53I16, Cdf53I32, Cdf53F32, Cdf53F64, Cdf97F32, Cdf97F64}
-use Rattle.dwt.specs.Filters.{widthOf, waveletOf, lowOf, highOf}
+use Rattle.dwt.specs.Filters.{widthOf, waveletOf, lowOf, highOf, backOf}
 use Rattle.dwt.specs.Pyramids.{approxAt, pyramid}
+
+-- one level of a filter, forward and back
+abbrev pub OneForward : Filter → List ℕ → List ℕ → List ℕ → Answer → List ℕ → List ℕ → Type 0
+OneForward f = Forward (waveletOf f) (widthOf f) (lowOf f) (highOf f)
+
+abbrev pub OneInverse : Filter → List ℕ → List ℕ → List ℕ → Answer → List ℕ → Type 0
+OneInverse f = Inverse (waveletOf f) (widthOf f) (backOf f)
 
 -- "for 0 or 1 levels and n too short, 1 in integer 5/3 and 4 in the float filters"
 abbrev pub short : Filter → ℕ → Refusal

@@ -4,8 +4,9 @@ ghost use mathlib.Core.Path.{_≡_};
 ghost use Prim.Native.Nat.{_*_, _<_, _^_};
 ghost use lib.ListN.{length, drop};
 ghost use Rattle.sizes.specs.Bands.{ups};
-ghost use Rattle.sizes.specs.Calls.{Level, Forward, Inverse};
-ghost use Rattle.dwt.specs.Filters.{widthOf, waveletOf, lowOf, highOf, backOf};
+ghost use Rattle.sizes.specs.Calls.{Level};
+ghost use Rattle.dwt.specs.Filters.{widthOf, waveletOf, lowOf, highOf};
+ghost use Rattle.dwt.specs.Calls.{OneForward, OneInverse};
 use answers::err::Answer;
 use cdf53i::cdf53i as integer;
 use floats::cdf53f;
@@ -63,7 +64,7 @@ pub fn wavelet(f: Filter) -> Wavelet
 
 // One level forward of any filter.
 pub fn execute_forward(f: Filter, input: &[u8], approx: &mut [u8], details: &mut [u8]) -> Answer
-    ensures { λ r. ⌜ Forward (waveletOf f) (widthOf f) (lowOf f) (highOf f) (now (input .entry)) (now (approx .entry)) (now (details .entry)) r (now (approx .exit)) (now (details .exit)) ⌝ }
+    ensures { λ r. ⌜ OneForward f (now (input .entry)) (now (approx .entry)) (now (details .entry)) r (now (approx .exit)) (now (details .exit)) ⌝ }
 {
     match f {
         Filter::Cdf53I8 => integer::execute_forward(1, input, approx, details),
@@ -78,7 +79,7 @@ pub fn execute_forward(f: Filter, input: &[u8], approx: &mut [u8], details: &mut
 
 // One level back of any filter.
 pub fn execute_inverse(f: Filter, approx: &[u8], details: &[u8], output: &mut [u8]) -> Answer
-    ensures { λ r. ⌜ Inverse (waveletOf f) (widthOf f) (backOf f) (now (approx .entry)) (now (details .entry)) (now (output .entry)) r (now (output .exit)) ⌝ }
+    ensures { λ r. ⌜ OneInverse f (now (approx .entry)) (now (details .entry)) (now (output .entry)) r (now (output .exit)) ⌝ }
 {
     match f {
         Filter::Cdf53I8 => integer::execute_inverse(1, approx, details, output),

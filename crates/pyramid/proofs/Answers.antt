@@ -29,7 +29,7 @@ use Rattle.pyramid.proofs.Sized.{file-length}
 use Rattle.pyramid.proofs.Restored.{whole-all, whole-less, whole-most}
 use Rattle.pyramid.proofs.Heads.{Recording}
 use Rattle.pyramid.proofs.Whole.{first-most, whole-is}
-use Rattle.pyramid.proofs.Survives.{Sampled, Roomy, Opening, cut-short, rooms-decide, survives}
+use Rattle.pyramid.proofs.Survives.{Sampled, Roomy, OpensTo, cut-short, rooms-decide, survives}
 
 -- in a whole file all sections are whole
 pub all-whole : (k l n : ℕ) → wholeOf k l n (fileSize k l n) ≡ l
@@ -70,7 +70,7 @@ rooms-plain k c o u v i = first (ltb (o / k) c) (ltb (u / k) c) (ltb (v / k) c)
 
 module _ (f : Filter) (l n p : ℕ) (x : List ℕ) (r : Recording f l n p x) (o u v : ℕ) (a : Sampled (widthOf f) o u v) where
   -- the whole file, with room for the samples: level 0, and the samples
-  pub opens-whole : Roomy (widthOf f) n o u v → Opening (fileOf f l p x) (widthOf f) p o u v 0 n x
+  pub opens-whole : Roomy (widthOf f) n o u v → OpensTo (fileOf f l p x) (widthOf f) p o u v 0 n x
   unfolding places approxAt
   opens-whole g =
       let k = widthOf f in
@@ -79,7 +79,7 @@ module _ (f : Filter) (l n p : ℕ) (x : List ℕ) (r : Recording f l n p x) (o 
       let q : l - wholeOf k l n b ≡ 0 = omega (arith, all-whole k l n) in
       let room : Roomy k (places (l - wholeOf k l n b) n) o u v = subst (λ (m : ℕ). Roomy k (places m n) o u v) (sym q) g in
       let i = survives f l n p x r o u v a b (omega (arith, first-most k l n)) (omega arith) room in
-      subst (λ (s : List ℕ). Opening s k p o u v 0 n x) e (subst (λ (m : ℕ). Opening (take b (fileOf f l p x)) k p o u v m (places m n) (approxAt f m x)) q i)
+      subst (λ (s : List ℕ). OpensTo s k p o u v 0 n x) e (subst (λ (m : ℕ). OpensTo (take b (fileOf f l p x)) k p o u v m (places m n) (approxAt f m x)) q i)
 
   -- whatever the room, opening is done, 7 or 10
   pub plain : (b : ℕ) → b ≤ fileSize (widthOf f) l n → Plain (answerOf (sayOpen (take b (fileOf f l p x)) (widthOf f) p o u v))

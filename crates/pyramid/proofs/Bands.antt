@@ -34,7 +34,7 @@ use Rattle.pyramid.specs.Sees.{wholeIn, reach}
 use Rattle.pyramid.proofs.Sized.{frontOf, front-length, body-length}
 use Rattle.pyramid.proofs.CutWalk.{walk-cut, reach-whole, past}
 use Rattle.pyramid.proofs.Restored.{bytes-whole}
-use Rattle.pyramid.proofs.Heads.{Recording, cut-parts, cut-length, head-is, head-passes}
+use Rattle.pyramid.proofs.Heads.{Recording, cut-parts, cut-length, head-is, own-head-passes}
 use Rattle.pyramid.proofs.Whole.{reach-none, reach-short}
 use Rattle.pyramid.proofs.Survives.{skip}
 
@@ -123,7 +123,7 @@ module _ (f : Filter) (l n p : ℕ) (x : List ℕ) (r : Recording f l n p x) (b 
       let numbers = numberChecks q (headIn s .levels) in
       let ways = sectionChecks (wayTo s q) (length s) in
       let end = Done (startOf s q) (lengthOf s q) in
-      skip (headChecks s k p) (numbers ++ ways) end (head-passes f l n p x b r c e)
+      skip (headChecks s k p) (numbers ++ ways) end (own-head-passes f l n p x b r c e)
       ∙ skip numbers ways end (numbers-pass q h g)
       ∙ ap (λ (v : Way). firstOf (sectionChecks v (length s)) end) (way-to q h g ∙ sym (reach-whole k (q - 1) (places (l + 1 - q) n) headSize (b - headSize) (omega arith)))
 
@@ -138,7 +138,7 @@ module _ (f : Filter) (l n p : ℕ) (x : List ℕ) (r : Recording f l n p x) (b 
       let end = Done (startOf s q) (lengthOf s q) in
       let m = places (l + 1 - q) n in
       let j = b - headSize in
-      skip (headChecks s k p) (numbers ++ ways) end (head-passes f l n p x b r c e)
+      skip (headChecks s k p) (numbers ++ ways) end (own-head-passes f l n p x b r c e)
       ∙ skip numbers ways end (numbers-pass q h g)
       ∙ ⊎-elim
       (λ (a : j < bodySize k 0 (places (q - 1) m)). short-stops (wayTo s q) 1 (length s) end (way-to q h g ∙ reach-none k (q - 1) m headSize j a))

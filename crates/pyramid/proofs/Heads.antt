@@ -60,13 +60,13 @@ common Cdf97F32 i = absurd i
 common Cdf97F64 i = absurd i
 
 -- no number of samples has more levels than the power of two above it
-pub depth-below : (k n : ℕ) → n ≤ 2 ^ suc k → depthOf Cdf53 n ≤ k
-depth-below zero n h = omega (arith, too-short 3 (omega arith) n (omega arith))
-depth-below (suc k) n h =
+pub depth-at-most : (k n : ℕ) → n ≤ 2 ^ suc k → depthOf Cdf53 n ≤ k
+depth-at-most zero n h = omega (arith, too-short 3 (omega arith) n (omega arith))
+depth-at-most (suc k) n h =
     let e : 2 ^ suc (suc k) ≡ 2 * 2 ^ suc k = pow-succ' 2 (suc k) in
     ⊎-elim
     (λ (g : n < 3). omega (arith, too-short 3 (omega arith) n g))
-    (λ (g : 3 ≤ n). omega (arith, one-more 3 (omega arith) n g, depth-below k (ups n) (omega arith)))
+    (λ (g : 3 ≤ n). omega (arith, one-more 3 (omega arith) n g, depth-at-most k (ups n) (omega arith)))
     (lt-or-le n 3)
 
 -- what is left of a file that was cut after section 0: section 0, and of the rest so many bytes less
@@ -109,13 +109,13 @@ module _ (f : Filter) (l p n : ℕ) (x : List ℕ) (b : ℕ) (h : length x ≡ w
   head-read gw gl gn gp = λ i. record { width = width-read gw i; levels = levels-read gl i; samples = samples-read gn i; point = point-read gp i }
 
 -- the levels of a recording are few
-pub few-levels : {f : Filter} {l n p : ℕ} {x : List ℕ} → Recording f l n p x → l ≤ 23
-few-levels {n = n} r = omega (arith, r .deep, depth-below 23 n (r .most))
+pub levels-at-most : {f : Filter} {l n p : ℕ} {x : List ℕ} → Recording f l n p x → l ≤ 23
+levels-at-most {n = n} r = omega (arith, r .deep, depth-at-most 23 n (r .most))
 
 -- so the file is not too long
 pub file-most : (f : Filter) (l n p : ℕ) (x : List ℕ) → Recording f l n p x → fileSize (widthOf f) l n ≤ mostBytes
 file-most f l n p x r =
-    let g = few-levels r in
+    let g = levels-at-most r in
     let w = mul-le-mul-right n (common f (r .integers) .narrow) in
     omega (arith, r .most)
 
@@ -126,12 +126,12 @@ cut-length f l n p x b h c = length-take-le b (fileOf f l p x) (omega (arith, fi
 -- the header of a recording's file
 pub head-is : (f : Filter) (l n p : ℕ) (x : List ℕ) (b : ℕ) → Recording f l n p x → headSize ≤ b
     → headIn (take b (fileOf f l p x)) ≡ record { width = widthOf f; levels = l; samples = n; point = p }
-head-is f l n p x b r c = head-read f l p n x b (r .size) c (common f (r .integers) .narrow) (omega (arith, few-levels r)) (omega (arith, r .most)) (r .point)
+head-is f l n p x b r c = head-read f l p n x b (r .size) c (common f (r .integers) .narrow) (omega (arith, levels-at-most r)) (omega (arith, r .most)) (r .point)
 
 -- the checks of section 0 let the file by
-pub head-passes : (f : Filter) (l n p : ℕ) (x : List ℕ) (b : ℕ) → Recording f l n p x → headSize ≤ b → b ≤ fileSize (widthOf f) l n
+pub own-head-passes : (f : Filter) (l n p : ℕ) (x : List ℕ) (b : ℕ) → Recording f l n p x → headSize ≤ b → b ≤ fileSize (widthOf f) l n
     → Passing (headChecks (take b (fileOf f l p x)) (widthOf f) p)
-head-passes f l n p x b r c e =
+own-head-passes f l n p x b r c e =
     let s = take b (fileOf f l p x) in
     let k = widthOf f in
     let w = head-is f l n p x b r c in

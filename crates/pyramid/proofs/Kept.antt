@@ -36,7 +36,7 @@ use Rattle.pyramid.specs.Sees.{needed, wholeOf}
 use Rattle.pyramid.proofs.Sized.{file-length}
 use Rattle.pyramid.proofs.Heads.{Recording, common}
 use Rattle.pyramid.proofs.Whole.{first-most}
-use Rattle.pyramid.proofs.Survives.{Sampled, Roomy, roomy-less, cut-short, survives, count-is}
+use Rattle.pyramid.proofs.Survives.{Sampled, Roomy, roomy-less, cut-short, survives, count-left}
 
 early-refuses : (f : Filter) → Integers f → (n : ℕ) (t : Bool) → done (cond t (short f n) BufferWasTooSmallForLevel) ≡ false
 early-refuses f i n true = ap done (common f i .early n)
@@ -123,7 +123,7 @@ module _ (f : Filter) (l p : ℕ) (x : List ℕ) (i : Integers f) (bx : Bytes x)
         let t = survives f (levelsOf l) n p x written (length o) (length g) (length h) y c e d roomy in
         let q : said ≡ Done i (places i n) = ap (λ (m : List ℕ). sayOpen m k p (length o) (length g) (length h)) (front d) ∙ t .says in
         let xs : samplesIn s ≡ approxAt f i x = ap samplesIn (front d) ∙ t .samples in
-        let cs : countIn s ≡ places i n = ap countIn (front d) ∙ count-is f (levelsOf l) n p x written c e d in
+        let cs : countIn s ≡ places i n = ap countIn (front d) ∙ count-left f (levelsOf l) n p x written c e d in
         subst (λ (q : ℕ). (r ≡ say 0 q (places q n)) × (o′ ≡ approxAt f q x ++ drop (k * places q n) o)) ej (
           open′ .answer ∙ ap answerOf q,
           open′ .output ∙ ap (λ (m : Refusal). left m (samplesIn s ++ drop (k * countIn s) o) o) q ∙ ap₂ (λ (m : List ℕ) (e : ℕ). m ++ drop (k * e) o) xs cs,

@@ -46,13 +46,13 @@ filter-wavelet w = pick (eqb w 1) (eqb w 2)
     pick false false = refl
 
 -- levels within the depth: those that are left after i of them are within the depth of what is left
-pub depth-below : (w : Wavelet) (i l n : ℕ) → i ≤ l → l ≤ depthOf w n → l - i ≤ depthOf w (places i n)
+pub depth-rest : (w : Wavelet) (i l n : ℕ) → i ≤ l → l ≤ depthOf w n → l - i ≤ depthOf w (places i n)
 unfolding places
-depth-below w zero l n h d = omega arith
-depth-below w (suc i) l n h d =
+depth-rest w zero l n h d = omega arith
+depth-rest w (suc i) l n h d =
     let e : suc (l - 1) ≤ depthOf w n = omega arith in
     let s = step (smallestOf w) (two-below w) (l - 1) n e in
-    let r = depth-below w i (l - 1) (ups n) (omega arith) (s .1) in
+    let r = depth-rest w i (l - 1) (ups n) (omega arith) (s .1) in
     omega (arith, r)
 
 -- what section 0 tells when its checks let by
@@ -144,7 +144,7 @@ open-ready s w p o u v h =
     let wy = way-passes s k l n (wayIn s) refl (hd .there) (qw .0) in
     let ar = area-passes w o u v (hd .known) (qa .0) in
     let left : l - (l - m) ≡ m = omega (arith, wy .0) in
-    let dp = depth-below Cdf53 (l - m) l n (omega arith) (hd .deep) in
+    let dp = depth-rest Cdf53 (l - m) l n (omega arith) (hd .deep) in
     let lo = mul-le-mul-left w (roomy (o / w) (countIn s) (qw .1 .0)) in
     let lu = mul-le-mul-left w (roomy (u / w) (countIn s) (qw .1 .1 .0)) in
     let lv = mul-le-mul-left w (roomy (v / w) (countIn s) (qw .1 .1 .1 .0)) in

@@ -34,7 +34,7 @@ use Rattle.pyramid.specs.Sees.{needed, wholeOf, wholeIn, reach}
 use Rattle.pyramid.proofs.Sized.{frontOf, front-length, body-length}
 use Rattle.pyramid.proofs.CutWalk.{walk-cut, reach-whole}
 use Rattle.pyramid.proofs.Restored.{restored-cut, whole-all}
-use Rattle.pyramid.proofs.Heads.{Recording, common, cut-parts, cut-length, file-most, head-is, head-passes}
+use Rattle.pyramid.proofs.Heads.{Recording, common, cut-parts, cut-length, file-most, head-is, own-head-passes}
 use Rattle.pyramid.proofs.Whole.{first-most, reach-none, reach-short, whole-is}
 
 -- the output and the work areas, of o, u and v bytes, are whole samples of k bytes
@@ -70,7 +70,7 @@ rooms-pass : (k c o u v : ℕ) → 0 < k → Roomy k c o u v → Passing (roomsF
 rooms-pass k c o u v kp r = (enough k c o kp (r .output), (enough k c u kp (r .first), (enough k c v kp (r .second), tt)))
 
 -- what opening s is to give: the level, that many samples, and which
-pub record Opening (s : List ℕ) (k p o u v level count : ℕ) (x : List ℕ) : Type 0 where
+pub record OpensTo (s : List ℕ) (k p o u v level count : ℕ) (x : List ℕ) : Type 0 where
   pub says : sayOpen s k p o u v ≡ Done level count
   pub samples : samplesIn s ≡ x
 
@@ -125,8 +125,8 @@ module _ (f : Filter) (l n p : ℕ) (x : List ℕ) (r : Recording f l n p x) whe
       ap (λ (h : Head). h .levels - wholeDetails (wayIn s) (h .levels)) (head-is f l n p x b r (omega arith)) ∙ ap (λ (m : ℕ). l - m) (details-are b c e)
 
   -- how many samples it has
-  pub count-is : (b : ℕ) → needed (widthOf f) l n ≤ b → b ≤ fileSize (widthOf f) l n → countIn (take b (fileOf f l p x)) ≡ places (l - wholeOf (widthOf f) l n b) n
-  count-is b c e = ap₂ places (level-is b c e) (ap (λ (h : Head). h .samples) (head-is f l n p x b r (omega arith)))
+  pub count-left : (b : ℕ) → needed (widthOf f) l n ≤ b → b ≤ fileSize (widthOf f) l n → countIn (take b (fileOf f l p x)) ≡ places (l - wholeOf (widthOf f) l n b) n
+  count-left b c e = ap₂ places (level-is b c e) (ap (λ (h : Head). h .samples) (head-is f l n p x b r (omega arith)))
 
   -- and which: the approximations of that level
   pub samples-are : (b : ℕ) → needed (widthOf f) l n ≤ b → b ≤ fileSize (widthOf f) l n → samplesIn (take b (fileOf f l p x)) ≡ approxAt f (l - wholeOf (widthOf f) l n b) x
@@ -142,7 +142,7 @@ module _ (f : Filter) (l n p : ℕ) (x : List ℕ) (r : Recording f l n p x) whe
       let m = wholeOf k l n b in
       ap (λ (h : Head). restoredOf (filterOf (h .width)) s (wholeDetails (wayIn s) (h .levels)) (countIn s) headSize) (head-is f l n p x b r (omega arith))
       ∙ ap (λ (g : Filter). restoredOf g s (wholeDetails (wayIn s) l) (countIn s) headSize) (i .again)
-      ∙ ap₂ (λ (q c : ℕ). restoredOf f s q c headSize) (details-are b c e) (count-is b c e)
+      ∙ ap₂ (λ (q c : ℕ). restoredOf f s q c headSize) (details-are b c e) (count-left b c e)
       ∙ ap (λ (t : List ℕ). restoredOf f t m (places (l - m) n) headSize) (cut-parts f l p n x b (r .size) (omega arith))
       ∙ subst (λ (q : ℕ). restoredOf f (front ++ take j (body ++ [])) q (places (l - q) n) headSize ≡ approxAt f (l - q) x) (whole-is k l n b c)
       (subst (λ (a : ℕ). restoredOf f (front ++ take j (body ++ [])) (wholeIn k l n j) (places (l - wholeIn k l n j) n) a ≡ approxAt f (l - wholeIn k l n j) x) (front-length f l n p)
@@ -166,7 +166,7 @@ module _ (f : Filter) (l n p : ℕ) (x : List ℕ) (r : Recording f l n p x) whe
         ∙ ⊎-elim
         (λ (h : b < headSize). sym (by _ (le-ltb mostBytes (length s) (omega arith)) (stop _ (lt-ltb (length s) headSize (omega arith)) (ap CutShort (sym size)))))
         (λ (h : headSize ≤ b).
-        skip (headChecks s k p) (ways ++ rooms) end (head-passes f l n p x b r h e)
+        skip (headChecks s k p) (ways ++ rooms) end (own-head-passes f l n p x b r h e)
         ∙ ap (λ (y : Way). firstOf (wayChecks y (length s) ++ rooms) end) (way-is b h e ∙ reach-none k l n headSize (b - headSize) (omega arith))
         ∙ ap CutShort size)
         (lt-or-le b headSize)
@@ -183,13 +183,13 @@ module _ (f : Filter) (l n p : ℕ) (x : List ℕ) (r : Recording f l n p x) whe
         let ways = wayChecks (wayIn s) (length s) in
         let end = Done (levelIn s) (countIn s) in
         skip (areaChecks k o u v) (headChecks s k p ++ (ways ++ rooms)) end (areas-pass k o u v (common f (r .integers) .width) a)
-        ∙ skip (headChecks s k p) (ways ++ rooms) end (head-passes f l n p x b r (omega arith) e)
+        ∙ skip (headChecks s k p) (ways ++ rooms) end (own-head-passes f l n p x b r (omega arith) e)
         ∙ skip ways rooms end (way-passes b c e)
-        ∙ ap₂ (λ (i j : ℕ). firstOf (roomsFor k j o u v) (Done i j)) (level-is b c e) (count-is b c e)
+        ∙ ap₂ (λ (i j : ℕ). firstOf (roomsFor k j o u v) (Done i j)) (level-is b c e) (count-left b c e)
 
     -- with room for the level that the whole sections reach: that level, and just its approximations
     pub survives : (b : ℕ) → needed (widthOf f) l n ≤ b → b ≤ fileSize (widthOf f) l n → Roomy (widthOf f) (places (l - wholeOf (widthOf f) l n b) n) o u v
-        → Opening (take b (fileOf f l p x)) (widthOf f) p o u v (l - wholeOf (widthOf f) l n b) (places (l - wholeOf (widthOf f) l n b) n) (approxAt f (l - wholeOf (widthOf f) l n b) x)
+        → OpensTo (take b (fileOf f l p x)) (widthOf f) p o u v (l - wholeOf (widthOf f) l n b) (places (l - wholeOf (widthOf f) l n b) n) (approxAt f (l - wholeOf (widthOf f) l n b) x)
     survives b c e g =
         let k = widthOf f in
         let i = l - wholeOf k l n b in

@@ -173,6 +173,10 @@ write-ready f l x b u v h =
       roomy b (fileSize k (levelsOf l) (x / k)) (q .1 .1 .0),
     )
 
+-- the same of i levels and k bytes, which are the ones asked for
+pub ready-for : (f : Filter) (l x b u v i k : ℕ) → i ≡ levelsOf l → k ≡ widthOf f → done (sayWrite f l x b u v) ≡ true → Ready f i (x / k) x u v × (fileSize (widthOf f) i (x / k) ≤ b)
+ready-for f l x b u v i k ei ek h = rw (ei, ek) (write-ready f l x b u v h)
+
 module _ (f : Filter) (l p : ℕ) (x b u v : List ℕ) where
   abbrev said : Refusal
   said = sayWrite f l (length x) (length b) (length u) (length v)

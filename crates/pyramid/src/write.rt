@@ -183,7 +183,8 @@ pub fn write(
     let r = numbers(said);
     if is_done(said) {
         let n = signal.len() / width(f);
-        lay_file(f, at_least_one(levels), n, point, signal, file, one, two);
+        let l = at_least_one(levels);
+        lay_file(f, l, n, point, signal, file, one, two);
     }
     r
 }

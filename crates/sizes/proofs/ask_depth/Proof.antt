@@ -14,6 +14,5 @@ ask-depth-spec =
     (tie.spec
     (λ c κs. search needs)
     (λ c. c .numbers .ensures ∙ ap answerOf (stop _ (lt-ltb _ _ (c .before .if1 .taken)) refl))
-    (λ c κs. search needs)
-    (λ c κs. search needs)
+    (λ c κs. search needs) (λ c κs. search needs)
     (λ c. c .numbers2 .ensures ∙ ap answerOf (by _ (le-ltb _ _ (c .before .before .if1 .left)) (ap (λ d. Done d 0) (c .before .depth .ensures)))))

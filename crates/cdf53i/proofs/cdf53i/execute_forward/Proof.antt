@@ -31,11 +31,6 @@ pub execute-forward-spec : {M : Type 1} → statement M
 execute-forward-spec =
     tie.close
     (tie.spec
-    (λ c κs. width-of _ (c .before .before .before .pre) .some)
-    (λ c κs. search needs)
-    (λ c κs. search needs)
-    forward-requires
-    (λ c. search needs)
-    (λ c. search needs)
-    returns
+    (λ c κs. width-of _ (c .before .before .before .pre) .some) (λ c κs. search needs)
+    (λ c κs. search needs) forward-requires (λ c. search needs) (λ c. search needs) returns
     returns-2)

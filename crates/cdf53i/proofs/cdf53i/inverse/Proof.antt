@@ -37,16 +37,7 @@ pub inverse-spec : {M : Type 1} → statement M
 inverse-spec =
     tie.close
     (tie.spec
-    Inv-loop
-    μ-loop
-    (λ c. c .before .before .before .pre .input .width .some)
-    (λ c. omega arith)
-    (λ c κs. (c .before .before .before .pre .input .width, omega arith))
-    loop-holds
-    restore-pair-requires
-    (λ c. omega arith)
-    (λ c. omega arith)
-    loop-again
-    restore-end-requires
-    (λ c. search needs)
-    (λ c. c .before .before .restore-end .ensures))
+    Inv-loop μ-loop (λ c. c .before .before .before .pre .input .width .some) (λ c. omega arith)
+    (λ c κs. (c .before .before .before .pre .input .width, omega arith)) loop-holds
+    restore-pair-requires (λ c. omega arith) (λ c. omega arith) loop-again restore-end-requires
+    (λ c. search needs) (λ c. c .before .before .restore-end .ensures))

@@ -38,20 +38,8 @@ pub predict-spec : {M : Type 1} → statement M
 predict-spec =
     tie.close
     (tie.spec
-    Inv-loop
-    μ-loop
-    (λ c. c .before .before .pre .0 .width .some)
-    (λ c. omega arith)
-    (λ c. (omega arith, front-none _ (c .before .before .pre .1)))
-    (λ c. search needs)
-    (λ c κs. search needs)
-    (λ c κs. search needs)
-    (λ c. search needs)
-    (λ c. omega arith)
-    loop-again
-    (λ c. search needs)
-    (λ c. search needs)
-    (λ c κs. search needs)
-    (λ c κs. search needs)
-    (λ c. omega arith)
-    returns)
+    Inv-loop μ-loop (λ c. c .before .before .pre .0 .width .some) (λ c. omega arith)
+    (λ c. (omega arith, front-none _ (c .before .before .pre .1))) (λ c. search needs)
+    (λ c κs. search needs) (λ c κs. search needs) (λ c. search needs) (λ c. omega arith) loop-again
+    (λ c. search needs) (λ c. search needs) (λ c κs. search needs) (λ c κs. search needs)
+    (λ c. omega arith) returns)

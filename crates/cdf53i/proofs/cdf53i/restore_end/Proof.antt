@@ -88,24 +88,8 @@ pub restore-end-spec : {M : Type 1} → statement M
 restore-end-spec =
     tie.close
     (tie.spec
-    (λ c. search needs)
-    (λ c κs. search needs)
-    (λ c. search needs)
-    (λ c. search needs)
-    (λ c κs. search needs)
-    (λ c κs. search needs)
-    put-requires-2
-    (λ c. search needs)
-    even-at-requires
-    (λ c. search needs)
-    (λ c. search needs)
-    (λ c κs. search needs)
-    (λ c κs. search needs)
-    put-requires-3
-    (λ c. search needs)
-    (λ c. search needs)
-    put-requires-4
-    (λ c. search needs)
-    returns
-    (λ c. search needs)
-    returns-2)
+    (λ c. search needs) (λ c κs. search needs) (λ c. search needs) (λ c. search needs)
+    (λ c κs. search needs) (λ c κs. search needs) put-requires-2 (λ c. search needs)
+    even-at-requires (λ c. search needs) (λ c. search needs) (λ c κs. search needs)
+    (λ c κs. search needs) put-requires-3 (λ c. search needs) (λ c. search needs) put-requires-4
+    (λ c. search needs) returns (λ c. search needs) returns-2)

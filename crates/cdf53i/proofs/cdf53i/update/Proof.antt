@@ -46,23 +46,10 @@ pub update-spec : {M : Type 1} → statement M
 update-spec =
     tie.close
     (tie.spec
-    Inv-loop
-    μ-loop
-    (λ c. c .before .before .before .pre .input .width .some)
-    (λ c. search needs)
-    (λ c. search needs)
-    (λ c κs. search needs)
-    (λ c κs. search needs)
-    loop-holds
+    Inv-loop μ-loop (λ c. c .before .before .before .pre .input .width .some) (λ c. search needs)
+    (λ c. search needs) (λ c κs. search needs) (λ c κs. search needs) loop-holds (λ c. search needs)
+    (λ c κs. asked (c .before .before .before .before .before .before .before .before .before .before .before) (omega arith))
+    (λ c κs. search needs) (λ c. search needs) (λ c. omega arith) loop-again (λ c. search needs)
     (λ c. search needs)
     (λ c κs. asked (c .before .before .before .before .before .before .before .before .before .before .before) (omega arith))
-    (λ c κs. search needs)
-    (λ c. search needs)
-    (λ c. omega arith)
-    loop-again
-    (λ c. search needs)
-    (λ c. search needs)
-    (λ c κs. asked (c .before .before .before .before .before .before .before .before .before .before .before) (omega arith))
-    (λ c κs. search needs)
-    (λ c. omega arith)
-    returns)
+    (λ c κs. search needs) (λ c. omega arith) returns)

@@ -32,19 +32,10 @@ pub update-within-spec : {M : Type 1} → statement M
 update-within-spec =
     tie.close
     (tie.spec
-    Inv-loop
-    μ-loop
-    (λ c. c .before .before .pre .0 .width .some)
-    (λ c. omega arith)
+    Inv-loop μ-loop (λ c. c .before .before .pre .0 .width .some) (λ c. omega arith)
     (λ c. omega arith)
     (λ c. (omega arith, refl, within-none _ (c .before .before .pre .0 .samples)))
     (λ c κs. let h = c .before .before .loop .inv .2 .front .holds in (c .before .before .before .before .before .pre .0 .width, (holds-now h, omega arith)))
-    (λ c κs. search needs)
-    (λ c. omega arith)
-    (λ c. omega arith)
-    loop-again
-    (λ c. omega arith)
+    (λ c κs. search needs) (λ c. omega arith) (λ c. omega arith) loop-again (λ c. omega arith)
     (λ c κs. let h = c .before .before .loop .inv .2 .front .holds in (c .before .before .before .before .before .pre .0 .width, (holds-now h, omega arith)))
-    (λ c κs. search needs)
-    (λ c. omega arith)
-    returns)
+    (λ c κs. search needs) (λ c. omega arith) returns)

@@ -9,6 +9,5 @@ unfolding quarter
 quarter-of-spec =
     tie.close
     (tie.spec
-    (λ c. rw (c .if1 .taken))
-    (λ c. rw (c .if2 .taken))
+    (λ c. rw (c .if1 .taken)) (λ c. rw (c .if2 .taken))
     (λ c. rw (four (c .before .before .pre) (c .before .if1 .left) (c .if2 .left))))

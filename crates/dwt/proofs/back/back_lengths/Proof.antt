@@ -91,15 +91,9 @@ pub back-lengths-spec : {M : Type 1} → statement M
 back-lengths-spec =
     tie.close
     (tie.spec
-    (λ c κs. search needs)
-    (λ c κs. search needs)
-    returns
-    (λ c κs. within c .2)
-    returns-2
+    (λ c κs. search needs) (λ c κs. search needs) returns (λ c κs. within c .2) returns-2
     (λ c κs. search needs)
     (λ c κs. omega (arith, within (c .before .before .before), c .before .before .total-of .ensures, c .before .if2 .left))
-    (λ c κs. search needs)
-    returns-3
+    (λ c κs. search needs) returns-3
     (λ c. omega (arith, within (c .before .before .before .before .before .before)))
-    (λ c κs. search needs)
-    returns-4)
+    (λ c κs. search needs) returns-4)

@@ -56,15 +56,8 @@ pub band-lengths-spec : {M : Type 1} → statement M
 band-lengths-spec =
     tie.close
     (tie.spec
-    Inv-loop
-    μ-loop
-    (λ c. (omega arith, refl, refl))
-    (λ c κs. search needs)
-    (λ c κs. omega (arith, left c, c .before .before .before .before .pre))
-    (λ c κs. search needs)
+    Inv-loop μ-loop (λ c. (omega arith, refl, refl)) (λ c κs. search needs)
+    (λ c κs. omega (arith, left c, c .before .before .before .before .pre)) (λ c κs. search needs)
     returns
     (λ c. omega (arith, left (c .before .before .before), c .before .before .before .before .before .before .before .pre))
-    (λ c. search needs)
-    (λ c. omega arith)
-    loop-again
-    returns-2)
+    (λ c. search needs) (λ c. omega arith) loop-again returns-2)

@@ -12,18 +12,13 @@ pub level-lengths-spec : {M : Type 1} → statement M
 level-lengths-spec =
     tie.close
     (tie.spec
-    (λ c. search needs)
-    (λ c κs. search needs)
-    (λ c.
-    let e = c .before .dwt-size .ensures .0 in
+    (λ c. search needs) (λ c κs. search needs) (λ c. let e = c .before .dwt-size .ensures .0 in
     let a = c .before .before .args in
     stop _ (other (a .a) (expectedApprox (a .a + a .m)) (λ h. c .if1 .taken (h ∙ sym e))) (ap (λ n. ApproxSizeNotMatches n (a .a)) e))
-    (λ c.
-    let s = c .before .before .before .dwt-size .ensures in
+    (λ c. let s = c .before .before .before .dwt-size .ensures in
     let a = c .before .before .before .before .args in
     by _ (same (a .a) (expectedApprox (a .a + a .m)) (c .before .before .if1 .left ∙ s .0))
     (stop _ (other (a .m) (expectedDetails (a .w) (a .a + a .m)) (λ h. c .if2 .taken (h ∙ sym (s .1)))) (ap (λ n. ApproxSizeNotMatches n (a .a)) (s .0))))
-    (λ c.
-    let s = c .before .before .before .dwt-size .ensures in
+    (λ c. let s = c .before .before .before .dwt-size .ensures in
     let a = c .before .before .before .before .args in
     by _ (same (a .a) (expectedApprox (a .a + a .m)) (c .before .before .if1 .left ∙ s .0)) (by _ (same (a .m) (expectedDetails (a .w) (a .a + a .m)) (c .if2 .left ∙ s .1)) refl)))

@@ -57,15 +57,6 @@ pub multi-idwt-spec : {M : Type 1} → statement M
 multi-idwt-spec =
     tie.close
     (tie.spec
-    (λ c κs. search needs)
-    (λ c κs. search needs)
-    (λ c κs. search needs)
-    (λ c κs. fits (c .before))
-    (λ c κs. search needs)
-    (λ c. search needs)
-    up-requires
-    (λ c. search needs)
-    (λ c. search needs)
-    (λ c. search needs)
-    returns
-    returns-2)
+    (λ c κs. search needs) (λ c κs. search needs) (λ c κs. search needs) (λ c κs. fits (c .before))
+    (λ c κs. search needs) (λ c. search needs) up-requires (λ c. search needs) (λ c. search needs)
+    (λ c. search needs) returns returns-2)

@@ -15,6 +15,4 @@ pub bytes-of-spec : {M : Type 1} → statement M
 bytes-of-spec =
     tie.close
     (tie.spec
-    (λ c κs. search needs)
-    (λ c. omega (arith, product c))
-    (λ c. product c))
+    (λ c κs. search needs) (λ c. omega (arith, product c)) (λ c. product c))

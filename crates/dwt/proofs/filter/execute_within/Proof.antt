@@ -56,38 +56,12 @@ pub execute-within-spec : {M : Type 1} → statement M
 execute-within-spec =
     tie.close
     (tie.spec
-    (λ c. search needs)
-    forward-within-requires
-    (λ c. search needs)
-    forward-within-requires-2
-    (λ c. search needs)
-    forward-within-requires-3
-    (λ c. search needs)
-    forward-within-f32-requires
-    (λ c. search needs)
-    forward-within-f64-requires
-    (λ c. search needs)
-    forward-within-f32-requires-2
-    (λ c. search needs)
-    forward-within-f64-requires-2
-    (λ c. search needs)
-    (λ c. search needs)
-    returns
-    (λ c. search needs)
-    (λ c. search needs)
-    returns-2
-    (λ c. search needs)
-    (λ c. search needs)
-    returns-3
-    (λ c. search needs)
-    (λ c. search needs)
-    returns-4
-    (λ c. search needs)
-    (λ c. search needs)
-    returns-5
-    (λ c. search needs)
-    (λ c. search needs)
-    returns-6
-    (λ c. search needs)
-    (λ c. search needs)
+    (λ c. search needs) forward-within-requires (λ c. search needs) forward-within-requires-2
+    (λ c. search needs) forward-within-requires-3 (λ c. search needs) forward-within-f32-requires
+    (λ c. search needs) forward-within-f64-requires (λ c. search needs)
+    forward-within-f32-requires-2 (λ c. search needs) forward-within-f64-requires-2
+    (λ c. search needs) (λ c. search needs) returns (λ c. search needs) (λ c. search needs)
+    returns-2 (λ c. search needs) (λ c. search needs) returns-3 (λ c. search needs)
+    (λ c. search needs) returns-4 (λ c. search needs) (λ c. search needs) returns-5
+    (λ c. search needs) (λ c. search needs) returns-6 (λ c. search needs) (λ c. search needs)
     returns-7)

@@ -82,14 +82,6 @@ pub descend-spec : {M : Type 1} → statement M
 descend-spec =
     tie.close
     (tie.spec
-    Inv-loop
-    μ-loop
-    loop-holds
-    level-within-requires
-    (λ c. omega arith)
-    (λ c. search needs)
-    (λ c. omega arith)
-    loop-again
-    (λ c. c .before .loop .inv .5)
-    (λ c. c .before .loop .inv .6)
+    Inv-loop μ-loop loop-holds level-within-requires (λ c. omega arith) (λ c. search needs)
+    (λ c. omega arith) loop-again (λ c. c .before .loop .inv .5) (λ c. c .before .loop .inv .6)
     returns)

@@ -102,23 +102,13 @@ pub dwt-spec : {M : Type 1} → statement M
 dwt-spec =
     tie.close
     (tie.spec
-    (λ c κs. search needs)
-    (λ c κs. search needs)
-    (λ c κs. search needs)
-    (λ c κs. search needs)
-    (λ c. search needs)
-    (λ c κs. search needs)
+    (λ c κs. search needs) (λ c κs. search needs) (λ c κs. search needs) (λ c κs. search needs)
+    (λ c. search needs) (λ c κs. search needs)
     (λ c. omega (arith, ready (c .before .before) .0 .some, c .at-least-one .ensures))
     (λ c κs. let r = ready (c .before .before .before) .0 in omega (arith, r .whole, r .first))
-    descend-requires
-    (λ c κs. search needs)
+    descend-requires (λ c κs. search needs)
     (λ c κs. width-room (c .before .before .before .before .before .before .before .before .before .before .before .before .before .before .before .before .before .before .before .before .before .before .before .args .f) (c .places-of .result) (omega (arith, input c, places-le (levelsOf (c .before .before .before .before .before .before .before .before .before .before .before .before .before .before .before .before .before .before .before .before .before .before .before .args .levels) - 1) (length (c .before .before .before .before .before .before .before .before .before .before .before .before .before .before .before .before .before .before .before .before .before .before .before .args .signal .now) / widthOf (c .before .before .before .before .before .before .before .before .before .before .before .before .before .before .before .before .before .before .before .before .before .before .before .args .f)), ready (c .before .before .before .before .before .before .before .before .before .before .before .before .before .before) .0 .short)))
     (λ c. omega (arith, room (c .before), c .bytes-of .ensures))
     (λ c. sym (length-take-le _ _ (omega (arith, room (c .before .before), c .before .bytes-of .ensures))))
-    (λ c κs. search needs)
-    (λ c. search needs)
-    (λ c. search needs)
-    (λ c. search needs)
-    (λ c. search needs)
-    returns
-    returns-2)
+    (λ c κs. search needs) (λ c. search needs) (λ c. search needs) (λ c. search needs)
+    (λ c. search needs) returns returns-2)

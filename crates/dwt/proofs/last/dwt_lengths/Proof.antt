@@ -49,20 +49,13 @@ pub dwt-lengths-spec : {M : Type 1} → statement M
 dwt-lengths-spec =
     tie.close
     (tie.spec
-    (λ c. stop _ (lt-ltb _ _ (c .if1 .taken)) refl)
-    (λ c κs. search needs)
-    (λ c κs. search needs)
+    (λ c. stop _ (lt-ltb _ _ (c .if1 .taken)) refl) (λ c κs. search needs) (λ c κs. search needs)
     (λ c κs. search needs)
     (λ c. by _ (le-ltb _ _ (c .before .before .before .before .if1 .left)) (stop _ (sym (deep (c .before)) ∙ lt-ltb _ _ (c .if2 .taken)) refl))
     (λ c. omega (arith, levels-pos (c .before .before .before .before .before .args .levels), c .before .before .before .at-least-one .ensures))
-    (λ c κs. search needs)
-    (λ c κs. search needs)
-    (λ c.
-    let e = input (c .before .before) in
+    (λ c κs. search needs) (λ c κs. search needs) (λ c. let e = input (c .before .before) in
     past2 (c .before .before .before) (stop _ (other _ _ (λ h. c .if3 .taken (h ∙ sym (c .before .approx-length .ensures ∙ ap ups e)))) (ap (ApproxSizeNotMatches (c .before .before .before .before .before .before .before .before .args .a)) e)))
-    (λ c κs. search needs)
-    (λ c.
-    let e = input (c .before .before .before .before) in
+    (λ c κs. search needs) (λ c. let e = input (c .before .before .before .before) in
     past3 (c .before .before) (stop _ (other _ _ (λ h. c .if4 .taken (h ∙ sym (c .before .details-length .ensures ∙ ap downs e)))) (ap (ApproxSizeNotMatches (c .before .before .before .before .before .before .before .before .before .before .args .d)) e)))
     (λ c. past4 (c .before) (stop _ (lt-ltb _ _ (c .if5 .taken)) refl))
     (λ c. past4 (c .before .before) (by _ (le-ltb _ _ (c .before .if5 .left)) (stop _ (lt-ltb _ _ (c .if6 .taken)) refl)))

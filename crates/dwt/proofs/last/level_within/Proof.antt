@@ -52,13 +52,10 @@ pub level-within-spec : {M : Type 1} → statement M
 level-within-spec =
     tie.close
     (tie.spec
-    (λ c κs. search needs)
-    (λ c κs. omega (arith, c .before .before .before .pre, rooms c))
+    (λ c κs. search needs) (λ c κs. omega (arith, c .before .before .before .pre, rooms c))
     (λ c. omega (arith, c .before .bytes-of .ensures, c .before .before .before .before .pre))
     (λ c. sym (one-part (c .before) ∙ sym (c .before .before .bytes-of .ensures)))
     (λ c. omega (arith, c .before .bytes-of2 .ensures, c .before .before .before .before .before .pre, rooms (c .before .before)))
     (λ c. sym (two-part (c .before .before) ∙ sym (c .before .before .bytes-of2 .ensures)))
     (λ c κs. record { long = c .before .before .before .before .before .before .pre .0; short = c .before .before .before .before .before .before .pre .1 .0; samples = one-part (c .before .before); approx = refl; details = two-part (c .before .before) })
-    (λ c. search needs)
-    (λ c. search needs)
-    returns)
+    (λ c. search needs) (λ c. search needs) returns)

@@ -17,7 +17,6 @@ pub cut-of-spec : {M : Type 1} → statement M
 cut-of-spec =
     tie.close
     (tie.spec
-    (λ c κs. search needs)
-    (λ c κs. search needs)
+    (λ c κs. search needs) (λ c κs. search needs)
     (λ c. omega (arith, product c, split-width (widthOf (c .before .before .args .f)) (c .before .before .args .n)))
     (λ c. cut-at (c .before .before .args .f) (c .before .before .args .n) _ (product c)))

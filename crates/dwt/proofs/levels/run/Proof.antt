@@ -92,14 +92,5 @@ pub run-spec : {M : Type 1} → statement M
 run-spec =
     tie.close
     (tie.spec
-    level-requires
-    add-half
-    cut-of-requires
-    sub-down
-    slice-relend-prefix-down
-    slice-aggregate-down
-    down-requires
-    same-length
-    same-length-2
-    same-length-3
-    returns)
+    level-requires add-half cut-of-requires sub-down slice-relend-prefix-down slice-aggregate-down
+    down-requires same-length same-length-2 same-length-3 returns)

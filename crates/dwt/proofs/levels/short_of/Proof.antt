@@ -9,17 +9,9 @@ pub short-of-spec : {M : Type 1} → statement M
 short-of-spec =
     tie.close
     (tie.spec
-    (λ c. search needs)
-    (λ c. search needs)
-    (λ c. search needs)
-    (λ c. search needs)
-    (λ c. search needs)
-    (λ c. search needs)
-    (λ c. search needs)
+    (λ c. search needs) (λ c. search needs) (λ c. search needs) (λ c. search needs)
+    (λ c. search needs) (λ c. search needs) (λ c. search needs)
     (λ c. sym (ap (λ g. short g (c .before .before .args .n)) (c .enum-told .given .1)))
     (λ c. sym (ap (λ g. short g (c .before .before .args .n)) (c .enum-told2 .given .1)))
     (λ c. sym (ap (λ g. short g (c .before .before .args .n)) (c .enum-told3 .given .1)))
-    (λ c. search needs)
-    (λ c. search needs)
-    (λ c. search needs)
-    (λ c. search needs))
+    (λ c. search needs) (λ c. search needs) (λ c. search needs) (λ c. search needs))

@@ -40,13 +40,11 @@ pub check-fields-spec : {M : Type 1} → statement M
 check-fields-spec =
     tie.close
     (tie.spec
-    (λ c. stop _ (other _ _ (c .if1 .taken)) refl)
-    (λ c κs. search needs)
+    (λ c. stop _ (other _ _ (c .if1 .taken)) refl) (λ c κs. search needs)
     (λ c. by _ (same _ _ (c .before .before .if1 .left)) (stop _ (none c) refl))
     (λ c. past2 (c .before) (stop _ (lt-ltb _ _ (c .if3 .taken)) refl))
     (λ c. past2 (c .before .before) (by _ (le-ltb _ _ (c .before .if3 .left)) (stop _ (lt-ltb _ _ (c .if4 .taken)) refl)))
-    (λ c. past4 (c .before) (stop _ (eq-eqb _ _ (c .if5 .taken)) refl))
-    (λ c κs. search needs)
+    (λ c. past4 (c .before) (stop _ (eq-eqb _ _ (c .if5 .taken)) refl)) (λ c κs. search needs)
     (λ c. past4 (c .before .before .before) (by _ (ne-eqb _ _ (c .before .before .if5 .left)) (stop _ (rw (c .before .depth .ensures) at (lt-ltb _ _ (c .if6 .taken))) refl)))
     (λ c. past6 (c .before) (stop _ (other _ _ (c .if7 .taken)) refl))
     (λ c. past6 (c .before) (by _ (same _ _ (c .if7 .left)) refl)))

@@ -34,12 +34,6 @@ pub check-head-spec : {M : Type 1} → statement M
 check-head-spec =
     tie.close
     (tie.spec
-    (λ c κs. search needs)
-    (λ c κs. search needs)
-    returns
-    (λ c κs. there c)
-    (λ c κs. there (c .before))
-    (λ c κs. there (c .before .before))
-    (λ c κs. there (c .before .before .before))
-    (λ c κs. search needs)
-    returns-2)
+    (λ c κs. search needs) (λ c κs. search needs) returns (λ c κs. there c)
+    (λ c κs. there (c .before)) (λ c κs. there (c .before .before))
+    (λ c κs. there (c .before .before .before)) (λ c κs. search needs) returns-2)

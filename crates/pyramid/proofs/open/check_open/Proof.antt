@@ -101,17 +101,9 @@ pub check-open-spec : {M : Type 1} → statement M
 check-open-spec =
     tie.close
     (tie.spec
-    (λ c κs. search needs)
-    (λ c κs. search needs)
-    returns
-    (λ c κs. search needs)
-    (λ c κs. search needs)
-    returns-2
-    (λ c κs. headed c .there)
-    (λ c κs. search needs)
-    (λ c κs. search needs)
-    returns-3
-    (λ c κs. headed (c .before .before .before .before) .there)
+    (λ c κs. search needs) (λ c κs. search needs) returns (λ c κs. search needs)
+    (λ c κs. search needs) returns-2 (λ c κs. headed c .there) (λ c κs. search needs)
+    (λ c κs. search needs) returns-3 (λ c κs. headed (c .before .before .before .before) .there)
     (λ c κs. search needs)
     (λ c. omega (arith, some (c .before .before), c .before .levels-in .ensures, c .whole-details .ensures ∙ ap (λ v. wholeDetails v (c .before .levels-in .result)) (c .before .before .before .before .before .way-in .ensures) ∙ ap (wholeDetails (wayIn (c .before .before .before .before .before .before .before .before .before .before .before .before .before .args .s .now))) (c .before .levels-in .ensures .0)))
     (λ c κs. headed (c .before .before .before .before .before .before) .there)

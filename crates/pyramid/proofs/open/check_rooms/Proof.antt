@@ -10,13 +10,9 @@ pub check-rooms-spec : {M : Type 1} → statement M
 check-rooms-spec =
     tie.close
     (tie.spec
-    (λ c. search needs)
-    (λ c. search needs)
-    (λ c. stop _ (lt-ltb _ _ (c .if1 .taken)) refl)
-    (λ c. search needs)
-    (λ c. search needs)
+    (λ c. search needs) (λ c. search needs) (λ c. stop _ (lt-ltb _ _ (c .if1 .taken)) refl)
+    (λ c. search needs) (λ c. search needs)
     (λ c. by _ (le-ltb _ _ (c .before .if1 .left)) (stop _ (lt-ltb _ _ (c .if2 .taken)) refl))
-    (λ c. search needs)
-    (λ c. search needs)
+    (λ c. search needs) (λ c. search needs)
     (λ c. by _ (le-ltb _ _ (c .before .before .if1 .left)) (by _ (le-ltb _ _ (c .before .if2 .left)) (stop _ (lt-ltb _ _ (c .if3 .taken)) refl)))
     (λ c. by _ (le-ltb _ _ (c .before .before .if1 .left)) (by _ (le-ltb _ _ (c .before .if2 .left)) (by _ (le-ltb _ _ (c .if3 .left)) refl))))

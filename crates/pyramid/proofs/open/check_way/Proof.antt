@@ -20,8 +20,7 @@ pub check-way-spec : {M : Type 1} → statement M
 check-way-spec =
     tie.close
     (tie.spec
-    (λ c. search needs)
-    (λ c. search needs)
+    (λ c. search needs) (λ c. search needs)
     (λ c. of (c .before .before .before .before .args .b) (c .before .before .way .given .1) (stop _ (lt-ltb _ _ (c .if1 .taken)) refl))
     (λ c. search needs)
     (λ c. of (c .before .before .before .before .args .b) (c .before .before .way2 .given .1) (stop _ (eq-eqb _ _ (c .if2 .taken)) refl))

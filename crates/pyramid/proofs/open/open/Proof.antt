@@ -70,18 +70,9 @@ pub open-spec : {M : Type 1} → statement M
 open-spec =
     tie.close
     (tie.spec
-    (λ c κs. search needs)
-    (λ c κs. search needs)
-    (λ c κs. search needs)
-    (λ c κs. ready c .head .there)
-    (λ c κs. ready (c .before) .head .there)
-    (λ c κs. search needs)
+    (λ c κs. search needs) (λ c κs. search needs) (λ c κs. search needs)
+    (λ c κs. ready c .head .there) (λ c κs. ready (c .before) .head .there) (λ c κs. search needs)
     (λ c. omega (arith, ready (c .before .before .before) .some, c .before .before .levels-in .ensures, details c))
-    (λ c κs. ready (c .before .before .before) .head .there)
-    (λ c κs. search needs)
-    (λ c κs. search needs)
-    restore-requires
-    (λ c. search needs)
-    (λ c. search needs)
-    returns
+    (λ c κs. ready (c .before .before .before) .head .there) (λ c κs. search needs)
+    (λ c κs. search needs) restore-requires (λ c. search needs) (λ c. search needs) returns
     returns-2)

@@ -18,8 +18,6 @@ pub way-in-spec : {M : Type 1} → statement M
 way-in-spec =
     tie.close
     (tie.spec
-    (λ c κs. search needs)
-    (λ c κs. search needs)
-    (λ c κs. search needs)
+    (λ c κs. search needs) (λ c κs. search needs) (λ c κs. search needs)
     (λ c κs. (omega (arith, c .before .before .before .before .pre), small _ _ (c .before .before .width-in .ensures .1) (c .samples-in .ensures .1), omega (arith, c .before .levels-in .ensures), omega (arith, c .samples-in .ensures)))
     returns)

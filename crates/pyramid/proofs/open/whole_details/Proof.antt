@@ -20,10 +20,5 @@ pub whole-details-spec : {M : Type 1} → statement M
 whole-details-spec =
     tie.close
     (tie.spec
-    (λ c. search needs)
-    (λ c. search needs)
-    returns
-    (λ c. search needs)
-    (λ c. search needs)
-    returns-3
-    (λ c. search needs))
+    (λ c. search needs) (λ c. search needs) returns (λ c. search needs) (λ c. search needs)
+    returns-3 (λ c. search needs))

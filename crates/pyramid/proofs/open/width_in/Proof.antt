@@ -13,6 +13,4 @@ pub width-in-spec : {M : Type 1} → statement M
 width-in-spec =
     tie.close
     (tie.spec
-    (λ c. search needs)
-    (λ c κs. search needs)
-    returns)
+    (λ c. search needs) (λ c κs. search needs) returns)

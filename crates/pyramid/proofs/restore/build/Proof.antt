@@ -94,17 +94,6 @@ pub build-spec : {M : Type 1} → statement M
 build-spec =
     tie.close
     (tie.spec
-    bytes-of-requires
-    cut-of-requires
-    add-start
-    sub-end
-    add-end
-    slice-aggregate-restore
-    sub-restore
-    part-restore-start
-    part-restore-end
-    slice-relend-prefix-restore
-    slice-aggregate-restore-2
-    restore-requires
-    same-length
-    returns)
+    bytes-of-requires cut-of-requires add-start sub-end add-end slice-aggregate-restore sub-restore
+    part-restore-start part-restore-end slice-relend-prefix-restore slice-aggregate-restore-2
+    restore-requires same-length returns)

@@ -60,12 +60,5 @@ pub fetch-spec : {M : Type 1} → statement M
 fetch-spec =
     tie.close
     (tie.spec
-    bytes-of-requires
-    add-start
-    add-copy
-    sub-copy
-    part-copy-start
-    part-copy-end
-    copy-requires
-    same-length
-    returns)
+    bytes-of-requires add-start add-copy sub-copy part-copy-start part-copy-end copy-requires
+    same-length returns)

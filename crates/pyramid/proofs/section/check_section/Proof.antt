@@ -72,12 +72,6 @@ pub check-section-spec : {M : Type 1} → statement M
 check-section-spec =
     tie.close
     (tie.spec
-    (λ c κs. search needs)
-    (λ c κs. search needs)
-    returns
-    (λ c κs. headed c .there)
-    (λ c κs. omega (arith, c .levels-in .ensures))
-    (λ c κs. search needs)
-    returns-2
-    (λ c κs. (headed (c .before .before .before .before) .there, inside c))
-    returns-3)
+    (λ c κs. search needs) (λ c κs. search needs) returns (λ c κs. headed c .there)
+    (λ c κs. omega (arith, c .levels-in .ensures)) (λ c κs. search needs) returns-2
+    (λ c κs. (headed (c .before .before .before .before) .there, inside c)) returns-3)

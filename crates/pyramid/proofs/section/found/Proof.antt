@@ -43,12 +43,6 @@ pub found-spec : {M : Type 1} → statement M
 found-spec =
     tie.close
     (tie.spec
-    (λ c κs. search needs)
-    (λ c κs. search needs)
-    (λ c. search needs)
+    (λ c κs. search needs) (λ c κs. search needs) (λ c. search needs)
     (λ c. omega (arith, ends _ _ _ (c .before .before .before .before .before .before .pre .0) (is (c .before .before .before) (c .before .way .given .1)), c .before .before .before .before .length-of .ensures))
-    (λ c. search needs)
-    (λ c. search needs)
-    returns
-    returns-2
-    returns-3)
+    (λ c. search needs) (λ c. search needs) returns returns-2 returns-3)

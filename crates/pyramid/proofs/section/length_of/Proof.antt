@@ -20,9 +20,6 @@ pub length-of-spec : {M : Type 1} → statement M
 length-of-spec =
     tie.close
     (tie.spec
-    (λ c κs. search needs)
-    (λ c. search needs)
-    (λ c κs. search needs)
-    (λ c κs. search needs)
+    (λ c κs. search needs) (λ c. search needs) (λ c κs. search needs) (λ c κs. search needs)
     (λ c. let h = small (c .before .before .width-in .result) (c .last-count .result) (c .before .before .width-in .ensures .1) (omega (arith, c .last-count .ensures, c .before .place-of .ensures)) in omega (arith, h))
     returns)

@@ -22,9 +22,6 @@ pub place-of-spec : {M : Type 1} → statement M
 place-of-spec =
     tie.close
     (tie.spec
-    (λ c κs. search needs)
-    (λ c. search needs)
-    (λ c. omega (arith, c .levels-in .ensures, c .before .before .pre))
-    (λ c κs. search needs)
-    (λ c κs. search needs)
-    returns)
+    (λ c κs. search needs) (λ c. search needs)
+    (λ c. omega (arith, c .levels-in .ensures, c .before .before .pre)) (λ c κs. search needs)
+    (λ c κs. search needs) returns)

@@ -44,13 +44,6 @@ pub section-spec : {M : Type 1} → statement M
 section-spec =
     tie.close
     (tie.spec
-    (λ c κs. search needs)
-    (λ c. omega (arith, numbers c))
-    (λ c. search needs)
-    (λ c. search needs)
-    (λ c. omega (arith, numbers c))
-    returns
-    (λ c. search needs)
-    (λ c. search needs)
-    (λ c. search needs)
-    returns-2)
+    (λ c κs. search needs) (λ c. omega (arith, numbers c)) (λ c. search needs) (λ c. search needs)
+    (λ c. omega (arith, numbers c)) returns (λ c. search needs) (λ c. search needs)
+    (λ c. search needs) returns-2)

@@ -9,6 +9,5 @@ pub section-answer-spec : {M : Type 1} → statement M
 section-answer-spec =
     tie.close
     (tie.spec
-    (λ c κs. search needs)
-    (λ c κs. search needs)
+    (λ c κs. search needs) (λ c κs. search needs)
     (λ c. c .numbers .ensures ∙ ap answerOf (c .before .check-section .ensures)))

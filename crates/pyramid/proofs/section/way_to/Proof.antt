@@ -20,8 +20,6 @@ pub way-to-spec : {M : Type 1} → statement M
 way-to-spec =
     tie.close
     (tie.spec
-    (λ c κs. search needs)
-    (λ c. search needs)
-    (λ c κs. search needs)
+    (λ c κs. search needs) (λ c. search needs) (λ c κs. search needs)
     (λ c κs. (omega (arith, c .before .before .before .pre), small _ _ (c .before .width-in .ensures .1) (c .place-of .ensures .1), omega (arith, c .before .before .before .pre), omega (arith, c .place-of .ensures)))
     returns)

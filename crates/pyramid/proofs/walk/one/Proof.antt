@@ -28,13 +28,6 @@ unfolding oneOf
 one-spec =
     tie.close
     (tie.spec
-    (λ c. search needs)
-    (λ c. stop _ (lt-ltb _ _ (c .if1 .taken)) refl)
-    (λ c κs. search needs)
-    (λ c. search needs)
-    returns-2
-    (λ c. search needs)
-    returns-3
-    (λ c. search needs)
-    (λ c. search needs)
-    returns-4)
+    (λ c. search needs) (λ c. stop _ (lt-ltb _ _ (c .if1 .taken)) refl) (λ c κs. search needs)
+    (λ c. search needs) returns-2 (λ c. search needs) returns-3 (λ c. search needs)
+    (λ c. search needs) returns-4)

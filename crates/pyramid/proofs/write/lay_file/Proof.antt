@@ -49,15 +49,6 @@ pub lay-file-spec : {M : Type 1} → statement M
 lay-file-spec =
     tie.close
     (tie.spec
-    lay-head-requires
-    (λ c κs. search needs)
-    body-size-requires
-    (λ c. search needs)
-    (λ c. search needs)
-    (λ c. search needs)
-    (λ c. search needs)
-    (λ c κs. search needs)
-    (λ c. search needs)
-    (λ c. search needs)
-    (λ c. search needs)
-    returns)
+    lay-head-requires (λ c κs. search needs) body-size-requires (λ c. search needs)
+    (λ c. search needs) (λ c. search needs) (λ c. search needs) (λ c κs. search needs)
+    (λ c. search needs) (λ c. search needs) (λ c. search needs) returns)

@@ -32,14 +32,7 @@ pub lay-head-spec : {M : Type 1} → statement M
 lay-head-spec =
     tie.close
     (tie.spec
-    (λ c κs. search needs)
-    (λ c κs. search needs)
+    (λ c κs. search needs) (λ c κs. search needs)
     (λ c. omega (arith, width-byte (c .before .before .before .before .before .before .args .f), c .width .ensures))
-    (λ c. search needs)
-    (λ c. search needs)
-    (λ c. simp length-set (omega arith))
-    (λ c. search needs)
-    (λ c κs. simp length-set (omega arith))
-    write-u32-requires-3
-    same-length
-    returns)
+    (λ c. search needs) (λ c. search needs) (λ c. simp length-set (omega arith)) (λ c. search needs)
+    (λ c κs. simp length-set (omega arith)) write-u32-requires-3 same-length returns)

@@ -6,16 +6,15 @@ use Prim.Native.Nat.{ℕ, _/_}
 use lib.ListN.{length, drop}
 use Rattle.dwt.specs.Filters.{widthOf}
 use Rattle.pyramid.specs.Files.{fileSize, fileOf}
-use Rattle.pyramid.proofs.Writing.{write-ready, write-done, write-refused}
+use Rattle.pyramid.proofs.Writing.{ready-for, write-done, write-refused}
 use Rattle.pyramid.proofs.write.write.Statement.{statement}
 use Rattle.pyramid.proofs.write.write.Tie as tie
 
 lay-file-requires : tie.Need-lay-file-requires
 lay-file-requires c κs =
     let a = c .before .before .before .before .before .before .before .before .before .before .before .before .before .args in
-    rw (c .before .before .before .at-least-one .ensures, c .before .before .before .before .width .ensures .0)
-    (write-ready (a .f) (a .levels) (length (a .signal .now)) (length (a .file .now)) (length (a .one .now)) (length (a .two .now))
-    (rw (c .before .before .before .before .before .before .before .before .check-write .ensures) at (sym (c .before .before .before .before .before .before .is-done .ensures) ∙ c .before .before .before .before .before .if1 .taken)))
+    ready-for (a .f) (a .levels) (length (a .signal .now)) (length (a .file .now)) (length (a .one .now)) (length (a .two .now)) _ _ (c .before .before .before .at-least-one .ensures) (c .before .before .before .before .width .ensures .0)
+    (rw (c .before .before .before .before .before .before .before .before .check-write .ensures) at (sym (c .before .before .before .before .before .before .is-done .ensures) ∙ c .before .before .before .before .before .if1 .taken))
 
 returns : tie.Need-returns
 returns c =
@@ -40,15 +39,6 @@ pub write-spec : {M : Type 1} → statement M
 write-spec =
     tie.close
     (tie.spec
-    (λ c κs. search needs)
-    (λ c κs. search needs)
-    (λ c κs. search needs)
-    (λ c κs. search needs)
-    (λ c. search needs)
-    (λ c κs. search needs)
-    lay-file-requires
-    (λ c. search needs)
-    (λ c. search needs)
-    (λ c. search needs)
-    returns
-    returns-2)
+    (λ c κs. search needs) (λ c κs. search needs) (λ c κs. search needs) (λ c κs. search needs)
+    (λ c. search needs) (λ c κs. search needs) lay-file-requires (λ c. search needs)
+    (λ c. search needs) (λ c. search needs) returns returns-2)

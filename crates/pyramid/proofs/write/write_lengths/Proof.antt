@@ -59,11 +59,8 @@ pub write-lengths-spec : {M : Type 1} → statement M
 write-lengths-spec =
     tie.close
     (tie.spec
-    (λ c. stop _ (lt-ltb _ _ (c .if1 .taken)) refl)
-    (λ c κs. search needs)
-    (λ c κs. search needs)
-    (λ c κs. search needs)
-    (λ c κs. search needs)
+    (λ c. stop _ (lt-ltb _ _ (c .if1 .taken)) refl) (λ c κs. search needs) (λ c κs. search needs)
+    (λ c κs. search needs) (λ c κs. search needs)
     (λ c. by _ (le-ltb _ _ (c .before .before .before .before .before .before .if1 .left)) (stop _ (shallow (c .before .before)) (stop _ (le-leb _ _ (c .before .if3 .taken)) (c .short-of .ensures))))
     (λ c. by _ (le-ltb _ _ (c .before .before .before .before .before .if1 .left)) (stop _ (shallow (c .before)) (by _ (lt-leb _ _ (c .if3 .left)) refl)))
     (λ c κs. (few c, c .before .before .before .before .if1 .left))

@@ -11,5 +11,4 @@ f32-of-spec =
     tie.close
     (tie.spec
     (λ c. no-nan binary32 _ (c .if1 .left))
-    (λ c. zero-by-zero binary32 ∙ sym (nan-of binary32 _ (c .if1 .taken)))
-    (λ c. search needs))
+    (λ c. zero-by-zero binary32 ∙ sym (nan-of binary32 _ (c .if1 .taken))) (λ c. search needs))

@@ -11,5 +11,4 @@ f64-of-spec =
     tie.close
     (tie.spec
     (λ c. no-nan binary64 _ (c .if1 .left))
-    (λ c. zero-by-zero binary64 ∙ sym (nan-of binary64 _ (c .if1 .taken)))
-    (λ c. search needs))
+    (λ c. zero-by-zero binary64 ∙ sym (nan-of binary64 _ (c .if1 .taken))) (λ c. search needs))

@@ -40,12 +40,6 @@ get-spec =
     tie.close
     (tie.spec
     (λ c. omega (arith, one (c .before)))
-    (λ c. omega (arith, c .shared-slice-known2 .given (c .before .before .before .args .i)))
-    returns
-    (λ c. omega (arith, two c))
-    (λ c κs. omega (arith, two c))
-    (λ c. search needs)
-    returns-2
-    (λ c. omega (arith, rest c))
-    (λ c κs. omega (arith, rest c))
-    returns-3)
+    (λ c. omega (arith, c .shared-slice-known2 .given (c .before .before .before .args .i))) returns
+    (λ c. omega (arith, two c)) (λ c κs. omega (arith, two c)) (λ c. search needs) returns-2
+    (λ c. omega (arith, rest c)) (λ c κs. omega (arith, rest c)) returns-3)

@@ -40,15 +40,8 @@ put-spec =
     tie.close
     (tie.spec
     (λ c. record { fits = rw (c .if1 .taken) at (c .before .before .pre .1 .1) })
-    (λ c. omega (arith, one c))
-    (λ c. search needs)
-    returns
-    (λ c. omega (arith, two (c .before)))
+    (λ c. omega (arith, one c)) (λ c. search needs) returns (λ c. omega (arith, two (c .before)))
     (λ c. record { fits = rw (c .before .if2 .taken) at (c .before .before .before .before .pre .1 .1) })
-    (λ c κs. omega (arith, two (c .before)))
-    (λ c. search needs)
-    returns-2
-    (λ c. omega (arith, rest (c .before)))
-    (λ c κs. omega (arith, rest (c .before)))
-    (λ c. search needs)
-    returns-3)
+    (λ c κs. omega (arith, two (c .before))) (λ c. search needs) returns-2
+    (λ c. omega (arith, rest (c .before))) (λ c κs. omega (arith, rest (c .before)))
+    (λ c. search needs) returns-3)

@@ -30,9 +30,7 @@ pub forward-lengths-spec : {M : Type 1} → statement M
 forward-lengths-spec =
     tie.close
     (tie.spec
-    (λ c. stop _ (lt-ltb _ _ (c .if1 .taken)) refl)
-    (λ c κs. search needs)
-    (λ c.
+    (λ c. stop _ (lt-ltb _ _ (c .if1 .taken)) refl) (λ c κs. search needs) (λ c.
     past1 (c .before .before)
     (stop _ (rw (c .before .smallest .ensures) at (lt-ltb _ _ (c .if2 .taken))) (ap (MinFilterSize (c .before .before .before .args .n)) (c .before .smallest .ensures))))
     (λ c κs. search needs)

@@ -34,21 +34,16 @@ inverse-lengths-spec =
     (λ c. stop _ (lt-ltb _ _ (c .if1 .taken)) refl)
     (λ c. by _ (le-ltb _ _ (c .before .if1 .left)) (stop _ (lt-ltb _ _ (c .if2 .taken)) refl))
     (λ c. by _ (le-ltb _ _ (c .before .before .if1 .left)) (by _ (le-ltb _ _ (c .before .if2 .left)) (stop _ (lt-ltb _ _ (c .if3 .taken)) refl)))
-    (λ c. search needs)
-    (λ c. past3 (c .before) (stop _ (other _ _ (c .if4 .taken)) refl))
-    (λ c κs. search needs)
-    (λ c.
-    let e = c .before .dwt-size .ensures .0 in
+    (λ c. search needs) (λ c. past3 (c .before) (stop _ (other _ _ (c .if4 .taken)) refl))
+    (λ c κs. search needs) (λ c. let e = c .before .dwt-size .ensures .0 in
     let a = c .before .before .before .before .before .before .args in
     past4 (c .before .before) (stop _ (other (a .a) (expectedApprox (a .n)) (λ h. c .if5 .taken (h ∙ sym e))) (ap (λ n. ApproxSizeNotMatches n (a .a)) e)))
-    (λ c.
-    let s = c .before .before .before .dwt-size .ensures in
+    (λ c. let s = c .before .before .before .dwt-size .ensures in
     let a = c .before .before .before .before .before .before .before .before .args in
     past4 (c .before .before .before .before)
     (by _ (same (a .a) (expectedApprox (a .n)) (c .before .before .if5 .left ∙ s .0))
     (stop _ (other (a .d) (expectedDetails (a .w) (a .n)) (λ h. c .if6 .taken (h ∙ sym (s .1)))) (ap (λ n. ApproxSizeNotMatches n (a .a)) (s .0)))))
-    (λ c.
-    let s = c .before .before .before .dwt-size .ensures in
+    (λ c. let s = c .before .before .before .dwt-size .ensures in
     let a = c .before .before .before .before .before .before .before .before .args in
     past4 (c .before .before .before .before)
     (by _ (same (a .a) (expectedApprox (a .n)) (c .before .before .if5 .left ∙ s .0)) (by _ (same (a .d) (expectedDetails (a .w) (a .n)) (c .if6 .left ∙ s .1)) refl))))
