@@ -1,26 +1,19 @@
-ghost use mathlib.Core.Bool.{true};
+// Integer 5/3, one level, once over the width. Ported from osclet's src/cdf53i.rs.
 ghost use mathlib.Core.List.{_++_};
 ghost use mathlib.Core.Path.{_≡_};
-ghost use Rattle.sizes.specs.Calls.{Forward, Inverse};
 ghost use Prim.Native.Nat.{_+_, _-_, _*_, _/_, _<_};
 ghost use lib.ListN.{length, drop};
 ghost use Rattle.sizes.specs.Bands.{ups, downs};
 ghost use Rattle.samples.specs.Words.{tabulate, Holds};
-ghost use Rattle.samples.specs.Integers.{isWidth, wrap, decode, encode};
+ghost use Rattle.samples.specs.Integers.{wrap, decode, encode};
 ghost use Rattle.cdf53i.specs.Lift.{approx, evens};
 ghost use Rattle.cdf53i.specs.Bands.{low, high, back, Input, Bands, Restoring};
 use crate::steps::approx_at;
 use crate::steps::detail_at;
 use crate::steps::even_at;
 use crate::steps::odd_of;
-use answers::err::Answer;
-use answers::err::is_done;
-use answers::err::numbers;
 use samples::integers::get;
 use samples::integers::put;
-use sizes::Wavelet;
-use sizes::checks::check_forward;
-use sizes::checks::check_inverse;
 
 // The details of the samples in x, into d.
 fn predict(k: usize, x: &[u8], d: &mut [u8])
@@ -56,7 +49,7 @@ fn update(k: usize, x: &[u8], a: &mut [u8], d: &[u8])
 }
 
 // One level of the samples in x: approximations into a, details into d.
-fn forward(k: usize, x: &[u8], a: &mut [u8], d: &mut [u8])
+pub fn forward(k: usize, x: &[u8], a: &mut [u8], d: &mut [u8])
     requires { ⌜ Bands k (now x) (now a) (now d) ⌝ }
     ensures { λ _. ⌜ (now (a .exit) ≡ low k (now (x .entry))) × (now (d .exit) ≡ high k (now (x .entry))) ⌝ }
 {
@@ -127,7 +120,7 @@ fn restore_end(k: usize, a: &[u8], d: &[u8], x: &mut [u8], last: usize, e: u32)
 }
 
 // The samples whose approximations are in a and details in d, into x.
-fn inverse(k: usize, a: &[u8], d: &[u8], x: &mut [u8])
+pub fn inverse(k: usize, a: &[u8], d: &[u8], x: &mut [u8])
     requires { ⌜ Bands k (now x) (now a) (now d) ⌝ }
     ensures { λ _. ⌜ now (x .exit) ≡ back k (now (a .entry)) (now (d .entry)) ⌝ }
 {
@@ -139,30 +132,4 @@ fn inverse(k: usize, a: &[u8], d: &[u8], x: &mut [u8])
         i += 1;
     }
     restore_end(k, a, d, x, last, e);
-}
-
-// One level of 5/3 of the samples of k bytes in input, with document 01's checks.
-pub fn execute_forward(k: usize, input: &[u8], approx: &mut [u8], details: &mut [u8]) -> Answer
-    requires { ⌜ isWidth k ≡ true ⌝ }
-    ensures { λ r. ⌜ Forward Wavelet.Cdf53 k (low k) (high k) (now (input .entry)) (now (approx .entry)) (now (details .entry)) r (now (approx .exit)) (now (details .exit)) ⌝ }
-{
-    let said = check_forward(Wavelet::Cdf53, k, input.len(), approx.len(), details.len());
-    let r = numbers(said);
-    if is_done(said) {
-        forward(k, input, approx, details);
-    }
-    r
-}
-
-// The samples of two bands, with document 01's checks.
-pub fn execute_inverse(k: usize, approx: &[u8], details: &[u8], output: &mut [u8]) -> Answer
-    requires { ⌜ isWidth k ≡ true ⌝ }
-    ensures { λ r. ⌜ Inverse Wavelet.Cdf53 k (back k) (now (approx .entry)) (now (details .entry)) (now (output .entry)) r (now (output .exit)) ⌝ }
-{
-    let said = check_inverse(Wavelet::Cdf53, k, approx.len(), details.len(), output.len());
-    let r = numbers(said);
-    if is_done(said) {
-        inverse(k, approx, details, output);
-    }
-    r
 }

@@ -2,7 +2,7 @@
 use mathlib.Core.Bool.{true, false, cond}
 use mathlib.Core.List.{List, [], _∷_}
 use mathlib.Core.Path.{_≡_, refl, sym, ap, _∙_}
-use Prim.Native.Nat.{ℕ, _-_, _*_, _/_}
+use Prim.Native.Nat.{ℕ, suc, _-_, _*_, _/_}
 use native.Mathlib.Nat.{mul-le-mul-left}
 use native.Mathlib.Omega.{arith}
 use lib.ListN.{length, drop}
@@ -20,6 +20,7 @@ use Rattle.dwt.specs.Filters.{widthOf, waveletOf, lowOf, highOf}
 use Rattle.dwt.specs.Pyramids.{approxAt}
 use Rattle.dwt.specs.Calls.{dwtChecks, sayDwt, Dwt, Ready}
 use Rattle.dwt.proofs.Multi.{levels-pos}
+use Rattle.dwt.proofs.PyramidLaws.{approx-after}
 
 -- what the checks leave: the levels run, and the bands have the lengths of the last level
 pub dwt-ready : (f : Filter) (l x a d u v : ℕ) → done (sayDwt f l x a d u v) ≡ true
@@ -83,3 +84,11 @@ module _ (f : Filter) (l : ℕ) (x a d u v : List ℕ) where
   unfolding Spared
   dwt-decides r s a₁ d₁ u₁ v₁ a₂ d₂ u₂ v₂ p q =
       (p .answer ∙ sym (q .answer), p .approx ∙ sym (q .approx), p .details ∙ sym (q .details), p .first ∙ sym (q .first), p .second ∙ sym (q .second))
+
+  -- a done call gives the approximations of level l, and the details that were parted from them
+  pub dwt-gives : {r : Answer} {a′ d′ u′ v′ : List ℕ} → Dwt f l x a d u v r a′ d′ u′ v′ → done said ≡ true → (a′ ≡ approxAt f (levelsOf l) x) × (d′ ≡ highOf f input)
+  dwt-gives m z =
+      let e : suc (levelsOf l - 1) ≡ levelsOf l = omega (arith, levels-pos l) in (
+        m .approx ∙ left-done said (lowOf f input) a z ∙ sym (approx-after f (levelsOf l - 1) x) ∙ ap (λ (i : ℕ). approxAt f i x) e,
+        m .details ∙ left-done said (highOf f input) d z,
+      )

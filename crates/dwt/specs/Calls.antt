@@ -12,12 +12,16 @@ use Rattle.answers.specs.declared.err.Refusal.the-variants.{Done, MinFilterSize
 use Rattle.answers.specs.Answers.{answerOf}
 use Rattle.answers.specs.Checks.{Check, firstOf, ragged, tight, left, Spared}
 use Rattle.sizes.specs.Bands.{mostSamples, ups, downs}
-use Rattle.sizes.specs.Calls.{Forward, Inverse}
+use Rattle.sizes.specs.Calls.{Level, Forward, Inverse}
 use Rattle.sizes.specs.Levels.{places, depthOf, levelsOf}
 use Rattle.dwt.specs.declared.filter.Filter.{Filter}
 use Rattle.dwt.specs.declared.filter.Filter.the-variants.{Cdf53I8, Cdf53I16, Cdf53I32, Cdf53F32, Cdf53F64, Cdf97F32, Cdf97F64}
 use Rattle.dwt.specs.Filters.{widthOf, waveletOf, lowOf, highOf, backOf}
 use Rattle.dwt.specs.Pyramids.{approxAt, pyramid}
+
+-- x bytes of samples, and bands of a and d bytes, are a level of f
+abbrev pub LevelOf : Filter → ℕ → ℕ → ℕ → Type 0
+LevelOf f x a d = Level (waveletOf f) (widthOf f) (x / widthOf f) x a d
 
 -- one level of a filter, forward and back
 abbrev pub OneForward : Filter → List ℕ → List ℕ → List ℕ → Answer → List ℕ → List ℕ → Type 0

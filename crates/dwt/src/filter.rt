@@ -5,13 +5,17 @@ ghost use Prim.Native.Nat.{_*_, _<_, _^_};
 ghost use lib.ListN.{length, drop};
 ghost use Rattle.sizes.specs.Bands.{ups};
 ghost use Rattle.sizes.specs.Calls.{Level};
-ghost use Rattle.dwt.specs.Filters.{widthOf, waveletOf, lowOf, highOf};
-ghost use Rattle.dwt.specs.Calls.{OneForward, OneInverse};
+ghost use Rattle.dwt.specs.Filters.{widthOf, waveletOf, lowOf, highOf, backOf};
+ghost use Rattle.dwt.specs.Calls.{LevelOf, OneForward, OneInverse};
 use answers::err::Answer;
+use answers::err::is_done;
+use answers::err::numbers;
 use cdf53i::cdf53i as integer;
 use floats::cdf53f;
 use floats::cdf97f;
 use sizes::Wavelet;
+use sizes::checks::check_forward;
+use sizes::checks::check_inverse;
 
 // The seven filters.
 pub enum Filter {
@@ -62,34 +66,78 @@ pub fn wavelet(f: Filter) -> Wavelet
     }
 }
 
-// One level forward of any filter.
-pub fn execute_forward(f: Filter, input: &[u8], approx: &mut [u8], details: &mut [u8]) -> Answer
-    ensures { λ r. ⌜ OneForward f (now (input .entry)) (now (approx .entry)) (now (details .entry)) r (now (approx .exit)) (now (details .exit)) ⌝ }
+// One level forward of any filter, of bands that fit.
+fn forward(f: Filter, input: &[u8], approx: &mut [u8], details: &mut [u8])
+    requires { ⌜ LevelOf f (length (now input)) (length (now approx)) (length (now details)) ⌝ }
+    ensures { λ _. ⌜ (now (approx .exit) ≡ lowOf f (now (input .entry))) × (now (details .exit) ≡ highOf f (now (input .entry))) ⌝ }
 {
     match f {
-        Filter::Cdf53I8 => integer::execute_forward(1, input, approx, details),
-        Filter::Cdf53I16 => integer::execute_forward(2, input, approx, details),
-        Filter::Cdf53I32 => integer::execute_forward(4, input, approx, details),
-        Filter::Cdf53F32 => cdf53f::execute_forward_f32(input, approx, details),
-        Filter::Cdf53F64 => cdf53f::execute_forward_f64(input, approx, details),
-        Filter::Cdf97F32 => cdf97f::execute_forward_f32(input, approx, details),
-        Filter::Cdf97F64 => cdf97f::execute_forward_f64(input, approx, details),
+        Filter::Cdf53I8 => integer::forward(1, input, approx, details),
+        Filter::Cdf53I16 => integer::forward(2, input, approx, details),
+        Filter::Cdf53I32 => integer::forward(4, input, approx, details),
+        Filter::Cdf53F32 => cdf53f::forward_f32(input, approx, details),
+        Filter::Cdf53F64 => cdf53f::forward_f64(input, approx, details),
+        Filter::Cdf97F32 => cdf97f::forward_f32(cdf97f::factors_f32(), input, approx, details),
+        Filter::Cdf97F64 => cdf97f::forward_f64(cdf97f::factors_f64(), input, approx, details),
     }
 }
 
-// One level back of any filter.
+// One level back of any filter, of bands that fit. The signs of the six factors are changed here.
+fn inverse(f: Filter, approx: &[u8], details: &[u8], output: &mut [u8])
+    requires { ⌜ LevelOf f (length (now output)) (length (now approx)) (length (now details)) ⌝ }
+    ensures { λ _. ⌜ now (output .exit) ≡ backOf f (now (approx .entry)) (now (details .entry)) ⌝ }
+{
+    match f {
+        Filter::Cdf53I8 => integer::inverse(1, approx, details, output),
+        Filter::Cdf53I16 => integer::inverse(2, approx, details, output),
+        Filter::Cdf53I32 => integer::inverse(4, approx, details, output),
+        Filter::Cdf53F32 => cdf53f::inverse_f32(approx, details, output),
+        Filter::Cdf53F64 => cdf53f::inverse_f64(approx, details, output),
+        Filter::Cdf97F32 => {
+            let t = cdf97f::turned_f32(cdf97f::factors_f32());
+            cdf97f::inverse_f32(t, approx, details, output)
+        }
+        Filter::Cdf97F64 => {
+            let t = cdf97f::turned_f64(cdf97f::factors_f64());
+            cdf97f::inverse_f64(t, approx, details, output)
+        }
+    }
+}
+
+// One level forward with document 01's checks.
+pub fn execute_forward(f: Filter, input: &[u8], approx: &mut [u8], details: &mut [u8]) -> Answer
+    ensures { λ r. ⌜ OneForward f (now (input .entry)) (now (approx .entry)) (now (details .entry)) r (now (approx .exit)) (now (details .exit)) ⌝ }
+{
+    let said = check_forward(
+        wavelet(f),
+        width(f),
+        input.len(),
+        approx.len(),
+        details.len(),
+    );
+    let r = numbers(said);
+    if is_done(said) {
+        forward(f, input, approx, details);
+    }
+    r
+}
+
+// One level back with document 01's checks.
 pub fn execute_inverse(f: Filter, approx: &[u8], details: &[u8], output: &mut [u8]) -> Answer
     ensures { λ r. ⌜ OneInverse f (now (approx .entry)) (now (details .entry)) (now (output .entry)) r (now (output .exit)) ⌝ }
 {
-    match f {
-        Filter::Cdf53I8 => integer::execute_inverse(1, approx, details, output),
-        Filter::Cdf53I16 => integer::execute_inverse(2, approx, details, output),
-        Filter::Cdf53I32 => integer::execute_inverse(4, approx, details, output),
-        Filter::Cdf53F32 => cdf53f::execute_inverse_f32(approx, details, output),
-        Filter::Cdf53F64 => cdf53f::execute_inverse_f64(approx, details, output),
-        Filter::Cdf97F32 => cdf97f::execute_inverse_f32(approx, details, output),
-        Filter::Cdf97F64 => cdf97f::execute_inverse_f64(approx, details, output),
+    let said = check_inverse(
+        wavelet(f),
+        width(f),
+        approx.len(),
+        details.len(),
+        output.len(),
+    );
+    let r = numbers(said);
+    if is_done(said) {
+        inverse(f, approx, details, output);
     }
+    r
 }
 
 // One level forward of the n samples in x, approximations to the front of x itself, for a caller that has no third place: the rest of x stays.

@@ -1,20 +1,15 @@
 -- One level of any float filter, once over the format and the wavelet: what the checks leave is what the steps ask, and what the steps leave is the level.
 -- Assumes nothing.
-use mathlib.Core.Bool.{Bool, true, false}
 use mathlib.Core.List.{List}
-use mathlib.Core.Path.{_≡_, sym, _∙_}
+use mathlib.Core.Path.{_≡_, _∙_}
 use Prim.Native.Nat.{ℕ, _/_, _≤_}
 use native.Mathlib.Omega.{arith}
 use lib.Ieee.{nan, Format}
 use lib.ListN.{length}
-use Rattle.answers.specs.declared.err.Answer.{Answer}
-use Rattle.answers.specs.declared.err.Refusal.{Refusal}
-use Rattle.answers.specs.Answers.{answerOf, done}
 use Rattle.sizes.specs.declared.Wavelet.{Wavelet}
 use Rattle.sizes.specs.declared.Wavelet.the-variants.{Cdf53, Cdf97}
 use Rattle.sizes.specs.Bands.{ups, downs, smallestOf}
-use Rattle.sizes.specs.Calls.{sayForward, sayInverse, Level, Forward, Inverse}
-use Rattle.sizes.proofs.OneLevel.{forward-ready, forward-done, forward-refused, inverse-ready, inverse-done, inverse-refused}
+use Rattle.sizes.specs.Calls.{Level}
 use Rattle.samples.specs.Halves.{evenOf, oddOf, joined}
 use Rattle.samples.specs.Floats.{width, decodeFloats, encodeFloats}
 use Rattle.samples.proofs.Words.{holds}
@@ -57,17 +52,6 @@ module _ (f : Format) (x : List ℕ) {a d : List ℕ} (ea : a ≡ encodeFloats f
       let xd : decodeFloats f d ≡ oddOf nan (decodeFloats f x) = rw ed (fit-odd f x) in
       (r .approx ∙ rw (xa, xd), r .details ∙ rw (xa, xd))
 
--- the two ends of a forward call. s is what the checks said, r its numbers, and b whether it is done
-module _ (w : Wavelet) (f : Format) (x a d : List ℕ) {s : Refusal} {r : Answer} {b : Bool} (es : s ≡ sayForward w (width f) (length x) (length a) (length d)) (er : r ≡ answerOf s) (eb : b ≡ done s) where
-  pub forward-lent : b ≡ true → Lent f x a d
-  forward-lent t = ready w f (forward-ready w (width f) (length x) (length a) (length d) (rw es at (sym eb ∙ t)))
-
-  pub forward-made : {a′ d′ : List ℕ} → b ≡ true → (a′ ≡ low f w x) × (d′ ≡ high f w x) → Forward w (width f) (low f w) (high f w) x a d r a′ d′
-  forward-made t p = forward-done w (width f) (low f w) (high f w) x a d s r _ _ es er (sym eb ∙ t) (p .0) (p .1)
-
-  pub forward-kept : b ≡ false → Forward w (width f) (low f w) (high f w) x a d r a d
-  forward-kept t = forward-refused w (width f) (low f w) (high f w) x a d s r es er (sym eb ∙ t)
-
 -- ---- the inverse
 
 module _ (f : Format) (a d : List ℕ) {x : List ℕ} (e : x ≡ encodeFloats f (joined nan (decodeFloats f a) (decodeFloats f d))) where
@@ -89,14 +73,3 @@ module _ (f : Format) (a d : List ℕ) {x : List ℕ} (e : x ≡ encodeFloats f 
       let na : length (decodeFloats f a) ≡ ups (length o / width f) = length-decodeFloats f a ∙ l .approx .count in
       let nd : length (decodeFloats f d) ≡ downs (length o / width f) = length-decodeFloats f d ∙ l .details .count in
       r .output ∙ rw (xs, even-joined nan (decodeFloats f a) (decodeFloats f d) (omega arith) (omega arith), odd-joined nan (decodeFloats f a) (decodeFloats f d) (omega arith) (omega arith))
-
--- the two ends of an inverse call
-module _ (w : Wavelet) (f : Format) (a d o : List ℕ) {s : Refusal} {r : Answer} {b : Bool} (es : s ≡ sayInverse w (width f) (length a) (length d) (length o)) (er : r ≡ answerOf s) (eb : b ≡ done s) where
-  pub inverse-lent : b ≡ true → Lent f o a d
-  inverse-lent t = ready w f (inverse-ready w (width f) (length a) (length d) (length o) (rw es at (sym eb ∙ t)))
-
-  pub inverse-made : {o′ : List ℕ} → b ≡ true → o′ ≡ back f w a d → Inverse w (width f) (back f w) a d o r o′
-  inverse-made t p = inverse-done w (width f) (back f w) a d o s r _ es er (sym eb ∙ t) p
-
-  pub inverse-kept : b ≡ false → Inverse w (width f) (back f w) a d o r o
-  inverse-kept t = inverse-refused w (width f) (back f w) a d o s r es er (sym eb ∙ t)

@@ -5,7 +5,6 @@ ghost use Prim.Native.Nat.{_*_, _/_};
 ghost use lib.Ieee.{binary32, binary64};
 ghost use lib.ListN.{length, drop};
 ghost use Rattle.sizes.specs.Bands.{ups};
-ghost use Rattle.sizes.specs.Calls.{Forward, Inverse};
 ghost use Rattle.floats.specs.Filters.{steps53, back53};
 ghost use Rattle.floats.specs.Bands.{low, high, back};
 ghost use Rattle.floats.specs.Loops.{Lent, LentWithin};
@@ -22,12 +21,7 @@ use crate::single::run2_f32;
 use crate::single::split_f32;
 use crate::within::split_within_f32;
 use crate::within::split_within_f64;
-use answers::err::Answer;
-use answers::err::is_done;
-use answers::err::numbers;
 use sizes::Wavelet;
-use sizes::checks::check_forward;
-use sizes::checks::check_inverse;
 
 // "Odds -0.5, evens 0.25."
 fn schedule53_f32() -> [Step32; 2]
@@ -56,7 +50,7 @@ fn back53_f64() -> [Step64; 2]
 }
 
 // One level of the samples in input: approximations into approx, details into details.
-fn forward_f32(input: &[u8], approx: &mut [u8], details: &mut [u8])
+pub fn forward_f32(input: &[u8], approx: &mut [u8], details: &mut [u8])
     requires { ⌜ Lent binary32 (now input) (now approx) (now details) ⌝ }
     ensures { λ _. ⌜ (now (approx .exit) ≡ low binary32 Wavelet.Cdf53 (now (input .entry))) × (now (details .exit) ≡ high binary32 Wavelet.Cdf53 (now (input .entry))) ⌝ }
 {
@@ -64,7 +58,7 @@ fn forward_f32(input: &[u8], approx: &mut [u8], details: &mut [u8])
     run2_f32(schedule53_f32(), approx, details);
 }
 
-fn forward_f64(input: &[u8], approx: &mut [u8], details: &mut [u8])
+pub fn forward_f64(input: &[u8], approx: &mut [u8], details: &mut [u8])
     requires { ⌜ Lent binary64 (now input) (now approx) (now details) ⌝ }
     ensures { λ _. ⌜ (now (approx .exit) ≡ low binary64 Wavelet.Cdf53 (now (input .entry))) × (now (details .exit) ≡ high binary64 Wavelet.Cdf53 (now (input .entry))) ⌝ }
 {
@@ -96,7 +90,7 @@ pub fn forward_within_f64(x: &mut [u8], d: &mut [u8])
 }
 
 // The samples whose approximations are in approx and details in details, into output.
-fn inverse_f32(approx: &[u8], details: &[u8], output: &mut [u8])
+pub fn inverse_f32(approx: &[u8], details: &[u8], output: &mut [u8])
     requires { ⌜ Lent binary32 (now output) (now approx) (now details) ⌝ }
     ensures { λ _. ⌜ now (output .exit) ≡ back binary32 Wavelet.Cdf53 (now (approx .entry)) (now (details .entry)) ⌝ }
 {
@@ -104,55 +98,10 @@ fn inverse_f32(approx: &[u8], details: &[u8], output: &mut [u8])
     back2_f32(back53_f32(), output);
 }
 
-fn inverse_f64(approx: &[u8], details: &[u8], output: &mut [u8])
+pub fn inverse_f64(approx: &[u8], details: &[u8], output: &mut [u8])
     requires { ⌜ Lent binary64 (now output) (now approx) (now details) ⌝ }
     ensures { λ _. ⌜ now (output .exit) ≡ back binary64 Wavelet.Cdf53 (now (approx .entry)) (now (details .entry)) ⌝ }
 {
     join_f64(approx, details, output);
     back2_f64(back53_f64(), output);
-}
-
-// Both with document 01's checks.
-pub fn execute_forward_f32(input: &[u8], approx: &mut [u8], details: &mut [u8]) -> Answer
-    ensures { λ r. ⌜ Forward Wavelet.Cdf53 4 (low binary32 Wavelet.Cdf53) (high binary32 Wavelet.Cdf53) (now (input .entry)) (now (approx .entry)) (now (details .entry)) r (now (approx .exit)) (now (details .exit)) ⌝ }
-{
-    let said = check_forward(Wavelet::Cdf53, 4, input.len(), approx.len(), details.len());
-    let r = numbers(said);
-    if is_done(said) {
-        forward_f32(input, approx, details);
-    }
-    r
-}
-
-pub fn execute_forward_f64(input: &[u8], approx: &mut [u8], details: &mut [u8]) -> Answer
-    ensures { λ r. ⌜ Forward Wavelet.Cdf53 8 (low binary64 Wavelet.Cdf53) (high binary64 Wavelet.Cdf53) (now (input .entry)) (now (approx .entry)) (now (details .entry)) r (now (approx .exit)) (now (details .exit)) ⌝ }
-{
-    let said = check_forward(Wavelet::Cdf53, 8, input.len(), approx.len(), details.len());
-    let r = numbers(said);
-    if is_done(said) {
-        forward_f64(input, approx, details);
-    }
-    r
-}
-
-pub fn execute_inverse_f32(approx: &[u8], details: &[u8], output: &mut [u8]) -> Answer
-    ensures { λ r. ⌜ Inverse Wavelet.Cdf53 4 (back binary32 Wavelet.Cdf53) (now (approx .entry)) (now (details .entry)) (now (output .entry)) r (now (output .exit)) ⌝ }
-{
-    let said = check_inverse(Wavelet::Cdf53, 4, approx.len(), details.len(), output.len());
-    let r = numbers(said);
-    if is_done(said) {
-        inverse_f32(approx, details, output);
-    }
-    r
-}
-
-pub fn execute_inverse_f64(approx: &[u8], details: &[u8], output: &mut [u8]) -> Answer
-    ensures { λ r. ⌜ Inverse Wavelet.Cdf53 8 (back binary64 Wavelet.Cdf53) (now (approx .entry)) (now (details .entry)) (now (output .entry)) r (now (output .exit)) ⌝ }
-{
-    let said = check_inverse(Wavelet::Cdf53, 8, approx.len(), details.len(), output.len());
-    let r = numbers(said);
-    if is_done(said) {
-        inverse_f64(approx, details, output);
-    }
-    r
 }

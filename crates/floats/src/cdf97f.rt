@@ -5,7 +5,6 @@ ghost use Prim.Native.Nat.{_*_, _/_};
 ghost use lib.Ieee.{binary32, binary64};
 ghost use lib.ListN.{length, drop};
 ghost use Rattle.sizes.specs.Bands.{ups};
-ghost use Rattle.sizes.specs.Calls.{Forward, Inverse};
 ghost use Rattle.floats.specs.Filters.{factors32, factors64, turned, steps97, back97};
 ghost use Rattle.floats.specs.Bands.{low, high, back};
 ghost use Rattle.floats.specs.Loops.{Lent, LentWithin};
@@ -22,12 +21,7 @@ use crate::single::run5_f32;
 use crate::single::split_f32;
 use crate::within::split_within_f32;
 use crate::within::split_within_f64;
-use answers::err::Answer;
-use answers::err::is_done;
-use answers::err::numbers;
 use sizes::Wavelet;
-use sizes::checks::check_forward;
-use sizes::checks::check_inverse;
 
 // The six factors, which travel together as one set.
 pub struct Factors32 {
@@ -48,7 +42,7 @@ pub struct Factors64 {
     pub invk: f64,
 }
 
-fn factors_f32() -> Factors32
+pub fn factors_f32() -> Factors32
     ensures { λ r. ⌜ set32 r ≡ factors32 ⌝ }
 {
     Factors32 {
@@ -61,7 +55,7 @@ fn factors_f32() -> Factors32
     }
 }
 
-fn factors_f64() -> Factors64
+pub fn factors_f64() -> Factors64
     ensures { λ r. ⌜ set64 r ≡ factors64 ⌝ }
 {
     Factors64 {
@@ -100,7 +94,7 @@ fn schedule97_f64(t: Factors64) -> [Step64; 5]
 }
 
 // The set with the signs of the four lifting factors changed, for the inverse.
-fn turned_f32(t: Factors32) -> Factors32
+pub fn turned_f32(t: Factors32) -> Factors32
     ensures { λ r. ⌜ set32 r ≡ turned (set32 t) ⌝ }
 {
     Factors32 {
@@ -113,7 +107,7 @@ fn turned_f32(t: Factors32) -> Factors32
     }
 }
 
-fn turned_f64(t: Factors64) -> Factors64
+pub fn turned_f64(t: Factors64) -> Factors64
     ensures { λ r. ⌜ set64 r ≡ turned (set64 t) ⌝ }
 {
     Factors64 {
@@ -152,7 +146,7 @@ fn back97_f64(t: Factors64) -> [Step64; 5]
 }
 
 // One level of the samples in input: approximations into approx, details into details.
-fn forward_f32(t: Factors32, input: &[u8], approx: &mut [u8], details: &mut [u8])
+pub fn forward_f32(t: Factors32, input: &[u8], approx: &mut [u8], details: &mut [u8])
     requires { ⌜ set32 t ≡ factors32 ⌝ }
     requires { ⌜ Lent binary32 (now input) (now approx) (now details) ⌝ }
     ensures { λ _. ⌜ (now (approx .exit) ≡ low binary32 Wavelet.Cdf97 (now (input .entry))) × (now (details .exit) ≡ high binary32 Wavelet.Cdf97 (now (input .entry))) ⌝ }
@@ -161,7 +155,7 @@ fn forward_f32(t: Factors32, input: &[u8], approx: &mut [u8], details: &mut [u8]
     run5_f32(schedule97_f32(t), approx, details);
 }
 
-fn forward_f64(t: Factors64, input: &[u8], approx: &mut [u8], details: &mut [u8])
+pub fn forward_f64(t: Factors64, input: &[u8], approx: &mut [u8], details: &mut [u8])
     requires { ⌜ set64 t ≡ factors64 ⌝ }
     requires { ⌜ Lent binary64 (now input) (now approx) (now details) ⌝ }
     ensures { λ _. ⌜ (now (approx .exit) ≡ low binary64 Wavelet.Cdf97 (now (input .entry))) × (now (details .exit) ≡ high binary64 Wavelet.Cdf97 (now (input .entry))) ⌝ }
@@ -194,7 +188,7 @@ pub fn forward_within_f64(x: &mut [u8], d: &mut [u8])
 }
 
 // The samples whose approximations are in approx and details in details, into output.
-fn inverse_f32(t: Factors32, approx: &[u8], details: &[u8], output: &mut [u8])
+pub fn inverse_f32(t: Factors32, approx: &[u8], details: &[u8], output: &mut [u8])
     requires { ⌜ set32 t ≡ turned factors32 ⌝ }
     requires { ⌜ Lent binary32 (now output) (now approx) (now details) ⌝ }
     ensures { λ _. ⌜ now (output .exit) ≡ back binary32 Wavelet.Cdf97 (now (approx .entry)) (now (details .entry)) ⌝ }
@@ -203,56 +197,11 @@ fn inverse_f32(t: Factors32, approx: &[u8], details: &[u8], output: &mut [u8])
     back5_f32(back97_f32(t), output);
 }
 
-fn inverse_f64(t: Factors64, approx: &[u8], details: &[u8], output: &mut [u8])
+pub fn inverse_f64(t: Factors64, approx: &[u8], details: &[u8], output: &mut [u8])
     requires { ⌜ set64 t ≡ turned factors64 ⌝ }
     requires { ⌜ Lent binary64 (now output) (now approx) (now details) ⌝ }
     ensures { λ _. ⌜ now (output .exit) ≡ back binary64 Wavelet.Cdf97 (now (approx .entry)) (now (details .entry)) ⌝ }
 {
     join_f64(approx, details, output);
     back5_f64(back97_f64(t), output);
-}
-
-// Both with document 01's checks.
-pub fn execute_forward_f32(input: &[u8], approx: &mut [u8], details: &mut [u8]) -> Answer
-    ensures { λ r. ⌜ Forward Wavelet.Cdf97 4 (low binary32 Wavelet.Cdf97) (high binary32 Wavelet.Cdf97) (now (input .entry)) (now (approx .entry)) (now (details .entry)) r (now (approx .exit)) (now (details .exit)) ⌝ }
-{
-    let said = check_forward(Wavelet::Cdf97, 4, input.len(), approx.len(), details.len());
-    let r = numbers(said);
-    if is_done(said) {
-        forward_f32(factors_f32(), input, approx, details);
-    }
-    r
-}
-
-pub fn execute_forward_f64(input: &[u8], approx: &mut [u8], details: &mut [u8]) -> Answer
-    ensures { λ r. ⌜ Forward Wavelet.Cdf97 8 (low binary64 Wavelet.Cdf97) (high binary64 Wavelet.Cdf97) (now (input .entry)) (now (approx .entry)) (now (details .entry)) r (now (approx .exit)) (now (details .exit)) ⌝ }
-{
-    let said = check_forward(Wavelet::Cdf97, 8, input.len(), approx.len(), details.len());
-    let r = numbers(said);
-    if is_done(said) {
-        forward_f64(factors_f64(), input, approx, details);
-    }
-    r
-}
-
-pub fn execute_inverse_f32(approx: &[u8], details: &[u8], output: &mut [u8]) -> Answer
-    ensures { λ r. ⌜ Inverse Wavelet.Cdf97 4 (back binary32 Wavelet.Cdf97) (now (approx .entry)) (now (details .entry)) (now (output .entry)) r (now (output .exit)) ⌝ }
-{
-    let said = check_inverse(Wavelet::Cdf97, 4, approx.len(), details.len(), output.len());
-    let r = numbers(said);
-    if is_done(said) {
-        inverse_f32(turned_f32(factors_f32()), approx, details, output);
-    }
-    r
-}
-
-pub fn execute_inverse_f64(approx: &[u8], details: &[u8], output: &mut [u8]) -> Answer
-    ensures { λ r. ⌜ Inverse Wavelet.Cdf97 8 (back binary64 Wavelet.Cdf97) (now (approx .entry)) (now (details .entry)) (now (output .entry)) r (now (output .exit)) ⌝ }
-{
-    let said = check_inverse(Wavelet::Cdf97, 8, approx.len(), details.len(), output.len());
-    let r = numbers(said);
-    if is_done(said) {
-        inverse_f64(turned_f64(factors_f64()), approx, details, output);
-    }
-    r
 }

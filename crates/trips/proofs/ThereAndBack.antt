@@ -27,7 +27,7 @@ use Rattle.dwt.specs.Calls.{sayMulti, Multi, sayDwt, Dwt, Ready}
 use Rattle.dwt.specs.Backward.{total, sayBack, MultiBack}
 use Rattle.dwt.proofs.Multi.{multi-ready}
 use Rattle.dwt.proofs.Backs.{back-ready}
-use Rattle.dwt.proofs.PyramidLaws.{approx-after}
+use Rattle.dwt.proofs.Lasts.{dwt-gives}
 use Rattle.trips.proofs.Lengths.{length-approx, length-details, length-lengths, places-total, at-most-total}
 use Rattle.trips.proofs.Trips.{approx-part, details-part, level-part, samples-trip, length-samples}
 use Rattle.trips.proofs.Undone.{Integers, undoes, trip-is, pyramid-again}
@@ -109,14 +109,9 @@ module _ {f : Filter} (l : ℕ) (x : List ℕ) {o u v : List ℕ} {r : Answer} {
   dwt-call {a} {d} {s} {t} m z =
       let j = levelsOf l - 1 in
       let e : suc j ≡ levelsOf l = omega (arith, ready .some) in
-      let said = sayDwt f l (length x) (length a) (length d) (length s) (length t) in (
-        call-approx
-            ∙ ap (λ (i : ℕ). approxAt f i x) (sym e)
-            ∙ approx-after f j x
-            ∙ sym (m .approx ∙ left-done said (lowOf f (approxAt f j x)) a z),
-        ap (λ (i : ℕ). take (widthOf f * downs (places j count)) (drop (widthOf f * places i count) o′)) (sym e)
-            ∙ call-level j (omega arith)
-            ∙ sym (m .details ∙ left-done said (highOf f (approxAt f j x)) d z),
+      let gives = dwt-gives f l x a d s t m z in (
+        call-approx ∙ sym (gives .0),
+        ap (λ (i : ℕ). take (widthOf f * downs (places j count)) (drop (widthOf f * places i count) o′)) (sym e) ∙ call-level j (omega arith) ∙ sym (gives .1),
       )
 
   -- `multi_idwt` on the two parts, into an output as long as x
