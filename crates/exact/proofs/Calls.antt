@@ -22,8 +22,9 @@ use Rattle.dwt.specs.Pyramids.{approxAt, roundTrip}
 use Rattle.dwt.specs.Calls.{sayMulti, Multi}
 use Rattle.dwt.specs.Backward.{MultiBack}
 use Rattle.dwt.proofs.Multi.{levels-pos}
+use Rattle.dwt.proofs.Lasts.{dwt-gives}
 use Rattle.trips.proofs.Lengths.{length-trip}
-use Rattle.trips.proofs.ThereAndBack.{Area, LengthsIn, call-depth, call-approx, call-level, trip-call}
+use Rattle.trips.proofs.ThereAndBack.{Area, LengthsIn, some-levels, call-depth, call-approx, call-level, trip-call}
 use Rattle.exact.specs.Exact.{Are, Inputs, number}
 use Rattle.exact.specs.Levels.{filter53, most, after8, Exact, samplesIn, numbersIn, deepest, allDetails, ExactBytes}
 use Rattle.exact.proofs.Inputs.{inputs-exact}
@@ -58,7 +59,7 @@ module _ (f : Format) (l : ℕ) (x : List ℕ) {o u v : List ℕ} {r : Answer} {
     exact-call few inputs = (
       trip .0,
       record {
-        approximations-are = lows-are f (levelsOf l) x (numbersIn f x) isExact;
+        approximations-are = λ i h m z. rw (dwt-gives (filter53 f) (suc i) x _ _ _ _ m z .0, some-levels (suc i) (omega arith)) (lows-are f (levelsOf l) x (numbersIn f x) isExact i h);
         deepest-are = rw (call-approx l x call isDone) (last-are f (levelsOf l) x (levels-pos l) isExact);
         details-are = λ i h. rw (call-level l x call isDone i h) (highs-are f (levelsOf l) x (numbersIn f x) isExact i h);
         inputs-back = λ i h. rw (trip .1) (bytes-equal f (levelsOf l) x (numbersIn f x) isExact i (rw (length-map (decodeFloats f x) number, floats-in f x) h));

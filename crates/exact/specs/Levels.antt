@@ -1,6 +1,7 @@
 -- Levels of the float 5/3 filter and of the integer steps, and what the exact case of document 01 promises of them: "every level-l coefficient times 8^l is a
 -- whole number given by the integer steps without floor and without the added 2, and the inverse gives the inputs back numerically". Over the format.
 -- Assumes nothing: these are definitions.
+use mathlib.Core.Bool.{true}
 use mathlib.Core.List.{List, map}
 use mathlib.Core.Path.{_≡_}
 use Prim.Native.Nat.{ℕ, zero, suc, _-_, _*_, _/_, _^_, _<_}
@@ -8,6 +9,8 @@ use lib.Dec.{T}
 use lib.Ieee.{Float, nan, Format, binary32, binary64, prec, eq}
 use lib.IntN.{ℤ, pos, _*ℤ_}
 use lib.ListN.{length, getD, take, drop}
+use Rattle.answers.specs.declared.err.Answer.{Answer}
+use Rattle.answers.specs.Answers.{done}
 use Rattle.sizes.specs.declared.Wavelet.the-variants.{Cdf53}
 use Rattle.sizes.specs.Bands.{downs}
 use Rattle.sizes.specs.Levels.{places}
@@ -17,7 +20,7 @@ use Rattle.floats.specs.Bands.{approxs, details, restored}
 use Rattle.dwt.specs.declared.filter.Filter.{Filter}
 use Rattle.dwt.specs.declared.filter.Filter.the-variants.{Cdf53F32, Cdf53F64}
 use Rattle.dwt.specs.Filters.{widthOf}
-use Rattle.dwt.specs.Pyramids.{approxAt}
+use Rattle.dwt.specs.Calls.{sayDwt, Dwt}
 use Rattle.exact.specs.Exact.{Are, number, details2, approximations8}
 
 -- the 5/3 filter of the format
@@ -63,7 +66,7 @@ pub record Exact (f : Format) (levels : ℕ) (x : List Float) (z : List ℤ) : T
   pub inputs-back : (i : ℕ) → i < length z → T (eq (getD (backAfter f levels x) i nan) (getD x i nan))
   pub lengths-back : length (backAfter f levels x) ≡ length x
 
--- ---- the same about the bytes of two calls: x are the samples, y is what `multi_dwt` gave of them, and p what `multi_idwt` gave of y
+-- ---- the same about the bytes of the calls: x are the samples, y is what `multi_dwt` gave of them, and p what `multi_idwt` gave of y
 
 -- how many samples s holds
 abbrev pub samplesIn : Format → List ℕ → ℕ
@@ -84,8 +87,11 @@ abbrev pub detailsOf : Format → ℕ → List ℕ → List ℕ → List ℕ
 detailsOf f i x y = take (widthOf (filter53 f) * downs (places i (samplesIn f x))) (drop (widthOf (filter53 f) * places (suc i) (samplesIn f x)) y)
 
 pub record ExactBytes (f : Format) (levels : ℕ) (x y p : List ℕ) : Type 0 where
-  -- each approximation of level i + 1, times 8 ^ (i + 1), is the whole number that the integer steps give, and those of the last level stand in y
-  pub approximations-are : (i : ℕ) → i < levels → Are (3 * suc i) (2 ^ prec f) (decodeFloats f (approxAt (filter53 f) (suc i) x)) (after8 (suc i) (numbersIn f x))
+  -- each approximation of level i + 1, times 8 ^ (i + 1), is the whole number that the integer steps give: `dwt` of so many levels gives them
+  pub approximations-are : (i : ℕ) → i < levels → {a d u v : List ℕ} {r : Answer} {a′ d′ u′ v′ : List ℕ} → Dwt (filter53 f) (suc i) x a d u v r a′ d′ u′ v′
+      → done (sayDwt (filter53 f) (suc i) (length x) (length a) (length d) (length u) (length v)) ≡ true
+      → Are (3 * suc i) (2 ^ prec f) (decodeFloats f a′) (after8 (suc i) (numbersIn f x))
+  -- those of the last level stand in y
   pub deepest-are : Are (3 * levels) (2 ^ prec f) (decodeFloats f (deepest f levels x y)) (after8 levels (numbersIn f x))
   -- and so is each detail in y
   pub details-are : (i : ℕ) → i < levels → Are (3 * suc i) (2 ^ prec f) (decodeFloats f (detailsOf f i x y)) (times 4 (details2 (after8 i (numbersIn f x))))
