@@ -41,17 +41,16 @@ is-place n l p h =
 module _ (n l : ℕ) where
   -- the span of a sample's column holds the sample
   pub holds : (s : ℕ) → s < n → (spanOf n l (columnOf l s) .0 ≤ s) × (s ≤ spanOf n l (columnOf l s) .1)
-  unfolding columnOf spanOf
+  unfolding spanOf
   holds s h = (div-mul-le-self s (2 ^ l), omega (arith, next (s / 2 ^ l) (2 ^ l), lt-div-mul-add {a = s} (pow-pos l)))
 
   -- a sample's column is one of the places
   pub column-below : (s : ℕ) → s < n → columnOf l s < places l n
-  unfolding columnOf
   column-below s h = is-place n l (s / 2 ^ l) (omega (arith, div-mul-le-self s (2 ^ l)))
 
   -- a sample in the span of p has column p: no two spans share a sample
   pub only-column : (p s : ℕ) → spanOf n l p .0 ≤ s → s ≤ spanOf n l p .1 → columnOf l s ≡ p
-  unfolding columnOf spanOf
+  unfolding spanOf
   only-column p s h g = div-eq-of-lt-le (2 ^ l) h (omega (arith, next p (2 ^ l), pow-pos l))
 
   -- no span is empty

@@ -13,7 +13,7 @@ use Rattle.sizes.specs.Bands.{mostSamples}
 use Rattle.sizes.specs.Levels.{places, depthOf}
 
 -- "sample s shows at approximation floor(s / 2^l)"
-unfoldable pub columnOf : ℕ → ℕ → ℕ
+abbrev pub columnOf : ℕ → ℕ → ℕ
 columnOf l s = s / 2 ^ l
 
 -- "approximation p spans samples p·2^l to (p+1)·2^l - 1, no further than n-1"

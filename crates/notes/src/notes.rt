@@ -44,7 +44,7 @@ pub fn column(level: usize, s: SampleNumber) -> CoefficientNumber
     requires { ⌜ level < 64 ⌝ }
     ensures { λ r. ⌜ r .0 ≡ columnOf level (s .0) ⌝ }
 {
-    CoefficientNumber(s.0 / reach(level))
+    CoefficientNumber(s.0 >> level)
 }
 
 // The samples that an approximation spans.
