@@ -1,27 +1,28 @@
--- What a done call of `note_column` or `note_span` has passed, and that the column of a note can be asked back for its span. Assumes nothing.
-use mathlib.Core.Bool.{true, false, not}
+-- Where `note_column` and `note_span` end, what they have passed there, and that the column of a note can be asked back for its span. Assumes nothing.
+use mathlib.Core.Bool.{Bool, true, false, not}
 use mathlib.Core.Logic.{⊎-elim}
 use mathlib.Core.Path.{_≡_, refl, sym, ap, _∙_}
 use Prim.Native.Nat.{ℕ, zero, suc, _+_, _*_, _^_, _≤_, _<_}
 use native.Mathlib.Nat.{pow-succ'}
 use native.Mathlib.Omega.{arith}
-use borrow.Author.Tests.{lt-ltb, ltb-true, ltb-false, eqb-false, not-false}
+use borrow.Author.Tests.{lt-ltb, le-ltb, ltb-true, ltb-false, eqb-false, not-true, not-false}
 use lib.Dec.{ltb}
 use lib.Pow.{pow-pos, pow-mono}
 use Rattle.answers.specs.declared.err.Answer.{Answer}
 use Rattle.answers.specs.declared.err.Refusal.{Refusal}
-use Rattle.answers.specs.declared.err.Refusal.the-variants.{Done}
+use Rattle.answers.specs.declared.err.Refusal.the-variants.{Done, NoSuchPlace}
 use Rattle.answers.specs.Answers.{answerOf, done}
 use Rattle.answers.specs.Checks.{firstOf}
 use Rattle.answers.proofs.Order.{lt-or-le}
-use Rattle.answers.proofs.Passed.{Passing, passing, through}
+use Rattle.answers.proofs.Passed.{Passing, passing, through, say-rest, say-stop}
+use Rattle.answers.proofs.Chain.{by, stop}
 use Rattle.answers.proofs.Endings.{is-done}
 use Rattle.sizes.specs.declared.Wavelet.the-variants.{Cdf53}
 use Rattle.sizes.specs.Bands.{mostSamples}
 use Rattle.sizes.specs.Levels.{places, depthOf}
 use Rattle.sizes.proofs.Counts.{places-le}
 use Rattle.sizes.proofs.Depths.{long-enough}
-use Rattle.notes.specs.Notes.{columnOf, spanOf, levelChecks, noteChecks, sayColumn, saySpan, Drawn}
+use Rattle.notes.specs.Notes.{columnOf, spanOf, levelChecks, placeChecks, noteChecks, sayColumn, saySpan, Drawn}
 use Rattle.notes.proofs.Spans.{next, starts, holds, column-below}
 
 -- a level within the depth: one of its approximations spans fewer than n samples
@@ -39,9 +40,24 @@ passes n l q =
       wide = within-depth n l (omega (arith, eqb-false l 0 (q .1 .0))) (ltb-false (depthOf Cdf53 n) l (q .1 .1 .0));
     }
 
--- r is what the checks of a level said, and they let by
-pub drawn : (n l : ℕ) {r : Refusal} → r ≡ firstOf (levelChecks n l) (Done 0 0) → done r ≡ true → Drawn n l
-drawn n l e h = passes n l (passing (levelChecks n l) (Done 0 0) (refl, (refl, (refl, tt))) (sym (ap done e) ∙ h))
+-- a call that asks for its level first: r is what the level's checks said, and b whether they let by
+module _ (n l : ℕ) {r : Refusal} {b : Bool} (e : r ≡ firstOf (levelChecks n l) (Done 0 0)) (d : b ≡ done r) where
+  pub drawn : not b ≡ false → Drawn n l
+  drawn h = passes n l (passing (levelChecks n l) (Done 0 0) (refl, (refl, (refl, tt))) (sym (ap done e) ∙ sym d ∙ not-false b h))
+
+  -- where it ends: at the level, at the place, or with what it has to say
+  module _ (place limit : ℕ) (z : Refusal) where
+    past : {t : Refusal} → not b ≡ false → t ≡ firstOf (placeChecks place limit) z → t ≡ firstOf (noteChecks n l place limit) z
+    past h g = say-rest (levelChecks n l) (placeChecks place limit) z (refl, (refl, (refl, tt))) e (sym d ∙ not-false b h) g
+
+    pub level-stops : not b ≡ true → r ≡ firstOf (noteChecks n l place limit) z
+    level-stops h = say-stop (levelChecks n l) (placeChecks place limit) z e (sym d ∙ not-true b h)
+
+    pub place-stops : (m : ℕ) → m ≡ limit → not b ≡ false → m ≤ place → NoSuchPlace place m ≡ firstOf (noteChecks n l place limit) z
+    place-stops m q h g = past h (stop z (ap not (le-ltb place limit (omega arith))) (ap (NoSuchPlace place) q))
+
+    pub place-passes : {t : Refusal} → not b ≡ false → place < limit → t ≡ z → t ≡ firstOf (noteChecks n l place limit) z
+    place-passes h g q = past h (by (NoSuchPlace place limit) (ap not (lt-ltb place limit g)) q)
 
 -- two to the level fits
 pub fits : (n l : ℕ) → Drawn n l → l < 64
