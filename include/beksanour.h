@@ -334,7 +334,7 @@ bk_answer bk_pyramid_section(const uint8_t *file, size_t file_bytes, uint32_t wi
  * Refused, in this order:
  *   6                    over 16,777,216 samples
  *   13 (level, depth)    level is 0 or above the 5/3 depth of n
- *   13 (sample, n)       there are no more than n samples
+ *   13 (sample, n)       sample is not one of 0 to n - 1
  *
  * For example, of 20 samples at level 1, sample 7 shows at column 3.
  */
@@ -348,7 +348,7 @@ bk_answer bk_note_column(uint64_t n, uint32_t level, uint64_t sample);
  * Refused, in this order:
  *   6                    over 16,777,216 samples
  *   13 (level, depth)    level is 0 or above the 5/3 depth of n
- *   13 (place, places)   there are no more approximations at that level: ceil(n / 2^level)
+ *   13 (place, places)   place is not one of 0 to places - 1; the level has places = ceil(n / 2^level) approximations
  *
  * For example, of 20 samples at level 1, column 3 spans samples 6 to 7; of 5 samples, column 2 spans sample 4 alone.
  */
