@@ -326,6 +326,54 @@ bk_answer bk_pyramid_open(const uint8_t *file, size_t file_bytes, uint32_t width
  */
 bk_answer bk_pyramid_section(const uint8_t *file, size_t file_bytes, uint32_t width, uint32_t point, uint32_t number);
 
+/*
+ * Where a note shows: a note stands at a sample, a drawn column at a coefficient, and the two kinds of number are never mixed.
+ * At `level`, from 1 to the 5/3 depth, sample s of n shows at approximation floor(s / 2^level).
+ * Done: first is the column, which is the number of that approximation.
+ *
+ * Refused, in this order:
+ *   6                    over 16,777,216 samples
+ *   13 (level, depth)    level is 0 or above the 5/3 depth of n
+ *   13 (sample, n)       sample is not one of 0 to n - 1
+ *
+ * For example, of 20 samples at level 1, sample 7 shows at column 3.
+ */
+bk_answer bk_note_column(uint64_t n, uint32_t level, uint64_t sample);
+
+/*
+ * The samples that a column stands for: approximation p of `level` spans samples p * 2^level to (p + 1) * 2^level - 1, no
+ * further than n - 1. The columns of a level span all n samples, each sample once: the column of a sample spans that sample.
+ * Done: first is the first sample of the span, second the last.
+ *
+ * Refused, in this order:
+ *   6                    over 16,777,216 samples
+ *   13 (level, depth)    level is 0 or above the 5/3 depth of n
+ *   13 (place, places)   place is not one of 0 to places - 1; the level has places = ceil(n / 2^level) approximations
+ *
+ * For example, of 20 samples at level 1, column 3 spans samples 6 to 7; of 5 samples, column 2 spans sample 4 alone.
+ */
+bk_answer bk_note_span(uint64_t n, uint32_t level, uint64_t place);
+
+/*
+ * A window on a band, to draw a part of it: `count` samples from `start`, of `approx` where `band` is 0, of `details` where it
+ * is any other number. Nothing is copied, the caller reads its own band there.
+ * Done: first is the place of its first byte in that band, second how many bytes it has.
+ *
+ * Refused, in this order:
+ *   9 (0, length)        a slice's byte length is no multiple of the width: the first of approx, details, whichever was asked
+ *   13 (start, length)   count is 0, or the window runs past the end of the band, which has length samples
+ */
+bk_answer bk_band_window_i8(const uint8_t *approx, size_t approx_bytes, const uint8_t *details, size_t details_bytes,
+                            uint32_t band, uint64_t start, uint64_t count);
+bk_answer bk_band_window_i16(const uint8_t *approx, size_t approx_bytes, const uint8_t *details, size_t details_bytes,
+                             uint32_t band, uint64_t start, uint64_t count);
+bk_answer bk_band_window_i32(const uint8_t *approx, size_t approx_bytes, const uint8_t *details, size_t details_bytes,
+                             uint32_t band, uint64_t start, uint64_t count);
+bk_answer bk_band_window_f32(const uint8_t *approx, size_t approx_bytes, const uint8_t *details, size_t details_bytes,
+                             uint32_t band, uint64_t start, uint64_t count);
+bk_answer bk_band_window_f64(const uint8_t *approx, size_t approx_bytes, const uint8_t *details, size_t details_bytes,
+                             uint32_t band, uint64_t start, uint64_t count);
+
 #ifdef __cplusplus
 }
 #endif

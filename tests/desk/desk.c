@@ -91,6 +91,15 @@ static bk_answer call_rwww(function f, const struct arg *a) {
         a[0].bytes, a[0].count, (uint32_t)a[1].number, (uint32_t)a[2].number, (uint32_t)a[3].number);
 }
 
+static bk_answer call_nwn(function f, const struct arg *a) {
+    return ((bk_answer(*)(uint64_t, uint32_t, uint64_t))f)(a[0].number, (uint32_t)a[1].number, a[2].number);
+}
+
+static bk_answer call_rrwnn(function f, const struct arg *a) {
+    return ((bk_answer(*)(const uint8_t *, size_t, const uint8_t *, size_t, uint32_t, uint64_t, uint64_t))f)(
+        a[0].bytes, a[0].count, a[1].bytes, a[1].count, (uint32_t)a[2].number, a[3].number, a[4].number);
+}
+
 static const struct shape shape_n = {"n", call_n};
 static const struct shape shape_rmm = {"rmm", call_rmm};
 static const struct shape shape_rrm = {"rrm", call_rrm};
@@ -99,6 +108,8 @@ static const struct shape shape_rwmmmm = {"rwmmmm", call_rwmmmm};
 static const struct shape shape_rwwmmm = {"rwwmmm", call_rwwmmm};
 static const struct shape shape_rrrmmm = {"rrrmmm", call_rrrmmm};
 static const struct shape shape_rwww = {"rwww", call_rwww};
+static const struct shape shape_nwn = {"nwn", call_nwn};
+static const struct shape shape_rrwnn = {"rrwnn", call_rrwnn};
 
 static const struct row {
     const char *name;
@@ -147,6 +158,13 @@ static const struct row {
     {"pyramid_write_i32", &shape_rwwmmm, (function)bk_pyramid_write_i32},
     {"pyramid_open", &shape_rwwmmm, (function)bk_pyramid_open},
     {"pyramid_section", &shape_rwww, (function)bk_pyramid_section},
+    {"note_column", &shape_nwn, (function)bk_note_column},
+    {"note_span", &shape_nwn, (function)bk_note_span},
+    {"band_window_i8", &shape_rrwnn, (function)bk_band_window_i8},
+    {"band_window_i16", &shape_rrwnn, (function)bk_band_window_i16},
+    {"band_window_i32", &shape_rrwnn, (function)bk_band_window_i32},
+    {"band_window_f32", &shape_rrwnn, (function)bk_band_window_f32},
+    {"band_window_f64", &shape_rrwnn, (function)bk_band_window_f64},
 };
 
 // ---- writing

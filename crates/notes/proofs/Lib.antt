@@ -1,0 +1,4 @@
+pub mod Spans
+pub mod Answered
+pub mod Windows
+pub mod Figures
