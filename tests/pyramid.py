@@ -250,8 +250,8 @@ class Tally:
 
 
 # Asks are sent in parts of about 4 MiB.
-def compare(asks):
-    tally, part, size = Tally(), [], 0
+def compare(asks, tally):
+    part, size = [], 0
     for ask in asks:
         part.append(ask)
         size += len(ask.request)
@@ -513,8 +513,9 @@ def main():
     asked = parser.parse_args()
     os.chdir(os.path.join(os.path.dirname(os.path.abspath(__file__)), ".."))
     source = random.Random(asked.seed)
-    tally = compare(ask for part in asked.parts for ask in part(source))
+    tally = compare((ask for part in asked.parts for ask in part(source)), Tally())
     print(f"ok pyramid: {tally.files} files, {tally.opens} opens, {tally.refused} of them refused, {tally.sections} sections asked for, {tally.missing} of them refused")
 
 
-main()
+if __name__ == "__main__":
+    main()
