@@ -95,12 +95,11 @@ front-step kind s z i h = rw add-one (take-suc (map kind s) i (kind z) (rw (leng
 pub record RanTo (f : Format) {S : Type 0} (kind : S → Step) (s : List S) (k : ℕ) (a d : List ℕ) (i : ℕ) (a₁ d₁ : List ℕ) : Type 0 where
   pub bands : Bands f a d
   pub count : length s ≡ k
-  pub upTo : i ≤ k
   pub ran : Ran f (take i (map kind s)) a d a₁ d₁
 
 module _ {f : Format} {S : Type 0} {kind : S → Step} {s : List S} {k : ℕ} {a d : List ℕ} where
   pub ranTo-none : Bands f a d → length s ≡ k → RanTo f kind s k a d 0 a d
-  ranTo-none b n = record { bands = b; count = n; upTo = omega arith; ran = ran-none b }
+  ranTo-none b n = record { bands = b; count = n; ran = ran-none b }
 
   module _ {i : ℕ} {a₁ d₁ : List ℕ} (r : RanTo f kind s k a d i a₁ d₁) where
     pub ranTo-bands : Bands f a₁ d₁
@@ -117,7 +116,7 @@ module _ {f : Format} {S : Type 0} {kind : S → Step} {s : List S} {k : ℕ} {a
         record {
           bands = r .bands;
           count = r .count;
-          upTo = omega arith;
+         
           ran = rw (front-step kind s z i (omega (arith, r .count))) (ran-then (take i (map kind s)) (kind (getD s i z) ∷ []) (r .ran) q);
         }
 

@@ -78,12 +78,11 @@ ranOn-then {f} ss ts {x} {x₁} r q =
 pub record RanOnTo (f : Format) {S : Type 0} (kind : S → Step) (s : List S) (k : ℕ) (x : List ℕ) (i : ℕ) (x₁ : List ℕ) : Type 0 where
   pub lanes : Lanes f x
   pub count : length s ≡ k
-  pub upTo : i ≤ k
   pub ran : RanOn f (take i (map kind s)) x x₁
 
 module _ {f : Format} {S : Type 0} {kind : S → Step} {s : List S} {k : ℕ} {x : List ℕ} where
   pub ranOnTo-none : Lanes f x → length s ≡ k → RanOnTo f kind s k x 0 x
-  ranOnTo-none l n = record { lanes = l; count = n; upTo = omega arith; ran = ranOn-none l }
+  ranOnTo-none l n = record { lanes = l; count = n; ran = ranOn-none l }
 
   module _ {i : ℕ} {x₁ : List ℕ} (r : RanOnTo f kind s k x i x₁) where
     pub ranOnTo-lanes : Lanes f x₁
@@ -97,7 +96,6 @@ module _ {f : Format} {S : Type 0} {kind : S → Step} {s : List S} {k : ℕ} {x
         record {
           lanes = r .lanes;
           count = r .count;
-          upTo = omega arith;
           ran = rw (front-step kind s z i (omega (arith, r .count))) (ranOn-then (take i (map kind s)) (kind (getD s i z) ∷ []) (r .ran) q);
         }
 

@@ -133,19 +133,18 @@ module _ {f : Format} {c : Float} {a d : List ℕ} where
 -- ---- times c: the first i of the floats s₀ are new
 
 pub record ScaledTo (f : Format) (c : Float) (s₀ : List ℕ) (i : ℕ) (s : List ℕ) : Type 0 where
-  pub upTo : i ≤ length s₀ / width f
   pub new : Midway f (length s₀ / width f) i (scaledOf f c s₀) (floatsOf f s₀) s
 
 module _ {f : Format} {c : Float} {s₀ : List ℕ} where
   pub scaled-none : Stored f (length s₀ / width f) s₀ → ScaledTo f c s₀ 0 s₀
-  scaled-none h = record { upTo = omega arith; new = midway-none _ h }
+  scaled-none h = record { new = midway-none _ h }
 
   module _ {i : ℕ} {s : List ℕ} (h : ScaledTo f c s₀ i s) where
     pub scaled-here : i < length s₀ / width f → Ready f s i
     scaled-here l = midway-ready s₀ (h .new) (omega arith) l
 
     pub scaled-next : {t : List ℕ} → i < length s₀ / width f → t ≡ putFloat f s i (mul f (floatAt f s i) c) → ScaledTo f c s₀ (i + 1) t
-    scaled-next l put = record { upTo = omega arith; new = midway-put (h .new) l (rw (midway-later s₀ (h .new) i l (omega arith))) put }
+    scaled-next l put = record { new = midway-put (h .new) l (rw (midway-later s₀ (h .new) i l (omega arith))) put }
 
     pub scaled-all : length s₀ / width f ≤ i → s ≡ encodeFloats f (scaled f c (decodeFloats f s₀))
     unfolding scaled

@@ -1,9 +1,9 @@
 -- `execute_inverse_f64` meets its contract: the checks, then the steps where they let by. Assumes nothing.
 use borrow.Author.Needs.{needs}
 use mathlib.Core.Path.{ap, _∙_}
+use Rattle.floats.specs.Filters.{turned}
 use lib.Ieee.{binary64}
 use Rattle.sizes.specs.declared.Wavelet.the-variants.{Cdf97}
-use Rattle.floats.specs.Filters.{turned}
 use Rattle.floats.proofs.Levels.{inverse-lent, inverse-made, inverse-kept}
 use Rattle.floats.proofs.cdf97f.execute_inverse_f64.Statement.{statement}
 use Rattle.floats.proofs.cdf97f.execute_inverse_f64.Tie as tie
@@ -17,7 +17,7 @@ execute-inverse-f64-spec =
     (λ c κs. search needs)
     (λ c κs. search needs)
     (λ c κs. search needs)
-    (λ c κs. (c .before .turned-f64 .ensures ∙ ap turned (c .before .before .factors-f64 .ensures), inverse-lent Cdf97 binary64 _ _ _ (c .before .before .before .before .before .before .check-inverse .ensures) (c .before .before .before .before .before .numbers .ensures) (c .before .before .before .before .is-done .ensures) (c .before .before .before .if1 .taken)))
+    (λ c κs. (c .before .turned-f64 .ensures ∙ ap turned (c .before .before .factors-f64 .ensures), search inverse-lent))
     (λ c. search needs)
-    (λ c. inverse-made Cdf97 binary64 _ _ _ (c .before .before .before .before .before .before .before .before .before .check-inverse .ensures) (c .before .before .before .before .before .before .before .before .numbers .ensures) (c .before .before .before .before .before .before .before .is-done .ensures) (c .before .before .before .before .before .before .if1 .taken) (c .before .before .inverse-f64 .ensures))
-    (λ c. inverse-kept Cdf97 binary64 _ _ _ (c .before .before .before .check-inverse .ensures) (c .before .before .numbers .ensures) (c .before .is-done .ensures) (c .if1 .left)))
+    (λ c. search (inverse-made Cdf97 binary64))
+    (λ c. search (inverse-kept Cdf97 binary64)))
