@@ -44,6 +44,9 @@ module _ (f : Format) where
   runD-append [] ts a d = refl
   runD-append (s ∷ ss) ts a d = runD-append ss ts (stepA f s a d) (stepD f s a d)
 
+pub ran-scaled : {f : Format} {p q : Float} {a d a′ d′ : List ℕ} → a′ ≡ encodeFloats f (scaled f p (decodeFloats f a)) → d′ ≡ encodeFloats f (scaled f q (decodeFloats f d)) → Ran f (scaling p q ∷ []) a d a′ d′
+ran-scaled ea ed = record { approx = ea; details = ed }
+
 module _ {f : Format} {a d : List ℕ} (b : Bands f a d) where
   ran-none : Ran f [] a d a d
   ran-none = record { approx = sym (b .approx .plain); details = sym (b .details .plain) }

@@ -24,4 +24,4 @@ dwt97-scale-f64-spec =
     (λ c. search needs)
     (λ c. search scaled-next)
     (λ c. search needs)
-    (λ c. scaled-all (c .before .loop .inv) (c .loop-test .left)))
+    (λ c. search (scaled-all {f = binary64})))

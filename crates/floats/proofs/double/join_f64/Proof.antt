@@ -31,6 +31,6 @@ join-f64-spec =
     (λ c. search needs)
     (λ c κs. search needs)
     (λ c. search needs)
-    (λ c. paired-done-odd (c .before .before .before .before .before .before .loop .inv) (c .before .before .before .before .before .loop-test .left) (c .before .before .before .before .if1 .taken) (c .before .before .copy-f643 .ensures))
+    (λ c. search (paired-done-odd {f = binary64}))
     (λ c. search needs)
-    (λ c. paired-done (c .before .before .loop .inv) (c .before .loop-test .left) (c .if1 .left)))
+    (λ c. search (paired-done {f = binary64})))

@@ -30,6 +30,6 @@ lift-lane-f64-spec =
     (λ c. search lane-next)
     (λ c κs. lane-last (c .before .before .before .loop .inv) (c .before .if1 .taken))
     (λ c. search needs)
-    (λ c. lane-all-last (c .before .before .before .before .before .before .loop .inv) (c .before .before .before .before .if1 .taken) (c .before .before .before .before .before .loop-test .left) (c .before .before .lift-at-f642 .ensures))
+    (λ c. search (lane-all-last {f = binary64}))
     (λ c. search needs)
-    (λ c. lane-all (c .before .before .loop .inv) (c .if1 .left)))
+    (λ c. search (lane-all {f = binary64})))

@@ -27,6 +27,6 @@ dwt97-forward-update-even-f32-spec =
     (λ c. search evens-next)
     (λ c κs. evens-last (c .before .before .before .loop .inv) (c .before .if1 .taken))
     (λ c. search needs)
-    (λ c. evens-all-last (c .before .before .before .before .before .before .loop .inv) (c .before .before .before .before .if1 .taken) (c .before .before .before .before .before .loop-test .left) (c .before .before .lift-at-f322 .ensures))
+    (λ c. search (evens-all-last {f = binary32}))
     (λ c. search needs)
-    (λ c. evens-all (c .before .before .loop .inv) (c .before .loop-test .left) (c .if1 .left)))
+    (λ c. search (evens-all {f = binary32})))

@@ -32,4 +32,4 @@ dwt97-forward-update-odd-f32-spec =
     (λ c κs. odds-last-right (c .before .before .loop .inv))
     (λ c κs. odds-last (c .before .before .before .before .loop .inv))
     (λ c. search needs)
-    (λ c. odds-all (c .before .before .before .before .before .before .before .loop .inv) (c .before .before .before .before .before .before .loop-test .left) (c .before .before .before .before .before .get-plain-f323 .ensures) (c .before .before .before .before .get-plain-f324 .ensures) (c .before .before .lift-at-f322 .ensures)))
+    (λ c. search (odds-all {f = binary32})))

@@ -30,6 +30,6 @@ scale-lanes-f32-spec =
     (λ c. search needs)
     (λ c κs. lanes-last (c .before .before .before .loop .inv) (c .before .if1 .taken))
     (λ c. search needs)
-    (λ c. lanes-all-odd (c .before .before .before .before .before .before .loop .inv) (c .before .before .before .before .if1 .taken) (c .before .before .before .before .before .loop-test .left) (c .before .before .scale-at-f323 .ensures))
+    (λ c. search (lanes-all-odd {f = binary32}))
     (λ c. search needs)
-    (λ c. lanes-all (c .before .before .loop .inv) (c .before .loop-test .left) (c .if1 .left)))
+    (λ c. search (lanes-all {f = binary32})))
