@@ -1,15 +1,20 @@
 -- What a turn of each loop over a band stores, and what its last one leaves, once over the format. Assumes nothing.
 use mathlib.Core.List.{List}
-use mathlib.Core.Path.{_≡_, refl}
+use mathlib.Core.Path.{_≡_, refl, ap, _∙_}
 use Prim.Native.Nat.{ℕ, _+_, _-_, _/_, _≤_, _<_, min}
 use native.Mathlib.Omega.{arith}
-use lib.Ieee.{Float, nan, Format, mul}
+use lib.Ieee.{Float, nan, Format, add, mul}
 use lib.ListN.{length}
 use Rattle.samples.specs.Floats.{width, floatAt, putFloat, decodeFloats, encodeFloats}
 use Rattle.samples.proofs.FloatLaws.{length-decodeFloats, at-decodeFloats}
 use Rattle.floats.specs.Steps.{lift, oddAt, evenAt, odds, evens, scaled}
 use Rattle.floats.specs.Loops.{Stored, Bands}
 use Rattle.floats.proofs.Midway.{Midway, floatsOf, midway-none, midway-put, midway-later, midway-all, Ready, midway-ready, stored-ready}
+
+-- what lift_at stores
+pub put-lifted : (f : Format) (s : List ℕ) (i : ℕ) (c l r : Float) {t : List ℕ} {x y : Float} → t ≡ putFloat f s i y → y ≡ add f (mul f (add f l r) c) x → x ≡ floatAt f s i → t ≡ putFloat f s i (lift f c l r (floatAt f s i))
+unfolding lift
+put-lifted f s i c l r e ey ex = e ∙ rw (ey, ex)
 
 module _ (f : Format) (c : Float) where
   -- the details after "odds c", the approximations after "evens c", and floats times c
