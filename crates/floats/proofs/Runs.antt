@@ -119,7 +119,6 @@ module _ {f : Format} {S : Type 0} {kind : S → Step} {s : List S} {k : ℕ} {a
         record {
           bands = r .bands;
           count = r .count;
-         
           ran = rw (front-step kind s z i (omega (arith, r .count))) (ran-then (take i (map kind s)) (kind (getD s i z) ∷ []) (r .ran) q);
         }
 

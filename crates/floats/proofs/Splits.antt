@@ -21,11 +21,11 @@ module _ (f : Format) (n : ℕ) (g : ℕ → Float) where
   abbrev pub FloatFront : ℕ → List ℕ → Type 0
   FloatFront i s = Front (width f) n i (λ j. toBits f (g j)) s
 
-  pub floats-more : {i j : ℕ} {s t : List ℕ} {v : Float} → FloatFront i s → j ≡ i → i < n → v ≡ g j → t ≡ putFloat f s j v → FloatFront (i + 1) t
+  floats-more : {i j : ℕ} {s t : List ℕ} {v : Float} → FloatFront i s → j ≡ i → i < n → v ≡ g j → t ≡ putFloat f s j v → FloatFront (i + 1) t
   unfolding putFloat
   floats-more h ej hi e put = front-more h ej hi (ap (toBits f) e) put
 
-  pub floats-all : {i : ℕ} {s : List ℕ} → FloatFront i s → i ≡ n → s ≡ encodeFloats f (tabulate n g)
+  floats-all : {i : ℕ} {s : List ℕ} → FloatFront i s → i ≡ n → s ≡ encodeFloats f (tabulate n g)
   floats-all h e = front-all n h e refl ∙ sym (encodeFloats-tabulate f n g)
 
 module _ (f : Format) (x : List ℕ) where
@@ -36,13 +36,13 @@ module _ (f : Format) (x : List ℕ) where
   abbrev pub Odds : ℕ → List ℕ → Type 0
   Odds = FloatFront f (downs (length x / width f)) (λ i. getD (decodeFloats f x) (2 * i + 1) nan)
 
-  pub evens-more : {i j : ℕ} {s t : List ℕ} {v : Float} → Evens i s → j ≡ i → 2 * i < length x / width f → v ≡ floatAt f x (2 * j) → t ≡ putFloat f s j v → Evens (i + 1) t
+  evens-more : {i j : ℕ} {s t : List ℕ} {v : Float} → Evens i s → j ≡ i → 2 * i < length x / width f → v ≡ floatAt f x (2 * j) → t ≡ putFloat f s j v → Evens (i + 1) t
   evens-more {j = j} h ej hi e put = floats-more f _ _ h ej (omega arith) (e ∙ sym (at-decodeFloats f x (2 * j) (omega arith))) put
 
   pub odds-more : {i j : ℕ} {s t : List ℕ} {v : Float} → Odds i s → j ≡ i → 2 * i + 1 < length x / width f → v ≡ floatAt f x (2 * j + 1) → t ≡ putFloat f s j v → Odds (i + 1) t
   odds-more {j = j} h ej hi e put = floats-more f _ _ h ej (omega arith) (e ∙ sym (at-decodeFloats f x (2 * j + 1) (omega arith))) put
 
-  pub evens-done : {i : ℕ} {s : List ℕ} → Evens i s → i ≡ ups (length x / width f) → s ≡ encodeFloats f (evenOf nan (decodeFloats f x))
+  evens-done : {i : ℕ} {s : List ℕ} → Evens i s → i ≡ ups (length x / width f) → s ≡ encodeFloats f (evenOf nan (decodeFloats f x))
   unfolding evenOf
   evens-done h e = rw (length-decodeFloats f x) (floats-all f _ _ h e)
 

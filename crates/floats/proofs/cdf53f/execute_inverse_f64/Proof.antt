@@ -7,13 +7,6 @@ use Rattle.floats.proofs.cdf53f.execute_inverse_f64.Statement.{statemen
 use Rattle.floats.proofs.cdf53f.execute_inverse_f64.Tie as tie
 
 pub execute-inverse-f64-spec : {M : Type 1} → statement M
-execute-inverse-f64-spec =
-    tie.close
-    (tie.spec
-    (λ c κs. search needs)
-    (λ c κs. search needs)
-    (λ c κs. search needs)
-    (λ c κs. search inverse-lent)
-    (λ c. search needs)
-    (λ c. search (inverse-made Cdf53 binary64))
-    (λ c. search (inverse-kept Cdf53 binary64)))
+execute-inverse-f64-spec = tie.close (tie.spec (λ c κs. search needs) (λ c κs. search needs)
+    (λ c κs. search needs) (λ c κs. search inverse-lent) (λ c. search needs)
+    (λ c. search (inverse-made Cdf53 binary64)) (λ c. search (inverse-kept Cdf53 binary64)))

@@ -6,16 +6,9 @@ use Rattle.floats.proofs.cdf53f.forward_within_f64.Statement.{statement
 use Rattle.floats.proofs.cdf53f.forward_within_f64.Tie as tie
 
 pub forward-within-f64-spec : {M : Type 1} → statement M
-forward-within-f64-spec =
-    tie.close
-    (tie.spec
-    (λ c. search needs)
-    (λ c. search needs)
-    (λ c κs. search needs)
-    (λ c κs. search needs)
-    (λ c. search needs)
+forward-within-f64-spec = tie.close (tie.spec (λ c. search needs) (λ c. search needs)
+    (λ c κs. search needs) (λ c κs. search needs) (λ c. search needs)
     (λ c. cut-length (c .before .before .before .before .before .before .before .before .before .before .before .pre) _ (c .before .before .before .before .before .before .split-within-f64 .kept .0))
     (λ c κs. within-bands (c .before .before .before .before .before .before .before .before .before .before .before .before .pre) (c .before .before .before .before .before .before .before .split-within-f64 .ensures))
-    (λ c. search needs)
-    (λ c. search needs)
+    (λ c. search needs) (λ c. search needs)
     (λ c. within-level (c .before .before .before .before .before .before .before .before .before .before .before .before .before .before .before .before .before .pre) (c .before .before .before .before .before .before .before .before .before .before .before .before .split-within-f64 .ensures) Cdf53 (c .before .before .before .before .before .before .before .schedule53-f64 .ensures) (c .before .before .before .before .run2-f64 .ensures)))

@@ -7,15 +7,7 @@ use Rattle.floats.proofs.cdf97f.execute_forward_f64.Statement.{statemen
 use Rattle.floats.proofs.cdf97f.execute_forward_f64.Tie as tie
 
 pub execute-forward-f64-spec : {M : Type 1} → statement M
-execute-forward-f64-spec =
-    tie.close
-    (tie.spec
-    (λ c κs. search needs)
-    (λ c κs. search needs)
-    (λ c κs. search needs)
-    (λ c κs. search needs)
-    (λ c κs. search forward-lent)
-    (λ c. search needs)
-    (λ c. search needs)
-    (λ c. search (forward-made Cdf97 binary64))
+execute-forward-f64-spec = tie.close (tie.spec (λ c κs. search needs) (λ c κs. search needs)
+    (λ c κs. search needs) (λ c κs. search needs) (λ c κs. search forward-lent) (λ c. search needs)
+    (λ c. search needs) (λ c. search (forward-made Cdf97 binary64))
     (λ c. search (forward-kept Cdf97 binary64)))

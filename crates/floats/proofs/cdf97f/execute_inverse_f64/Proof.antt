@@ -9,15 +9,8 @@ use Rattle.floats.proofs.cdf97f.execute_inverse_f64.Statement.{statemen
 use Rattle.floats.proofs.cdf97f.execute_inverse_f64.Tie as tie
 
 pub execute-inverse-f64-spec : {M : Type 1} → statement M
-execute-inverse-f64-spec =
-    tie.close
-    (tie.spec
-    (λ c κs. search needs)
-    (λ c κs. search needs)
-    (λ c κs. search needs)
-    (λ c κs. search needs)
-    (λ c κs. search needs)
+execute-inverse-f64-spec = tie.close (tie.spec (λ c κs. search needs) (λ c κs. search needs)
+    (λ c κs. search needs) (λ c κs. search needs) (λ c κs. search needs)
     (λ c κs. (c .before .turned-f64 .ensures ∙ ap turned (c .before .before .factors-f64 .ensures), search inverse-lent))
-    (λ c. search needs)
-    (λ c. search (inverse-made Cdf97 binary64))
+    (λ c. search needs) (λ c. search (inverse-made Cdf97 binary64))
     (λ c. search (inverse-kept Cdf97 binary64)))

@@ -8,11 +8,6 @@ use Rattle.floats.proofs.cdf97f.inverse_f64.Statement.{statement}
 use Rattle.floats.proofs.cdf97f.inverse_f64.Tie as tie
 
 pub inverse-f64-spec : {M : Type 1} → statement M
-inverse-f64-spec =
-    tie.close
-    (tie.spec
-    (λ c κs. search needs)
-    (λ c κs. search needs)
-    (λ c κs. search join-lanes)
-    (λ c. search needs)
+inverse-f64-spec = tie.close (tie.spec (λ c κs. search needs) (λ c κs. search needs)
+    (λ c κs. search join-lanes) (λ c. search needs)
     (λ c. run-back (c .before .before .before .before .before .before .before .before .before .before .before .before .pre .1) (c .before .before .before .before .before .before .before .join-f64 .ensures) Cdf97 (c .before .before .before .before .back97-f64 .ensures ∙ ap back97 (c .before .before .before .before .before .before .before .before .before .before .before .before .pre .0)) (c .before .before .back5-f64 .ensures)))

@@ -13,15 +13,8 @@ abbrev μ-loop : tie.MeasureT-loop
 μ-loop x₀ start c n left₀ j₀ x left j = n + 1 - j
 
 pub lift-lane-f64-spec : {M : Type 1} → statement M
-lift-lane-f64-spec =
-    tie.close
-    (tie.spec
-    Inv-loop
-    μ-loop
-    (λ c. search needs)
-    (λ c κs. lane-first (c .before .before .pre))
-    (λ c. search lane-none)
-    (λ c. search needs)
+lift-lane-f64-spec = tie.close (tie.spec Inv-loop μ-loop (λ c. search needs)
+    (λ c κs. lane-first (c .before .before .pre)) (λ c. search lane-none) (λ c. search needs)
     (λ c. search needs)
     (λ c κs. lane-right (c .before .before .loop .inv) (c .before .loop-test .taken))
     (λ c κs. lane-here (c .before .before .before .before .loop .inv) (c .before .before .before .loop-test .taken))
@@ -29,7 +22,5 @@ lift-lane-f64-spec =
     (λ c. lane-less (c .before .before .before .before .before .before .before .loop .inv) (c .before .before .before .before .before .before .loop-test .taken))
     (λ c. search lane-next)
     (λ c κs. lane-last (c .before .before .before .loop .inv) (c .before .if1 .taken))
-    (λ c. search needs)
-    (λ c. search (lane-all-last {f = binary64}))
-    (λ c. search needs)
+    (λ c. search needs) (λ c. search (lane-all-last {f = binary64})) (λ c. search needs)
     (λ c. search (lane-all {f = binary64})))

@@ -5,15 +5,8 @@ use Rattle.floats.proofs.single.apply_back_f32.Statement.{statement}
 use Rattle.floats.proofs.single.apply_back_f32.Tie as tie
 
 pub apply-back-f32-spec : {M : Type 1} → statement M
-apply-back-f32-spec =
-    tie.close
-    (tie.spec
-    (λ c. search needs)
-    (λ c κs. search needs)
-    (λ c. search needs)
-    (λ c κs. search needs)
-    (λ c. search needs)
-    (λ c κs. search needs)
+apply-back-f32-spec = tie.close (tie.spec (λ c. search needs) (λ c κs. search needs)
+    (λ c. search needs) (λ c κs. search needs) (λ c. search needs) (λ c κs. search needs)
     (λ c. search needs)
     (λ c. rw (c .before .before .before .before .before .step .given .1) (search ranOn-odds))
     (λ c. search needs)

@@ -14,17 +14,8 @@ abbrev μ-loop : tie.MeasureT-loop
 μ-loop x₀ schedule i₀ x i = 2 - i
 
 pub back2-f32-spec : {M : Type 1} → statement M
-back2-f32-spec =
-    tie.close
-    (tie.spec
-    Inv-loop
-    μ-loop
-    (λ c. search ranOnTo-none)
-    (λ c. search needs)
-    (λ c. search needs)
-    (λ c κs. ranOnTo-lanes (c .before .before .before .loop .inv))
-    (λ c. search needs)
-    (λ c. search needs)
-    (λ c. search ranOnTo-more)
+back2-f32-spec = tie.close (tie.spec Inv-loop μ-loop (λ c. search ranOnTo-none) (λ c. search needs)
+    (λ c. search needs) (λ c κs. ranOnTo-lanes (c .before .before .before .loop .inv))
+    (λ c. search needs) (λ c. search needs) (λ c. search ranOnTo-more)
     (λ c. ranOnTo-length (c .before .loop .inv))
     (λ c. ranOnTo-all (c .before .loop .inv) (c .loop-test .left)))

@@ -13,15 +13,7 @@ abbrev μ-loop : tie.MeasureT-loop
 μ-loop s₀ k n i₀ s i = n - i
 
 pub dwt97-scale-f32-spec : {M : Type 1} → statement M
-dwt97-scale-f32-spec =
-    tie.close
-    (tie.spec
-    Inv-loop
-    μ-loop
-    (λ c. search scaled-none)
+dwt97-scale-f32-spec = tie.close (tie.spec Inv-loop μ-loop (λ c. search scaled-none)
     (λ c κs. scaled-here (c .before .before .loop .inv) (c .before .loop-test .taken))
-    (λ c. search needs)
-    (λ c. search needs)
-    (λ c. search scaled-next)
-    (λ c. search needs)
+    (λ c. search needs) (λ c. search needs) (λ c. search scaled-next) (λ c. search needs)
     (λ c. search (scaled-all {f = binary32})))

@@ -14,23 +14,10 @@ abbrev μ-loop : tie.MeasureT-loop
 μ-loop a d x₀ n m i₀ x i = m - i
 
 pub join-f32-spec : {M : Type 1} → statement M
-join-f32-spec =
-    tie.close
-    (tie.spec
-    Inv-loop
-    μ-loop
-    (λ c. search paired-none)
-    (λ c. search needs)
-    (λ c κs. search needs)
-    (λ c. search needs)
-    (λ c. search needs)
-    (λ c κs. search needs)
-    (λ c. search needs)
-    (λ c. search needs)
+join-f32-spec = tie.close (tie.spec Inv-loop μ-loop (λ c. search paired-none) (λ c. search needs)
+    (λ c κs. search needs) (λ c. search needs) (λ c. search needs) (λ c κs. search needs)
+    (λ c. search needs) (λ c. search needs)
     (λ c. paired-more (c .before .before .before .before .before .before .before .before .before .loop .inv) (c .before .before .before .before .before .before .before .before .loop-test .taken) (c .before .before .before .before .before .before .copy-f32 .ensures) (c .before .before .copy-f322 .ensures))
-    (λ c. search needs)
-    (λ c κs. search needs)
-    (λ c. search needs)
-    (λ c. search (paired-done-odd {f = binary32}))
-    (λ c. search needs)
+    (λ c. search needs) (λ c κs. search needs) (λ c. search needs)
+    (λ c. search (paired-done-odd {f = binary32})) (λ c. search needs)
     (λ c. search (paired-done {f = binary32})))

@@ -14,18 +14,8 @@ abbrev μ-loop : tie.MeasureT-loop
 μ-loop a₀ d₀ schedule i₀ a d i = 5 - i
 
 pub run5-f32-spec : {M : Type 1} → statement M
-run5-f32-spec =
-    tie.close
-    (tie.spec
-    Inv-loop
-    μ-loop
-    (λ c. search ranTo-none)
-    (λ c. search needs)
-    (λ c. search needs)
-    (λ c κs. ranTo-bands (c .before .before .before .before .loop .inv))
-    (λ c. search needs)
-    (λ c. search needs)
-    (λ c. search ranTo-more)
-    (λ c. ranTo-lengthA (c .before .loop .inv))
-    (λ c. ranTo-lengthD (c .before .loop .inv))
+run5-f32-spec = tie.close (tie.spec Inv-loop μ-loop (λ c. search ranTo-none) (λ c. search needs)
+    (λ c. search needs) (λ c κs. ranTo-bands (c .before .before .before .before .loop .inv))
+    (λ c. search needs) (λ c. search needs) (λ c. search ranTo-more)
+    (λ c. ranTo-lengthA (c .before .loop .inv)) (λ c. ranTo-lengthD (c .before .loop .inv))
     (λ c. ranTo-all (c .before .loop .inv) (c .loop-test .left)))

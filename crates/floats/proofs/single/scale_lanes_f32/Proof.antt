@@ -13,23 +13,14 @@ abbrev μ-loop : tie.MeasureT-loop
 μ-loop x₀ k l n m i₀ x i = m - i
 
 pub scale-lanes-f32-spec : {M : Type 1} → statement M
-scale-lanes-f32-spec =
-    tie.close
-    (tie.spec
-    Inv-loop
-    μ-loop
-    (λ c. search lanes-none)
+scale-lanes-f32-spec = tie.close (tie.spec Inv-loop μ-loop (λ c. search lanes-none)
     (λ c. search needs)
     (λ c κs. lanes-even (c .before .before .loop .inv) (c .before .loop-test .taken))
-    (λ c. search needs)
-    (λ c. search needs)
+    (λ c. search needs) (λ c. search needs)
     (λ c κs. lanes-odd (c .before .before .before .before .before .before .loop .inv) (c .before .before .before .before .before .loop-test .taken) (c .before .before .before .scale-at-f32 .ensures))
-    (λ c. search needs)
-    (λ c. search needs)
+    (λ c. search needs) (λ c. search needs)
     (λ c. lanes-next (c .before .before .before .before .before .before .before .before .before .loop .inv) (c .before .before .before .before .before .before .before .before .loop-test .taken) (c .before .before .before .before .before .before .scale-at-f32 .ensures) (c .before .before .scale-at-f322 .ensures))
     (λ c. search needs)
     (λ c κs. lanes-last (c .before .before .before .loop .inv) (c .before .if1 .taken))
-    (λ c. search needs)
-    (λ c. search (lanes-all-odd {f = binary32}))
-    (λ c. search needs)
+    (λ c. search needs) (λ c. search (lanes-all-odd {f = binary32})) (λ c. search needs)
     (λ c. search (lanes-all {f = binary32})))
