@@ -80,7 +80,7 @@ module _ (f : Format) (s₀ : List ℕ) where
 pub record LaneTo (f : Format) (c : Float) (p : ℕ) (x : List ℕ) (j : ℕ) (l : Float) (s : List ℕ) : Type 0 where
   pub lanes : Lanes f x
   pub upTo : j ≤ length x / width f + 1
-  pub turn : j % 2 ≡ p
+  pub parity : j % 2 ≡ p
   pub left : l ≡ floatsOf f x (leftOf j)
   pub new : Midway f (length x / width f) j (laneOf f x c p) (floatsOf f x) s
 
@@ -96,7 +96,7 @@ module _ {f : Format} {c : Float} {p : ℕ} {x : List ℕ} where
       record {
         lanes = h .0;
         upTo = omega (arith, h .1);
-        turn = omega (arith, h .1);
+        parity = omega (arith, h .1);
         left = rw (left, at-decodeFloats f x (1 - p) (omega arith)) e;
         new = lane-start f x c p (h .1) (h .0 .stored);
       }
@@ -106,16 +106,16 @@ module _ {f : Format} {c : Float} {p : ℕ} {x : List ℕ} where
         → t ≡ putFloat f s j (lift f c l r (floatAt f s j)) → Midway f (length x / width f) (j + 2) (laneOf f x c p) (floatsOf f x) t
     unfolding laneAt
     lane-turn hj er put =
-        let turn = m .turn in
+        let parity = m .parity in
         let two : j + 1 + 1 ≡ j + 2 = omega arith in
         rw two at
         (midway-skip
-        (midway-put (m .new) hj (rw (m .left, er, midway-later x (m .new) j hj (omega arith), eq-eqb (j % 2) p turn, length-decodeFloats f x)) put)
+        (midway-put (m .new) hj (rw (m .left, er, midway-later x (m .new) j hj (omega arith), eq-eqb (j % 2) p parity, length-decodeFloats f x)) put)
         (λ h. lane-other f x c p (j + 1) (λ q. omega arith)))
 
     module _ (h : j + 1 < length x / width f) where
       other : laneOf f x c p (j + 1) ≡ floatsOf f x (j + 1)
-      other = let turn = m .turn in lane-other f x c p (j + 1) (λ q. omega arith)
+      other = let parity = m .parity in lane-other f x c p (j + 1) (λ q. omega arith)
 
       pub lane-right : Ready f s (j + 1)
       lane-right = (rw (m .new .holds .count) h, kept-plain x (m .new) (j + 1) h other)
@@ -123,15 +123,12 @@ module _ {f : Format} {c : Float} {p : ℕ} {x : List ℕ} where
       pub lane-here : Ready f s j
       lane-here = midway-ready x (m .new) (omega arith) (omega arith)
 
-      pub lane-less : length x / width f + 1 - (j + 2) < length x / width f + 1 - j
-      lane-less = omega arith
-
       pub lane-next : {r : Float} {t : List ℕ} → r ≡ floatAt f s (j + 1) → t ≡ putFloat f s j (lift f c l r (floatAt f s j)) → LaneTo f c p x (j + 2) r t
       lane-next er put =
           let r′ = er ∙ midway-kept x (m .new) (j + 1) h other in
           let left : leftOf (j + 2) ≡ j + 1 = omega arith in
           let right : rightOf (length x / width f) j ≡ j + 1 = omega arith in
-          record { lanes = m .lanes; upTo = omega arith; turn = omega (arith, m .turn); left = rw left r′; new = lane-turn (omega arith) (rw right r′) put }
+          record { lanes = m .lanes; upTo = omega arith; parity = omega (arith, m .parity); left = rw left r′; new = lane-turn (omega arith) (rw right r′) put }
 
     lane-made : {k : ℕ} {t : List ℕ} → Midway f (length x / width f) k (laneOf f x c p) (floatsOf f x) t → length x / width f ≤ k → t ≡ encodeFloats f (lane f c p (decodeFloats f x))
     unfolding lane
