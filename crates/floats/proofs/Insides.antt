@@ -20,8 +20,8 @@ use Rattle.floats.specs.Steps.{Step}
 use Rattle.floats.specs.Filters.{stepsOf}
 use Rattle.floats.specs.Bands.{low, high}
 use Rattle.floats.specs.Loops.{LentWithin, Bands, Ran}
-use Rattle.floats.proofs.Splits.{Odds, odds-more, odds-done}
-use Rattle.floats.proofs.Levels.{Split, split-bands, run-level}
+use Rattle.floats.proofs.Splits.{Odds, odds-more, odds-done, Split}
+use Rattle.floats.proofs.Levels.{split-bands, run-level}
 
 module _ (f : Format) (r : List ℕ) where
   -- the first i evens of the samples in r stand in s; from float i on s is still r
@@ -63,7 +63,7 @@ module _ {f : Format} {r : List ℕ} where
         record {
           upTo = omega arith;
           evens = evens-in-more f r (h .evens) refl (omega arith) eu es;
-          odds = odds-more f r (h .odds) refl (omega arith) (still f r (2 * i + 1) (h .evens) (omega arith) ev) ed;
+          odds = odds-more f r (h .odds) (omega arith) (still f r (2 * i + 1) (h .evens) (omega arith) ev) ed;
         }
 
     pub halvedIn-done : length r / width f / 2 ≤ i → (length r / width f % 2 ≡ 1 → ⊥) → SplitIn f r s d

@@ -26,6 +26,7 @@ use Rattle.floats.specs.Bands.{approxs, details, restored, low, high, ba
 use Rattle.floats.specs.Loops.{Lent, LentWithin, Bands, Ran}
 use Rattle.floats.specs.Lanes.{runOn, Lanes, RanOn}
 use Rattle.floats.proofs.Fits.{Fit, stored-encode, fit-decode, fit-even, fit-odd, fit-joined}
+use Rattle.floats.proofs.Splits.{Split}
 
 -- what the checks leave is what the steps ask: of the samples and the details, whatever a bytes the approximations have
 pub ready-within : (w : Wavelet) (f : Format) {n a : ℕ} {x d : List ℕ} → Level w (width f) n (length x) a (length d) → LentWithin f x d
@@ -39,10 +40,6 @@ ready-within w f {n} {x = x} {d = d} l =
 
 pub ready : (w : Wavelet) (f : Format) {x a d : List ℕ} → Level w (width f) (length x / width f) (length x) (length a) (length d) → Lent f x a d
 ready w f {a = a} l = let p = ready-within w f l in record { long = p .long; samples = p .samples; approx = holds (width-pos f) a _ (l .approx); details = p .details }
-
--- a and d hold the evens and the odds of the samples in x
-abbrev pub Split : Format → List ℕ → List ℕ → List ℕ → Type 0
-Split f x a d = (a ≡ encodeFloats f (evenOf nan (decodeFloats f x))) × (d ≡ encodeFloats f (oddOf nan (decodeFloats f x)))
 
 module _ {f : Format} (x : List ℕ) {a d : List ℕ} (e : Split f x a d) where
   -- the evens and the odds of three samples or more are bands

@@ -36,11 +36,11 @@ module _ (f : Format) (x : List ℕ) where
   abbrev pub Odds : ℕ → List ℕ → Type 0
   Odds = FloatFront f (downs (length x / width f)) (λ i. getD (decodeFloats f x) (2 * i + 1) nan)
 
-  evens-more : {i j : ℕ} {s t : List ℕ} {v : Float} → Evens i s → j ≡ i → 2 * i < length x / width f → v ≡ floatAt f x (2 * j) → t ≡ putFloat f s j v → Evens (i + 1) t
-  evens-more {j = j} h ej hi e put = floats-more f _ _ h ej (omega arith) (e ∙ sym (at-decodeFloats f x (2 * j) (omega arith))) put
+  evens-more : {i j : ℕ} {s t : List ℕ} → Evens i s → j ≡ i → 2 * i < length x / width f → t ≡ putFloat f s j (floatAt f x (2 * j)) → Evens (i + 1) t
+  evens-more {j = j} h ej hi put = floats-more f _ _ h ej (omega arith) (sym (at-decodeFloats f x (2 * j) (omega arith))) put
 
-  pub odds-more : {i j : ℕ} {s t : List ℕ} {v : Float} → Odds i s → j ≡ i → 2 * i + 1 < length x / width f → v ≡ floatAt f x (2 * j + 1) → t ≡ putFloat f s j v → Odds (i + 1) t
-  odds-more {j = j} h ej hi e put = floats-more f _ _ h ej (omega arith) (e ∙ sym (at-decodeFloats f x (2 * j + 1) (omega arith))) put
+  pub odds-more : {i : ℕ} {s t : List ℕ} {v : Float} → Odds i s → 2 * i + 1 < length x / width f → v ≡ floatAt f x (2 * i + 1) → t ≡ putFloat f s i v → Odds (i + 1) t
+  odds-more {i} h hi e put = floats-more f _ _ h refl (omega arith) (e ∙ sym (at-decodeFloats f x (2 * i + 1) (omega arith))) put
 
   evens-done : {i : ℕ} {s : List ℕ} → Evens i s → i ≡ ups (length x / width f) → s ≡ encodeFloats f (evenOf nan (decodeFloats f x))
   unfolding evenOf
@@ -49,6 +49,10 @@ module _ (f : Format) (x : List ℕ) where
   pub odds-done : {i : ℕ} {s : List ℕ} → Odds i s → i ≡ downs (length x / width f) → s ≡ encodeFloats f (oddOf nan (decodeFloats f x))
   unfolding oddOf
   odds-done h e = rw (length-decodeFloats f x) (floats-all f _ _ h e)
+
+-- a and d hold the evens and the odds of the samples in x
+abbrev pub Split : Format → List ℕ → List ℕ → List ℕ → Type 0
+Split f x a d = (a ≡ encodeFloats f (evenOf nan (decodeFloats f x))) × (d ≡ encodeFloats f (oddOf nan (decodeFloats f x)))
 
 -- the loop of split, over pairs of samples: i of them are split
 pub record Halved (f : Format) (x : List ℕ) (i : ℕ) (a d : List ℕ) : Type 0 where
@@ -65,43 +69,38 @@ module _ {f : Format} {x : List ℕ} where
     halved-more l ea ed =
         record {
           upTo = omega arith;
-          evens = evens-more f x (h .evens) refl (omega arith) refl ea;
-          odds = odds-more f x (h .odds) refl (omega arith) refl ed;
+          evens = evens-more f x (h .evens) refl (omega arith) ea;
+          odds = odds-more f x (h .odds) (omega arith) refl ed;
         }
 
-    pub halved-done : length x / width f / 2 ≤ i → (length x / width f % 2 ≡ 1 → ⊥)
-        → (a ≡ encodeFloats f (evenOf nan (decodeFloats f x))) × (d ≡ encodeFloats f (oddOf nan (decodeFloats f x)))
+    pub halved-done : length x / width f / 2 ≤ i → (length x / width f % 2 ≡ 1 → ⊥) → Split f x a d
     halved-done l even = (evens-done f x (h .evens) (omega arith), odds-done f x (h .odds) (omega arith))
 
     -- the last of an odd number of samples is an even one
     pub halved-done-odd : {a′ : List ℕ} → length x / width f / 2 ≤ i → length x / width f % 2 ≡ 1
-        → a′ ≡ putFloat f a (length x / width f / 2) (floatAt f x (2 * (length x / width f / 2)))
-        → (a′ ≡ encodeFloats f (evenOf nan (decodeFloats f x))) × (d ≡ encodeFloats f (oddOf nan (decodeFloats f x)))
-    halved-done-odd l odd ea = (evens-done f x (evens-more f x (h .evens) (omega arith) (omega arith) refl ea) (omega arith), odds-done f x (h .odds) (omega arith))
+        → a′ ≡ putFloat f a (length x / width f / 2) (floatAt f x (2 * (length x / width f / 2))) → Split f x a′ d
+    halved-done-odd l odd ea = (evens-done f x (evens-more f x (h .evens) (omega arith) (omega arith) ea) (omega arith), odds-done f x (h .odds) (omega arith))
 
-module _ (f : Format) (a d : List ℕ) (n : ℕ) where
-  -- the first j of the n floats of a and d, one of each in turn, are in x
-  abbrev joinAt : ℕ → Float
+module _ (f : Format) (a d : List ℕ) where
+  -- float j of a and d, one of each in turn
+  abbrev pub joinAt : ℕ → Float
   joinAt j = cond (eqb (j % 2) 0) (getD (decodeFloats f a) (j / 2) nan) (getD (decodeFloats f d) (j / 2) nan)
 
-  abbrev pub Joins : ℕ → List ℕ → Type 0
-  Joins = FloatFront f n joinAt
-
-  join-even : (i : ℕ) {u : Float} → i < length a / width f → u ≡ floatAt f a i → u ≡ joinAt (2 * i)
-  join-even i h e =
+  join-even : (i : ℕ) → i < length a / width f → floatAt f a i ≡ joinAt (2 * i)
+  join-even i h =
       let half : 2 * i / 2 ≡ i = omega arith in
-      e ∙ rw (eq-eqb (2 * i % 2) 0 (omega arith), half) (sym (at-decodeFloats f a i h))
+      rw (eq-eqb (2 * i % 2) 0 (omega arith), half) (sym (at-decodeFloats f a i h))
 
-  join-odd : (i : ℕ) {u : Float} → i < length d / width f → u ≡ floatAt f d i → u ≡ joinAt (2 * i + 1)
-  join-odd i h e =
+  join-odd : (i : ℕ) → i < length d / width f → floatAt f d i ≡ joinAt (2 * i + 1)
+  join-odd i h =
       let half : (2 * i + 1) / 2 ≡ i = omega arith in
-      e ∙ rw (ne-eqb ((2 * i + 1) % 2) 0 (omega arith), half) (sym (at-decodeFloats f d i h))
+      rw (ne-eqb ((2 * i + 1) % 2) 0 (omega arith), half) (sym (at-decodeFloats f d i h))
 
 -- the loop of join, over pairs: i floats of each of a and d are in s, which was x
 pub record Paired (f : Format) (a d x : List ℕ) (i : ℕ) (s : List ℕ) : Type 0 where
   pub lent : Lent f x a d
   pub upTo : i ≤ length x / width f / 2
-  pub pairs : Joins f a d (length x / width f) (2 * i) s
+  pub pairs : FloatFront f (length x / width f) (joinAt f a d) (2 * i) s
 
 module _ {f : Format} {a d x : List ℕ} where
   pub paired-none : Lent f x a d → Paired f a d x 0 x
@@ -113,11 +112,11 @@ module _ {f : Format} {a d x : List ℕ} where
         let n = length x / width f in
         let na = h .lent .approx .count in
         let nd = h .lent .details .count in
-        let one = floats-more f n (joinAt f a d n) (h .pairs) refl (omega arith) (join-even f a d n i (omega arith) refl) et in
-        let two = floats-more f n (joinAt f a d n) one refl (omega arith) (join-odd f a d n i (omega arith) refl) er in
+        let one = floats-more f n (joinAt f a d) (h .pairs) refl (omega arith) (join-even f a d i (omega arith)) et in
+        let two = floats-more f n (joinAt f a d) one refl (omega arith) (join-odd f a d i (omega arith)) er in
         record { lent = h .lent; upTo = omega arith; pairs = front-at (2 * (i + 1)) two (omega arith) }
 
-    joined-at : {j : ℕ} {t : List ℕ} → Joins f a d (length x / width f) j t → j ≡ length x / width f → t ≡ encodeFloats f (joined nan (decodeFloats f a) (decodeFloats f d))
+    joined-at : {j : ℕ} {t : List ℕ} → FloatFront f (length x / width f) (joinAt f a d) j t → j ≡ length x / width f → t ≡ encodeFloats f (joined nan (decodeFloats f a) (decodeFloats f d))
     unfolding joined
     joined-at q e =
         let n : length x / width f ≡ length a / width f + length d / width f = omega (arith, h .lent .approx .count, h .lent .details .count) in
@@ -132,4 +131,4 @@ module _ {f : Format} {a d x : List ℕ} where
     paired-done-odd l odd et =
         let n = length x / width f in
         let na = h .lent .approx .count in
-        joined-at (floats-more f n (joinAt f a d n) (h .pairs) (omega arith) (omega arith) (join-even f a d n (n / 2) (omega arith) refl) et) (omega arith)
+        joined-at (floats-more f n (joinAt f a d) (h .pairs) (omega arith) (omega arith) (join-even f a d (n / 2) (omega arith)) et) (omega arith)
