@@ -20,7 +20,7 @@ use Rattle.pyramid.specs.Files.{bodyOf, fileOf}
 use Rattle.pyramid.specs.Opens.{sayOpen}
 use Rattle.pyramid.specs.Sees.{firstWhole, wholeOf}
 use Rattle.pyramid.proofs.Heads.{Recording}
-use Rattle.pyramid.proofs.Survives.{Sampled, Roomy, Opening, cut-short, survives}
+use Rattle.pyramid.proofs.Survives.{Sampled, Roomy, OpensTo, cut-short, survives}
 use Rattle.pyramid.proofs.Answers.{opens-whole}
 use Rattle.figures.specs.Worked.{five, thirtyOne, File}
 
@@ -56,10 +56,10 @@ unfolding places lengthsOf firstWhole
 one b h g = rw (le-leb 5 (b - 20) (omega arith), lt-leb 6 (b - 20 - 5) (omega arith))
 
 -- what so many whole sections give
-given : (b m : ℕ) → 20 ≤ b → b ≤ 31 → wholeOf 1 2 5 b ≡ m → places (2 - m) 5 ≤ 5 → Opening (take b (fileOf Cdf53I8 2 14 five)) 1 14 5 5 5 (2 - m) (places (2 - m) 5) (approxAt Cdf53I8 (2 - m) five)
+given : (b m : ℕ) → 20 ≤ b → b ≤ 31 → wholeOf 1 2 5 b ≡ m → places (2 - m) 5 ≤ 5 → OpensTo (take b (fileOf Cdf53I8 2 14 five)) 1 14 5 5 5 (2 - m) (places (2 - m) 5) (approxAt Cdf53I8 (2 - m) five)
 unfolding places
 given b m c e q h =
-    subst (λ (i : ℕ). Opening (take b (fileOf Cdf53I8 2 14 five)) 1 14 5 5 5 (2 - i) (places (2 - i) 5) (approxAt Cdf53I8 (2 - i) five)) q
+    subst (λ (i : ℕ). OpensTo (take b (fileOf Cdf53I8 2 14 five)) 1 14 5 5 5 (2 - i) (places (2 - i) 5) (approxAt Cdf53I8 (2 - i) five)) q
     (survives Cdf53I8 2 5 14 five recording 5 5 5 sampled b c e (subst (λ (i : ℕ). Roomy 1 (places (2 - i) 5) 5 5 5) (sym q) (room (places (2 - m) 5) h)))
 
 -- they hold
@@ -69,7 +69,7 @@ p6-to-p10 =
     record {
       p6 = file;
       p7 = λ b h. subst (λ (s : List ℕ). sayOpen (take b s) 1 14 5 5 5 ≡ CutShort b) file (cut-short Cdf53I8 2 5 14 five recording 5 5 5 sampled b (omega arith));
-      p8 = λ b h g. subst (λ (s : List ℕ). Opening (take b s) 1 14 5 5 5 2 2 (255 ∷ 3 ∷ [])) file (given b 0 h (omega arith) (none b g) (omega arith));
-      p9 = λ b h g. subst (λ (s : List ℕ). Opening (take b s) 1 14 5 5 5 1 3 (3 ∷ 253 ∷ 7 ∷ [])) file (given b 1 (omega arith) (omega arith) (one b h g) (omega arith));
-      p10 = subst (λ (s : List ℕ). Opening s 1 14 5 5 5 0 5 five) file (opens-whole Cdf53I8 2 5 14 five recording 5 5 5 sampled (room 5 (omega arith)));
+      p8 = λ b h g. subst (λ (s : List ℕ). OpensTo (take b s) 1 14 5 5 5 2 2 (255 ∷ 3 ∷ [])) file (given b 0 h (omega arith) (none b g) (omega arith));
+      p9 = λ b h g. subst (λ (s : List ℕ). OpensTo (take b s) 1 14 5 5 5 1 3 (3 ∷ 253 ∷ 7 ∷ [])) file (given b 1 (omega arith) (omega arith) (one b h g) (omega arith));
+      p10 = subst (λ (s : List ℕ). OpensTo s 1 14 5 5 5 0 5 five) file (opens-whole Cdf53I8 2 5 14 five recording 5 5 5 sampled (room 5 (omega arith)));
     }

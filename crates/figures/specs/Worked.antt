@@ -13,7 +13,7 @@ use Rattle.dwt.specs.declared.filter.Filter.the-variants.{Cdf53I8}
 use Rattle.dwt.specs.Pyramids.{approxAt, pyramid, samplesOf}
 use Rattle.pyramid.specs.Files.{fileOf}
 use Rattle.pyramid.specs.Opens.{sayOpen}
-use Rattle.pyramid.proofs.Survives.{Opening}
+use Rattle.pyramid.proofs.Survives.{OpensTo}
 
 -- the number -n
 abbrev pub neg : ℕ → ℤ
@@ -46,11 +46,11 @@ pub record File : Type 0 where
   -- "its first 0 to 19 bytes: 10"
   pub p7 : (b : ℕ) → b ≤ 19 → sayOpen (take b thirtyOne) 1 14 5 5 5 ≡ CutShort b
   -- "20 to 24: level 2, -1, 3"
-  pub p8 : (b : ℕ) → 20 ≤ b → b ≤ 24 → Opening (take b thirtyOne) 1 14 5 5 5 2 2 (255 ∷ 3 ∷ [])
+  pub p8 : (b : ℕ) → 20 ≤ b → b ≤ 24 → OpensTo (take b thirtyOne) 1 14 5 5 5 2 2 (255 ∷ 3 ∷ [])
   -- "25 to 30: level 1, 3, -3, 7"
-  pub p9 : (b : ℕ) → 25 ≤ b → b ≤ 30 → Opening (take b thirtyOne) 1 14 5 5 5 1 3 (3 ∷ 253 ∷ 7 ∷ [])
+  pub p9 : (b : ℕ) → 25 ≤ b → b ≤ 30 → OpensTo (take b thirtyOne) 1 14 5 5 5 1 3 (3 ∷ 253 ∷ 7 ∷ [])
   -- "31: the samples"
-  pub p10 : Opening thirtyOne 1 14 5 5 5 0 5 five
+  pub p10 : OpensTo thirtyOne 1 14 5 5 5 0 5 five
 
 pub record Worked : Type 0 where
   pub p1 : OneLevel (pos 1 ∷ pos 5 ∷ pos 2 ∷ []) (pos 3 ∷ pos 4 ∷ []) (pos 4 ∷ [])

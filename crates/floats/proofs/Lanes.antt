@@ -1,7 +1,7 @@
 -- The steps on both bands in one list are the steps on the two bands, and what a turn of their loops stores, once over the format. Assumes nothing.
 use mathlib.Core.Bool.{cond}
 use mathlib.Core.List.{List, [], _∷_}
-use mathlib.Core.Path.{_≡_, refl, sym, ap, _∙_}
+use mathlib.Core.Path.{_≡_, sym, ap, _∙_}
 use Prim.Native.Nat.{ℕ, zero, suc, _+_, _-_, _*_, _/_, _%_, _≤_, _<_, min}
 use native.Mathlib.Omega.{arith}
 use borrow.Author.Tests.{eq-eqb, ne-eqb}
@@ -9,14 +9,14 @@ use lib.Dec.{eqb}
 use lib.Ieee.{Float, nan, Format, mul}
 use lib.ListN.{length, getD}
 use Rattle.samples.specs.Halves.{evenOf, oddOf}
-use Rattle.samples.specs.Floats.{width, floatAt, putFloat, decodeFloats, encodeFloats, Plain}
+use Rattle.samples.specs.Floats.{width, floatAt, putFloat, decodeFloats, encodeFloats}
 use Rattle.samples.proofs.Words.{length-tabulate, getD-tabulate}
 use Rattle.samples.proofs.Halves.{length-even, length-odd, at-even, at-odd, joined-is}
 use Rattle.samples.proofs.FloatLaws.{length-decodeFloats, at-decodeFloats}
 use Rattle.floats.specs.Steps.{lift, oddAt, evenAt, odds, evens, scaled, oddly, evenly, scaling}
 use Rattle.floats.specs.Loops.{Stored}
-use Rattle.floats.specs.Lanes.{leftOf, rightOf, laneAt, lane, scaledLanes, runOn}
-use Rattle.floats.proofs.Midway.{Midway, floatsOf, midway-none, midway-put, midway-skip, midway-later, midway-kept, kept-plain, midway-all}
+use Rattle.floats.specs.Lanes.{leftOf, rightOf, laneAt, lane, scaledLanes, runOn, Lanes}
+use Rattle.floats.proofs.Midway.{Midway, floatsOf, midway-none, midway-put, midway-skip, midway-later, midway-kept, kept-plain, midway-all, Ready, midway-ready, stored-ready}
 
 module _ (f : Format) (x : List Float) where
   halves : length (evenOf nan x) + length (oddOf nan x) ≡ length x
@@ -75,75 +75,125 @@ module _ (f : Format) (s₀ : List ℕ) where
   lane-start c (suc zero) h st = midway-skip (midway-none (laneOf c 1) st) (λ l. lane-other c 1 0 (λ q. omega arith))
   lane-start c (suc (suc p)) h st = absurd (omega arith)
 
-  module _ (c : Float) (p : ℕ) where
-    lane-turn : {n j : ℕ} {s t : List ℕ} {l r : Float} → Midway f n j (laneOf c p) (floatsOf f s₀) s → n ≡ length s₀ / width f → 2 ≤ n → j < n → j % 2 ≡ p
-        → l ≡ floatsOf f s₀ (leftOf j) → r ≡ floatsOf f s₀ (rightOf n j) → t ≡ putFloat f s j (lift f c l r (floatAt f s j)) → Midway f n (j + 2) (laneOf c p) (floatsOf f s₀) t
+-- ---- a lifting step on the places p, p + 2, .. of x: the floats before j are new, or stay as they are, and l is the one before j
+
+pub record LaneTo (f : Format) (c : Float) (p : ℕ) (x : List ℕ) (j : ℕ) (l : Float) (s : List ℕ) : Type 0 where
+  pub lanes : Lanes f x
+  pub upTo : j ≤ length x / width f + 1
+  pub parity : j % 2 ≡ p
+  pub left : l ≡ floatsOf f x (leftOf j)
+  pub new : Midway f (length x / width f) j (laneOf f x c p) (floatsOf f x) s
+
+-- the loop starts at place 0 or 1, and the float before it is at the other of the two
+pub lane-first : {f : Format} {p : ℕ} {x : List ℕ} → Lanes f x × (p < 2) → Ready f x (1 - p)
+lane-first l = stored-ready (l .0 .stored) (omega (arith, l .0 .long))
+
+module _ {f : Format} {c : Float} {p : ℕ} {x : List ℕ} where
+  pub lane-none : {l : Float} → Lanes f x × (p < 2) → l ≡ floatAt f x (1 - p) → LaneTo f c p x p l x
+  lane-none h e =
+      let long = h .0 .long in
+      let left : leftOf p ≡ 1 - p = omega (arith, h .1) in
+      record {
+        lanes = h .0;
+        upTo = omega (arith, h .1);
+        parity = omega (arith, h .1);
+        left = rw (left, at-decodeFloats f x (1 - p) (omega arith)) e;
+        new = lane-start f x c p (h .1) (h .0 .stored);
+      }
+
+  module _ {j : ℕ} {l : Float} {s : List ℕ} (m : LaneTo f c p x j l s) where
+    lane-turn : {r : Float} {t : List ℕ} → j < length x / width f → r ≡ floatsOf f x (rightOf (length x / width f) j)
+        → t ≡ putFloat f s j (lift f c l r (floatAt f s j)) → Midway f (length x / width f) (j + 2) (laneOf f x c p) (floatsOf f x) t
     unfolding laneAt
-    lane-turn {n} {j} m en long hj ep el er put =
-        let len : length (decodeFloats f s₀) ≡ n = length-decodeFloats f s₀ ∙ sym en in
+    lane-turn hj er put =
+        let parity = m .parity in
         let two : j + 1 + 1 ≡ j + 2 = omega arith in
         rw two at
         (midway-skip
-        (midway-put m hj (rw (el, er, midway-later s₀ m j hj (omega arith), eq-eqb (j % 2) p ep, len)) put)
-        (λ h. lane-other c p (j + 1) (λ q. omega arith)))
+        (midway-put (m .new) hj (rw (m .left, er, midway-later x (m .new) j hj (omega arith), eq-eqb (j % 2) p parity, length-decodeFloats f x)) put)
+        (λ h. lane-other f x c p (j + 1) (λ q. omega arith)))
 
-    -- the floats before j are new, or stay as they are, and l is the one before j
-    abbrev pub LaneTo : ℕ → Float → List ℕ → Type 0
-    LaneTo j l s = (j % 2 ≡ p) × (l ≡ floatsOf f s₀ (leftOf j)) × Midway f (length s₀ / width f) j (laneOf c p) (floatsOf f s₀) s
+    module _ (h : j + 1 < length x / width f) where
+      other : laneOf f x c p (j + 1) ≡ floatsOf f x (j + 1)
+      other = let parity = m .parity in lane-other f x c p (j + 1) (λ q. omega arith)
 
-    pub lane-all : {j : ℕ} {l : Float} {s : List ℕ} → LaneTo j l s → length s₀ / width f ≤ j → s ≡ encodeFloats f (lane f c p (decodeFloats f s₀))
-    unfolding lane
-    lane-all m h = rw (length-decodeFloats f s₀) (midway-all (m .2) h)
+      pub lane-right : Ready f s (j + 1)
+      lane-right = (rw (m .new .holds .count) h, kept-plain x (m .new) (j + 1) h other)
 
-    module _ {j : ℕ} {s : List ℕ} {l : Float} (m : LaneTo j l s) where
-      -- the float after j can be read
-      pub lane-ready : j + 1 < length s₀ / width f → (j + 1 < length s / width f) × Plain f s (j + 1)
-      lane-ready h = (rw (m .2 .holds .count) h, kept-plain s₀ (m .2) (j + 1) h (lane-other c p (j + 1) (λ q. omega (arith, m .0))))
+      pub lane-here : Ready f s j
+      lane-here = midway-ready x (m .new) (omega arith) (omega arith)
 
-      pub lane-next : {r : Float} {t : List ℕ} → 2 ≤ length s₀ / width f → j + 1 < length s₀ / width f → r ≡ floatAt f s (j + 1) → t ≡ putFloat f s j (lift f c l r (floatAt f s j)) → LaneTo (j + 2) r t
-      lane-next long h er put =
-          let r′ = er ∙ midway-kept s₀ (m .2) (j + 1) h (lane-other c p (j + 1) (λ q. omega (arith, m .0))) in
+      pub lane-next : {r : Float} {t : List ℕ} → r ≡ floatAt f s (j + 1) → t ≡ putFloat f s j (lift f c l r (floatAt f s j)) → LaneTo f c p x (j + 2) r t
+      lane-next er put =
+          let r′ = er ∙ midway-kept x (m .new) (j + 1) h other in
           let left : leftOf (j + 2) ≡ j + 1 = omega arith in
-          let right : rightOf (length s₀ / width f) j ≡ j + 1 = omega arith in
-          (omega (arith, m .0), rw left r′, lane-turn (m .2) refl long (omega arith) (m .0) (m .1) (rw right r′) put)
+          let right : rightOf (length x / width f) j ≡ j + 1 = omega arith in
+          record { lanes = m .lanes; upTo = omega arith; parity = omega (arith, m .parity); left = rw left r′; new = lane-turn (omega arith) (rw right r′) put }
 
-      -- the last place: the float after it is the one before it
-      pub lane-last : {t : List ℕ} → 2 ≤ length s₀ / width f → j < length s₀ / width f → length s₀ / width f ≤ j + 1 → t ≡ putFloat f s j (lift f c l l (floatAt f s j)) → t ≡ encodeFloats f (lane f c p (decodeFloats f s₀))
-      lane-last long h last put =
-          let same : rightOf (length s₀ / width f) j ≡ leftOf j = omega arith in
-          lane-all {l = floatsOf f s₀ (leftOf (j + 2))} (omega (arith, m .0), refl, lane-turn (m .2) refl long h (m .0) (m .1) (rw same (m .1)) put) (omega arith)
+    lane-made : {k : ℕ} {t : List ℕ} → Midway f (length x / width f) k (laneOf f x c p) (floatsOf f x) t → length x / width f ≤ k → t ≡ encodeFloats f (lane f c p (decodeFloats f x))
+    unfolding lane
+    lane-made q h = rw (length-decodeFloats f x) (midway-all q h)
 
-    -- the loop starts at place 0 or 1, and the float before it is at the other of the two
-    pub lane-none : {l : Float} → p < 2 → 2 ≤ length s₀ / width f → Stored f (length s₀ / width f) s₀ → l ≡ floatAt f s₀ (1 - p) → LaneTo p l s₀
-    lane-none h long st el =
-        let left : leftOf p ≡ 1 - p = omega arith in
-        (omega arith, rw (left, at-decodeFloats f s₀ (1 - p) (omega arith)) el, lane-start c p h st)
+    pub lane-all : length x / width f ≤ j → s ≡ encodeFloats f (lane f c p (decodeFloats f x))
+    lane-all h = lane-made (m .new) h
 
-  module _ (p q : Float) where
-    -- the first j floats are new
-    abbrev pub LanesTo : ℕ → List ℕ → Type 0
-    LanesTo j s = Midway f (length s₀ / width f) j (lanesOf p q) (floatsOf f s₀) s
+    -- the last place: the float after it is the one before it
+    module _ (h : j < length x / width f) where
+      pub lane-last : Ready f s j
+      lane-last = midway-ready x (m .new) (omega arith) h
 
-    lanes-turn : {j : ℕ} {s t : List ℕ} {k : Float} → LanesTo j s → j < length s₀ / width f → cond (eqb (j % 2) 0) p q ≡ k → t ≡ putFloat f s j (mul f (floatAt f s j) k) → LanesTo (j + 1) t
-    lanes-turn {j} m hj ek put = midway-put m hj (rw (midway-later s₀ m j hj (omega arith), ek)) put
+      pub lane-all-last : {t : List ℕ} → length x / width f ≤ j + 1 → t ≡ putFloat f s j (lift f c l l (floatAt f s j)) → t ≡ encodeFloats f (lane f c p (decodeFloats f x))
+      lane-all-last last put =
+          let long = m .lanes .long in
+          let same : rightOf (length x / width f) j ≡ leftOf j = omega arith in
+          lane-made (lane-turn h (rw same (m .left)) put) (omega arith)
 
-    pub lanes-all : {j : ℕ} {s : List ℕ} → LanesTo j s → length s₀ / width f ≤ j → s ≡ encodeFloats f (scaledLanes f p q (decodeFloats f s₀))
+-- ---- a scaling: i floats of even places and i of odd ones are new
+
+pub record LanesTo (f : Format) (p q : Float) (x : List ℕ) (i : ℕ) (s : List ℕ) : Type 0 where
+  pub upTo : i ≤ length x / width f / 2
+  pub new : Midway f (length x / width f) (2 * i) (lanesOf f x p q) (floatsOf f x) s
+
+module _ {f : Format} {p q : Float} {x : List ℕ} where
+  pub lanes-none : Lanes f x → LanesTo f p q x 0 x
+  lanes-none l = record { upTo = omega arith; new = midway-none _ (l .stored) }
+
+  module _ {i : ℕ} {s : List ℕ} (m : LanesTo f p q x i s) where
+    lanes-turn : {j : ℕ} {r t : List ℕ} {k : Float} → Midway f (length x / width f) j (lanesOf f x p q) (floatsOf f x) r → j < length x / width f → cond (eqb (j % 2) 0) p q ≡ k
+        → t ≡ putFloat f r j (mul f (floatAt f r j) k) → Midway f (length x / width f) (j + 1) (lanesOf f x p q) (floatsOf f x) t
+    lanes-turn {j} q hj ek put = midway-put q hj (rw (midway-later x q j hj (omega arith), ek)) put
+
+    lanes-made : {j : ℕ} {t : List ℕ} → Midway f (length x / width f) j (lanesOf f x p q) (floatsOf f x) t → length x / width f ≤ j → t ≡ encodeFloats f (scaledLanes f p q (decodeFloats f x))
     unfolding scaledLanes
-    lanes-all m h = rw (length-decodeFloats f s₀) (midway-all m h)
+    lanes-made q h = rw (length-decodeFloats f x) (midway-all q h)
 
-    pub lanes-even : (i : ℕ) {s t : List ℕ} → LanesTo (2 * i) s → 2 * i < length s₀ / width f → t ≡ putFloat f s (2 * i) (mul f (floatAt f s (2 * i)) p) → LanesTo (2 * i + 1) t
-    lanes-even i m h put = lanes-turn m h (rw (eq-eqb (2 * i % 2) 0 (omega arith))) put
+    module _ (h : i < length x / width f / 2) where
+      pub lanes-even : Ready f s (2 * i)
+      lanes-even = midway-ready x (m .new) (omega arith) (omega arith)
 
-    pub lanes-pair : (i : ℕ) {s t r : List ℕ} → LanesTo (2 * i) s → 2 * i + 1 < length s₀ / width f
-        → t ≡ putFloat f s (2 * i) (mul f (floatAt f s (2 * i)) p) → r ≡ putFloat f t (2 * i + 1) (mul f (floatAt f t (2 * i + 1)) q) → LanesTo (2 * (i + 1)) r
-    lanes-pair i m h even odd =
-        let two : 2 * i + 1 + 1 ≡ 2 * (i + 1) = omega arith in
-        rw two at (lanes-turn (lanes-even i m (omega arith) even) h (rw (ne-eqb ((2 * i + 1) % 2) 0 (omega arith))) odd)
+      module _ {t : List ℕ} (even : t ≡ putFloat f s (2 * i) (mul f (floatAt f s (2 * i)) p)) where
+        half : Midway f (length x / width f) (2 * i + 1) (lanesOf f x p q) (floatsOf f x) t
+        half = lanes-turn (m .new) (omega arith) (rw (eq-eqb (2 * i % 2) 0 (omega arith))) even
 
-    pub lanes-last : {i j : ℕ} {s t : List ℕ} → LanesTo (2 * i) s → j ≡ i → 2 * j + 1 ≡ length s₀ / width f → t ≡ putFloat f s (2 * j) (mul f (floatAt f s (2 * j)) p)
-        → t ≡ encodeFloats f (scaledLanes f p q (decodeFloats f s₀))
-    lanes-last {j = j} m e h put = lanes-all (lanes-even j (rw (← e) at m) (omega arith) put) (omega arith)
+        pub lanes-odd : Ready f t (2 * i + 1)
+        lanes-odd = midway-ready x half (omega arith) (omega arith)
 
--- what is left of the places falls
-pub lane-less : (n j : ℕ) → j < n → n + 1 - (j + 2) < n + 1 - j
-lane-less n j h = omega arith
+        pub lanes-next : {r : List ℕ} → r ≡ putFloat f t (2 * i + 1) (mul f (floatAt f t (2 * i + 1)) q) → LanesTo f p q x (i + 1) r
+        lanes-next odd =
+            let two : 2 * i + 1 + 1 ≡ 2 * (i + 1) = omega arith in
+            record { upTo = omega arith; new = rw two at (lanes-turn half (omega arith) (rw (ne-eqb ((2 * i + 1) % 2) 0 (omega arith))) odd) }
+
+    pub lanes-all : length x / width f / 2 ≤ i → (length x / width f % 2 ≡ 1 → ⊥) → s ≡ encodeFloats f (scaledLanes f p q (decodeFloats f x))
+    lanes-all h even = lanes-made (m .new) (omega arith)
+
+    -- an odd number of floats ends in one of an even place
+    module _ (odd : length x / width f % 2 ≡ 1) where
+      pub lanes-last : Ready f s (2 * (length x / width f / 2))
+      lanes-last = midway-ready x (m .new) (omega (arith, m .upTo)) (omega arith)
+
+      pub lanes-all-odd : {t : List ℕ} → length x / width f / 2 ≤ i
+          → t ≡ putFloat f s (2 * (length x / width f / 2)) (mul f (floatAt f s (2 * (length x / width f / 2))) p) → t ≡ encodeFloats f (scaledLanes f p q (decodeFloats f x))
+      lanes-all-odd h put =
+          let n = length x / width f in
+          let e : i ≡ n / 2 = omega (arith, m .upTo) in
+          lanes-made (lanes-turn (rw e at (m .new)) (omega arith) (rw (eq-eqb (2 * (n / 2) % 2) 0 (omega arith))) put) (omega arith)

@@ -15,11 +15,13 @@ use Rattle.samples.specs.Floats.{width, decodeFloats, encodeFloats}
 use Rattle.samples.proofs.Words.{holds}
 use Rattle.samples.proofs.Halves.{length-even, length-odd, length-joined, even-joined, odd-joined}
 use Rattle.samples.proofs.FloatLaws.{width-pos, length-decodeFloats}
+use Rattle.floats.specs.Steps.{Step}
 use Rattle.floats.specs.Filters.{stepsOf, backOf}
 use Rattle.floats.specs.Bands.{approxs, details, restored, low, high, back}
 use Rattle.floats.specs.Loops.{Lent, LentWithin, Bands, Ran}
 use Rattle.floats.specs.Lanes.{runOn, Lanes, RanOn}
 use Rattle.floats.proofs.Fits.{Fit, stored-encode, fit-decode, fit-even, fit-odd, fit-joined}
+use Rattle.floats.proofs.Splits.{Split}
 
 -- what the checks leave is what the steps ask: of the samples and the details, whatever a bytes the approximations have
 pub ready-within : (w : Wavelet) (f : Format) {n a : ℕ} {x d : List ℕ} → Level w (width f) n (length x) a (length d) → LentWithin f x d
@@ -34,42 +36,42 @@ ready-within w f {n} {x = x} {d = d} l =
 pub ready : (w : Wavelet) (f : Format) {x a d : List ℕ} → Level w (width f) (length x / width f) (length x) (length a) (length d) → Lent f x a d
 ready w f {a = a} l = let p = ready-within w f l in record { long = p .long; samples = p .samples; approx = holds (width-pos f) a _ (l .approx); details = p .details }
 
-module _ (f : Format) (x : List ℕ) {a d : List ℕ} (ea : a ≡ encodeFloats f (evenOf nan (decodeFloats f x))) (ed : d ≡ encodeFloats f (oddOf nan (decodeFloats f x))) where
+module _ {f : Format} (x : List ℕ) {a d : List ℕ} (e : Split f x a d) where
   -- the evens and the odds of three samples or more are bands
   pub split-bands : 3 ≤ length x / width f → Bands f a d
   split-bands long =
-      let sa = stored-encode f (ups (length x / width f)) _ a ea (length-even nan _ ∙ rw (length-decodeFloats f x)) (fit-even f x) in
-      let sd = stored-encode f (downs (length x / width f)) _ d ed (length-odd nan _ ∙ rw (length-decodeFloats f x)) (fit-odd f x) in
+      let sa = stored-encode f (ups (length x / width f)) _ a (e .0) (length-even nan _ ∙ rw (length-decodeFloats f x)) (fit-even f x) in
+      let sd = stored-encode f (downs (length x / width f)) _ d (e .1) (length-odd nan _ ∙ rw (length-decodeFloats f x)) (fit-odd f x) in
       let na = sa .holds .count in
       let nd = sd .holds .count in
       record { approx = rw na sa; details = rw nd sd; some = omega arith; fewer = omega arith; near = omega arith }
 
-  -- and the schedule makes the level of them
-  pub run-level : (w : Wavelet) {a′ d′ : List ℕ} → Ran f (stepsOf f w) a d a′ d′ → (a′ ≡ low f w x) × (d′ ≡ high f w x)
+  -- and a filter's schedule makes the level of them
+  pub run-level : (w : Wavelet) {ss : List Step} {a′ d′ : List ℕ} → ss ≡ stepsOf f w → Ran f ss a d a′ d′ → (a′ ≡ low f w x) × (d′ ≡ high f w x)
   unfolding low high approxs details
-  run-level w r =
-      let xa : decodeFloats f a ≡ evenOf nan (decodeFloats f x) = rw ea (fit-even f x) in
-      let xd : decodeFloats f d ≡ oddOf nan (decodeFloats f x) = rw ed (fit-odd f x) in
-      (r .approx ∙ rw (xa, xd), r .details ∙ rw (xa, xd))
+  run-level w es r =
+      let xa : decodeFloats f a ≡ evenOf nan (decodeFloats f x) = rw (e .0) (fit-even f x) in
+      let xd : decodeFloats f d ≡ oddOf nan (decodeFloats f x) = rw (e .1) (fit-odd f x) in
+      (r .approx ∙ rw (es, xa, xd), r .details ∙ rw (es, xa, xd))
 
 -- ---- the inverse
 
-module _ (f : Format) (a d : List ℕ) {x : List ℕ} (e : x ≡ encodeFloats f (joined nan (decodeFloats f a) (decodeFloats f d))) where
+module _ {f : Format} {o a d : List ℕ} (l : Lent f o a d) {x : List ℕ} (e : x ≡ encodeFloats f (joined nan (decodeFloats f a) (decodeFloats f d))) where
   fit : Fit f (joined nan (decodeFloats f a) (decodeFloats f d))
   fit = fit-joined f (decodeFloats f a) (decodeFloats f d) (fit-decode f a) (fit-decode f d)
 
   -- the two bands joined
-  pub join-lanes : {o : List ℕ} → Lent f o a d → Lanes f x
-  join-lanes {o} l =
+  pub join-lanes : Lanes f x
+  join-lanes =
       let s = stored-encode f (length o / width f) _ x e (length-joined nan _ _ ∙ rw (length-decodeFloats f a, length-decodeFloats f d) (omega (arith, l .approx .count, l .details .count))) fit in
       let n = s .holds .count in
       record { stored = rw n s; long = omega (arith, l .long) }
 
-  -- and the schedule of the inverse makes the samples of them
-  pub run-back : (w : Wavelet) {o x′ : List ℕ} → Lent f o a d → RanOn f (backOf f w) x x′ → x′ ≡ back f w a d
+  -- and a filter's schedule of the inverse makes the samples of them
+  pub run-back : (w : Wavelet) {ss : List Step} {x′ : List ℕ} → ss ≡ backOf f w → RanOn f ss x x′ → x′ ≡ back f w a d
   unfolding back restored runOn
-  run-back w {o} l r =
+  run-back w es r =
       let xs : decodeFloats f x ≡ joined nan (decodeFloats f a) (decodeFloats f d) = rw e fit in
       let na : length (decodeFloats f a) ≡ ups (length o / width f) = length-decodeFloats f a ∙ l .approx .count in
       let nd : length (decodeFloats f d) ≡ downs (length o / width f) = length-decodeFloats f d ∙ l .details .count in
-      r .output ∙ rw (xs, even-joined nan (decodeFloats f a) (decodeFloats f d) (omega arith) (omega arith), odd-joined nan (decodeFloats f a) (decodeFloats f d) (omega arith) (omega arith))
+      r .output ∙ rw (es, xs, even-joined nan (decodeFloats f a) (decodeFloats f d) (omega arith) (omega arith), odd-joined nan (decodeFloats f a) (decodeFloats f d) (omega arith) (omega arith))

@@ -119,10 +119,13 @@ module _ {f : Format} {n j : ℕ} {new : ℕ → Float} {s : List ℕ} (t : List
     pub kept-plain : Plain f s i
     kept-plain = plain stays
 
--- what reading or writing such a float asks; and of any float of a band
+-- what reading or writing float i of s asks: of a float that is not passed yet, and of any float of a band
+abbrev pub Ready : Format → List ℕ → ℕ → Type 0
+Ready f s i = (i < length s / width f) × Plain f s i
+
 module _ {f : Format} {n : ℕ} {s : List ℕ} where
-  pub midway-ready : {j i : ℕ} {new : ℕ → Float} (t : List ℕ) → Midway f n j new (floatsOf f t) s → j ≤ i → i < n → (i < length s / width f) × Plain f s i
+  pub midway-ready : {j i : ℕ} {new : ℕ → Float} (t : List ℕ) → Midway f n j new (floatsOf f t) s → j ≤ i → i < n → Ready f s i
   midway-ready {i = i} t m k l = (rw (m .holds .count) l, later-plain t m i l k)
 
-  pub stored-ready : {i : ℕ} → Stored f n s → i < n → (i < length s / width f) × Plain f s i
+  pub stored-ready : {i : ℕ} → Stored f n s → i < n → Ready f s i
   stored-ready h l = midway-ready s (midway-none (floatsOf f s) h) (omega arith) l

@@ -3,6 +3,7 @@ use mathlib.Core.List.{List, [], _∷_, _++_, map}
 use mathlib.Core.Path.{_≡_, refl, sym, _∙_}
 use Prim.Native.Nat.{ℕ, _+_, _/_, _≤_, _<_}
 use native.Mathlib.Numerals.{add-one}
+use native.Mathlib.Omega.{arith}
 use lib.Ieee.{Float, nan, Format}
 use lib.ListN.{length, getD, take, length-map, List·getD-map}
 use lib.Seq.{take-suc, take-all}
@@ -43,8 +44,11 @@ module _ (f : Format) where
   runD-append [] ts a d = refl
   runD-append (s ∷ ss) ts a d = runD-append ss ts (stepA f s a d) (stepD f s a d)
 
+pub ran-scaled : {f : Format} {p q : Float} {a d a′ d′ : List ℕ} → a′ ≡ encodeFloats f (scaled f p (decodeFloats f a)) → d′ ≡ encodeFloats f (scaled f q (decodeFloats f d)) → Ran f (scaling p q ∷ []) a d a′ d′
+ran-scaled ea ed = record { approx = ea; details = ed }
+
 module _ {f : Format} {a d : List ℕ} (b : Bands f a d) where
-  pub ran-none : Ran f [] a d a d
+  ran-none : Ran f [] a d a d
   ran-none = record { approx = sym (b .approx .plain); details = sym (b .details .plain) }
 
   -- one step, which may leave a band as it is
@@ -62,16 +66,16 @@ module _ {f : Format} {a d : List ℕ} (b : Bands f a d) where
     storedD : Stored f (length d / width f) d′
     storedD = stored-encode f _ (runD f ss (decodeFloats f a) (decodeFloats f d)) d′ (r .details) (length-runD f ss _ _ ∙ length-decodeFloats f d) (fit-runD f ss _ _ (fit-decode f a) (fit-decode f d))
 
-    pub ran-bands : Bands f a′ d′
+    ran-bands : Bands f a′ d′
     ran-bands =
         let na = storedA .holds .count in
         let nd = storedD .holds .count in
         record { approx = rw na storedA; details = rw nd storedD; some = rw nd (b .some); fewer = rw (na, nd) (b .fewer); near = rw (na, nd) (b .near) }
 
-    pub ran-lengthA : length a′ ≡ length a
+    ran-lengthA : length a′ ≡ length a
     ran-lengthA = storedA .holds .size ∙ sym (b .approx .holds .size)
 
-    pub ran-lengthD : length d′ ≡ length d
+    ran-lengthD : length d′ ≡ length d
     ran-lengthD = storedD .holds .size ∙ sym (b .details .holds .size)
 
 -- the steps ss, and then the steps ts
@@ -90,10 +94,33 @@ ran-then {f} ss ts {a} {d} {a₁} {d₁} r q =
 pub front-step {ℓ} : {S : Type ℓ} (kind : S → Step) (s : List S) (z : S) (i : ℕ) → i < length s → take (i + 1) (map kind s) ≡ take i (map kind s) ++ (kind (getD s i z) ∷ [])
 front-step kind s z i h = rw add-one (take-suc (map kind s) i (kind z) (rw (length-map s kind) h) ∙ rw (List·getD-map kind s i z))
 
--- a turn of the loop over a schedule, and its end
-module _ {f : Format} {S : Type 0} (kind : S → Step) (s : List S) (z : S) {a d : List ℕ} where
-  pub ran-turn : {i : ℕ} {a₁ d₁ a₂ d₂ : List ℕ} → i < length s → Ran f (take i (map kind s)) a d a₁ d₁ → Ran f (kind (getD s i z) ∷ []) a₁ d₁ a₂ d₂ → Ran f (take (i + 1) (map kind s)) a d a₂ d₂
-  ran-turn {i} h r q = rw (front-step kind s z i h) (ran-then (take i (map kind s)) (kind (getD s i z) ∷ []) r q)
+-- the loop over a schedule of k steps: the bands are what the first i of them leave
+pub record RanTo (f : Format) {S : Type 0} (kind : S → Step) (s : List S) (k : ℕ) (a d : List ℕ) (i : ℕ) (a₁ d₁ : List ℕ) : Type 0 where
+  pub bands : Bands f a d
+  pub count : length s ≡ k
+  pub ran : Ran f (take i (map kind s)) a d a₁ d₁
 
-  pub ran-all : (i : ℕ) {a₁ d₁ : List ℕ} → length s ≤ i → Ran f (take i (map kind s)) a d a₁ d₁ → Ran f (map kind s) a d a₁ d₁
-  ran-all i h r = rw (take-all i (map kind s) (rw (length-map s kind) h)) at r
+module _ {f : Format} {S : Type 0} {kind : S → Step} {s : List S} {k : ℕ} {a d : List ℕ} where
+  pub ranTo-none : Bands f a d → length s ≡ k → RanTo f kind s k a d 0 a d
+  ranTo-none b n = record { bands = b; count = n; ran = ran-none b }
+
+  module _ {i : ℕ} {a₁ d₁ : List ℕ} (r : RanTo f kind s k a d i a₁ d₁) where
+    pub ranTo-bands : Bands f a₁ d₁
+    ranTo-bands = ran-bands (r .bands) (r .ran)
+
+    pub ranTo-lengthA : length a₁ ≡ length a
+    ranTo-lengthA = ran-lengthA (r .bands) (r .ran)
+
+    pub ranTo-lengthD : length d₁ ≡ length d
+    ranTo-lengthD = ran-lengthD (r .bands) (r .ran)
+
+    pub ranTo-more : (z : S) {a₂ d₂ : List ℕ} → i < k → Ran f (kind (getD s i z) ∷ []) a₁ d₁ a₂ d₂ → RanTo f kind s k a d (i + 1) a₂ d₂
+    ranTo-more z h q =
+        record {
+          bands = r .bands;
+          count = r .count;
+          ran = rw (front-step kind s z i (omega (arith, r .count))) (ran-then (take i (map kind s)) (kind (getD s i z) ∷ []) (r .ran) q);
+        }
+
+    pub ranTo-all : k ≤ i → Ran f (map kind s) a d a₁ d₁
+    ranTo-all h = rw (take-all i (map kind s) (rw (length-map s kind) (omega (arith, r .count)))) at (r .ran)

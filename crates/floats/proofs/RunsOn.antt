@@ -41,7 +41,7 @@ module _ (f : Format) where
       rw (runA-append f ss ts a d, runD-append f ss ts a d, even-joined nan (runA f ss a d) (runD f ss a d) (omega arith) (omega arith), odd-joined nan (runA f ss a d) (runD f ss a d) (omega arith) (omega arith))
 
 module _ {f : Format} {x : List ℕ} (l : Lanes f x) where
-  pub ranOn-none : RanOn f [] x x
+  ranOn-none : RanOn f [] x x
   ranOn-none = record { output = sym (ap (encodeFloats f) (runOn-none f (decodeFloats f x)) ∙ l .stored .plain) }
 
   -- one step
@@ -62,10 +62,10 @@ module _ {f : Format} {x : List ℕ} (l : Lanes f x) where
     storedOn : Stored f (length x / width f) x′
     storedOn = stored-encode f _ (runOn f ss (decodeFloats f x)) x′ (r .output) (length-runOn f ss _ ∙ length-decodeFloats f x) (fit-runOn f ss x)
 
-    pub ranOn-length : length x′ ≡ length x
+    ranOn-length : length x′ ≡ length x
     ranOn-length = storedOn .holds .size ∙ sym (l .stored .holds .size)
 
-    pub ranOn-lanes : Lanes f x′
+    ranOn-lanes : Lanes f x′
     ranOn-lanes = let n = storedOn .holds .count in record { stored = rw n storedOn; long = rw n (l .long) }
 
 -- the steps ss, and then the steps ts
@@ -74,10 +74,30 @@ ranOn-then {f} ss ts {x} {x₁} r q =
     let e : decodeFloats f x₁ ≡ runOn f ss (decodeFloats f x) = rw (r .output) (fit-runOn f ss x) in
     record { output = q .output ∙ rw (e, runOn-append f ss ts (decodeFloats f x)) }
 
--- a turn of the loop over a schedule, and its end
-module _ {f : Format} {S : Type 0} (kind : S → Step) (s : List S) (z : S) {x : List ℕ} where
-  pub ranOn-turn : {i : ℕ} {x₁ x₂ : List ℕ} → i < length s → RanOn f (take i (map kind s)) x x₁ → RanOn f (kind (getD s i z) ∷ []) x₁ x₂ → RanOn f (take (i + 1) (map kind s)) x x₂
-  ranOn-turn {i} h r q = rw (front-step kind s z i h) (ranOn-then (take i (map kind s)) (kind (getD s i z) ∷ []) r q)
+-- the loop over a schedule of k steps: the list is what the first i of them leave
+pub record RanOnTo (f : Format) {S : Type 0} (kind : S → Step) (s : List S) (k : ℕ) (x : List ℕ) (i : ℕ) (x₁ : List ℕ) : Type 0 where
+  pub lanes : Lanes f x
+  pub count : length s ≡ k
+  pub ran : RanOn f (take i (map kind s)) x x₁
 
-  pub ranOn-all : (i : ℕ) {x₁ : List ℕ} → length s ≤ i → RanOn f (take i (map kind s)) x x₁ → RanOn f (map kind s) x x₁
-  ranOn-all i h r = rw (take-all i (map kind s) (rw (length-map s kind) h)) at r
+module _ {f : Format} {S : Type 0} {kind : S → Step} {s : List S} {k : ℕ} {x : List ℕ} where
+  pub ranOnTo-none : Lanes f x → length s ≡ k → RanOnTo f kind s k x 0 x
+  ranOnTo-none l n = record { lanes = l; count = n; ran = ranOn-none l }
+
+  module _ {i : ℕ} {x₁ : List ℕ} (r : RanOnTo f kind s k x i x₁) where
+    pub ranOnTo-lanes : Lanes f x₁
+    ranOnTo-lanes = ranOn-lanes (r .lanes) (r .ran)
+
+    pub ranOnTo-length : length x₁ ≡ length x
+    ranOnTo-length = ranOn-length (r .lanes) (r .ran)
+
+    pub ranOnTo-more : (z : S) {x₂ : List ℕ} → i < k → RanOn f (kind (getD s i z) ∷ []) x₁ x₂ → RanOnTo f kind s k x (i + 1) x₂
+    ranOnTo-more z h q =
+        record {
+          lanes = r .lanes;
+          count = r .count;
+          ran = rw (front-step kind s z i (omega (arith, r .count))) (ranOn-then (take i (map kind s)) (kind (getD s i z) ∷ []) (r .ran) q);
+        }
+
+    pub ranOnTo-all : k ≤ i → RanOn f (map kind s) x x₁
+    ranOnTo-all h = rw (take-all i (map kind s) (rw (length-map s kind) (omega (arith, r .count)))) at (r .ran)

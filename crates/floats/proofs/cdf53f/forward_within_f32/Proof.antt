@@ -1,38 +1,14 @@
 -- `forward_within_f32` meets its contract: evens and odds, and then the schedule on what stands before the cut. Assumes nothing.
 use borrow.Author.Needs.{needs}
-use mathlib.Core.Path.{refl, sym}
-use native.Mathlib.Omega.{arith}
-use lib.Ieee.{binary32}
-use lib.Seq.{length-take-le}
 use Rattle.sizes.specs.declared.Wavelet.the-variants.{Cdf53}
-use Rattle.floats.proofs.Insides.{within-bands, within-level}
+use Rattle.floats.proofs.Insides.{cut-length, within-bands, within-level}
 use Rattle.floats.proofs.cdf53f.forward_within_f32.Statement.{statement}
 use Rattle.floats.proofs.cdf53f.forward_within_f32.Tie as tie
 
-slice-aggregate-run2-f32 : tie.Need-slice-aggregate-run2-f32
-slice-aggregate-run2-f32 c = sym (length-take-le _ (c .before .before .before .before .before .before .split-within-f32 .last .0) (omega (arith, c .before .before .before .before .before .before .split-within-f32 .kept .0, c .before .before .before .before .before .before .before .before .before .before .before .pre .samples .size)))
-
-run2-f32-requires : tie.Need-run2-f32-requires
-run2-f32-requires c κs =
-    let split = c .before .before .before .before .before .before .before .split-within-f32 .ensures in
-    within-bands binary32 _ _ refl (split .0) (split .1) (c .before .before .before .before .before .before .before .before .before .before .before .before .pre .long)
-
-returns : tie.Need-returns
-returns c =
-    let split = c .before .before .before .before .before .before .before .before .before .before .before .before .split-within-f32 .ensures in
-    within-level binary32 _ _ refl (split .0) (split .1) Cdf53 (rw (c .before .before .before .before .before .before .before .schedule53-f32 .ensures) at (c .before .before .before .before .run2-f32 .ensures))
-
 pub forward-within-f32-spec : {M : Type 1} → statement M
-forward-within-f32-spec =
-    tie.close
-    (tie.spec
-    (λ c. search needs)
-    (λ c. search needs)
-    (λ c κs. search needs)
-    (λ c κs. search needs)
-    (λ c. search needs)
-    slice-aggregate-run2-f32
-    run2-f32-requires
-    (λ c. search needs)
-    (λ c. search needs)
-    returns)
+forward-within-f32-spec = tie.close (tie.spec (λ c. search needs) (λ c. search needs)
+    (λ c κs. search needs) (λ c κs. search needs) (λ c. search needs)
+    (λ c. cut-length (c .before .before .before .before .before .before .before .before .before .before .before .pre) _ (c .before .before .before .before .before .before .split-within-f32 .kept .0))
+    (λ c κs. within-bands (c .before .before .before .before .before .before .before .before .before .before .before .before .pre) (c .before .before .before .before .before .before .before .split-within-f32 .ensures))
+    (λ c. search needs) (λ c. search needs)
+    (λ c. within-level (c .before .before .before .before .before .before .before .before .before .before .before .before .before .before .before .before .before .pre) (c .before .before .before .before .before .before .before .before .before .before .before .before .split-within-f32 .ensures) Cdf53 (c .before .before .before .before .before .before .before .schedule53-f32 .ensures) (c .before .before .before .before .run2-f32 .ensures)))

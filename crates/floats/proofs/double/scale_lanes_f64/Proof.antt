@@ -1,51 +1,26 @@
 -- `scale_lanes_f64` meets its contract. The invariant: the first 2 i floats are new. An odd number of floats ends in one of an even place. Assumes nothing.
-use Prim.Native.Nat.{_*_, _-_, _≤_}
-use native.Mathlib.Omega.{arith}
+use borrow.Author.Needs.{needs}
+use Prim.Native.Nat.{_-_}
 use lib.Ieee.{binary64}
-use Rattle.floats.proofs.Midway.{Midway, floatsOf, midway-none, midway-ready}
-use Rattle.floats.proofs.Lanes.{LanesTo, lanes-even, lanes-pair, lanes-last, lanes-all}
+use Rattle.floats.proofs.Lanes.{LanesTo, lanes-none, lanes-even, lanes-odd, lanes-next, lanes-last, lanes-all, lanes-all-odd}
 use Rattle.floats.proofs.double.scale_lanes_f64.Statement.{statement}
 use Rattle.floats.proofs.double.scale_lanes_f64.Tie as tie
 
 abbrev Inv-loop : tie.InvT-loop
-Inv-loop x₀ k l n m i₀ x i = (i ≤ m) × LanesTo binary64 x₀ k l (2 * i) x
+Inv-loop x₀ k l n m i₀ x i = LanesTo binary64 k l x₀ i x
 
 abbrev μ-loop : tie.MeasureT-loop
 μ-loop x₀ k l n m i₀ x i = m - i
 
-loop-again : tie.Need-loop-again Inv-loop μ-loop
-loop-again c =
-    let a = c .before .before .before .before .before .before .before .before .before .before .before .args in
-    (omega arith, lanes-pair binary64 _ (a .k) (a .l) _ (c .before .before .before .before .before .before .before .before .before .loop .inv .1) (omega arith) (c .before .before .before .before .before .before .scale-at-f64 .ensures) (c .before .before .scale-at-f642 .ensures))
-
-second : tie.Need-scale-at-f64-requires-2 Inv-loop μ-loop
-second c κs =
-    let a = c .before .before .before .before .before .before .before .before .args in
-    midway-ready _ (lanes-even binary64 _ (a .k) (a .l) _ (c .before .before .before .before .before .before .loop .inv .1) (omega arith) (c .before .before .before .scale-at-f64 .ensures)) (omega arith) (omega arith)
-
-returns : tie.Need-returns Inv-loop μ-loop
-returns c =
-    let a = c .before .before .before .before .before .before .before .before .args in
-    lanes-last binary64 _ (a .k) (a .l) (c .before .before .before .before .before .before .loop .inv .1) (omega arith) (omega arith) (c .before .before .scale-at-f643 .ensures)
-
 pub scale-lanes-f64-spec : {M : Type 1} → statement M
-scale-lanes-f64-spec =
-    tie.close
-    (tie.spec
-    Inv-loop
-    μ-loop
-    (λ c. (omega arith, midway-none _ (c .before .pre .stored)))
-    (λ c. omega arith)
-    (λ c κs. midway-ready _ (c .before .before .loop .inv .1) (omega arith) (omega arith))
-    (λ c. omega arith)
-    (λ c. omega arith)
-    second
-    (λ c. omega arith)
-    (λ c. omega arith)
-    loop-again
-    (λ c. omega arith)
-    (λ c κs. midway-ready _ (c .before .before .before .loop .inv .1) (omega arith) (omega arith))
-    (λ c. omega (arith, c .before .before .before .before .before .before .before .before .pre .stored .holds .size))
-    returns
-    (λ c. omega (arith, c .before .before .before .before .pre .stored .holds .size))
-    (λ c. lanes-all binary64 _ _ _ (c .before .before .loop .inv .1) (omega arith)))
+scale-lanes-f64-spec = tie.close (tie.spec Inv-loop μ-loop (λ c. search lanes-none)
+    (λ c. search needs)
+    (λ c κs. lanes-even (c .before .before .loop .inv) (c .before .loop-test .taken))
+    (λ c. search needs) (λ c. search needs)
+    (λ c κs. lanes-odd (c .before .before .before .before .before .before .loop .inv) (c .before .before .before .before .before .loop-test .taken) (c .before .before .before .scale-at-f64 .ensures))
+    (λ c. search needs) (λ c. search needs)
+    (λ c. lanes-next (c .before .before .before .before .before .before .before .before .before .loop .inv) (c .before .before .before .before .before .before .before .before .loop-test .taken) (c .before .before .before .before .before .before .scale-at-f64 .ensures) (c .before .before .scale-at-f642 .ensures))
+    (λ c. search needs)
+    (λ c κs. lanes-last (c .before .before .before .loop .inv) (c .before .if1 .taken))
+    (λ c. search needs) (λ c. search (lanes-all-odd {f = binary64})) (λ c. search needs)
+    (λ c. search (lanes-all {f = binary64})))

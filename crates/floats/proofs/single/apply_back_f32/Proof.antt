@@ -5,18 +5,11 @@ use Rattle.floats.proofs.single.apply_back_f32.Statement.{statement}
 use Rattle.floats.proofs.single.apply_back_f32.Tie as tie
 
 pub apply-back-f32-spec : {M : Type 1} → statement M
-apply-back-f32-spec =
-    tie.close
-    (tie.spec
+apply-back-f32-spec = tie.close (tie.spec (λ c. search needs) (λ c κs. search needs)
+    (λ c. search needs) (λ c κs. search needs) (λ c. search needs) (λ c κs. search needs)
     (λ c. search needs)
-    (λ c κs. search needs)
+    (λ c. rw (c .before .before .before .before .before .step .given .1) (search ranOn-odds))
     (λ c. search needs)
-    (λ c κs. search needs)
+    (λ c. rw (c .before .before .before .before .before .step2 .given .1) (search ranOn-evens))
     (λ c. search needs)
-    (λ c κs. search needs)
-    (λ c. search needs)
-    (λ c. rw (c .before .before .before .before .before .step .given .1) (ranOn-odds (c .before .before .before .before .before .before .before .before .pre) (c .before .before .lift-lane-f32 .ensures)))
-    (λ c. search needs)
-    (λ c. rw (c .before .before .before .before .before .step2 .given .1) (ranOn-evens (c .before .before .before .before .before .before .before .before .pre) (c .before .before .lift-lane-f322 .ensures)))
-    (λ c. search needs)
-    (λ c. rw (c .before .before .before .before .before .step3 .given .1) (ranOn-scaled (c .before .before .before .before .before .before .before .before .pre) (c .before .before .scale-lanes-f32 .ensures))))
+    (λ c. rw (c .before .before .before .before .before .step3 .given .1) (search ranOn-scaled)))

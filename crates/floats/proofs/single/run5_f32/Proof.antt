@@ -1,50 +1,21 @@
 -- `run5_f32` meets its contract. The invariant: the bands are what the first i steps leave. Assumes nothing.
 use borrow.Author.Needs.{needs}
-use mathlib.Core.List.{map}
-use mathlib.Core.Path.{_≡_}
-use Prim.Native.Nat.{_-_, _≤_}
-use native.Mathlib.Omega.{arith}
-use lib.Ieee.{binary32, nan}
-use lib.ListN.{length, take}
-use Rattle.floats.specs.declared.single.Step32.the-variants.{Odds}
-use Rattle.floats.specs.Loops.{Ran}
+use Prim.Native.Nat.{_-_}
+use lib.Ieee.{binary32}
 use Rattle.floats.specs.Kinds.{kind32}
-use Rattle.floats.proofs.Runs.{ran-none, ran-bands, ran-turn, ran-all, ran-lengthA, ran-lengthD}
+use Rattle.floats.proofs.Runs.{RanTo, ranTo-none, ranTo-bands, ranTo-more, ranTo-lengthA, ranTo-lengthD, ranTo-all}
 use Rattle.floats.proofs.single.run5_f32.Statement.{statement}
 use Rattle.floats.proofs.single.run5_f32.Tie as tie
 
 abbrev Inv-loop : tie.InvT-loop
-Inv-loop a₀ d₀ schedule i₀ a d i = (i ≤ 5) × Ran binary32 (take i (map kind32 schedule)) a₀ d₀ a d
+Inv-loop a₀ d₀ schedule i₀ a d i = RanTo binary32 kind32 schedule 5 a₀ d₀ i a d
 
 abbrev μ-loop : tie.MeasureT-loop
 μ-loop a₀ d₀ schedule i₀ a d i = 5 - i
 
-count : (c : tie.Start Inv-loop μ-loop) → length (c .args .t1) ≡ 5
-count c = c .good .0 .1 .0 .1
-
-loop-again : tie.Need-loop-again Inv-loop μ-loop
-loop-again c =
-    let n = count (c .before .before .before .before .before .before .before .before .before .before .before .before) in
-    (omega arith, ran-turn kind32 (c .before .before .before .before .before .before .before .before .before .before .before .before .args .t1) (Odds nan) (omega arith) (c .before .before .before .before .before .before .before .before .before .loop .inv .1) (c .before .before .before .before .apply-f32 .ensures))
-
-returns : tie.Need-returns Inv-loop μ-loop
-returns c =
-    let n = count (c .before .before .before .before) in
-    ran-all kind32 (c .before .before .before .before .args .t1) (Odds nan) (c .before .loop .i) (omega arith) (c .before .loop .inv .1)
-
 pub run5-f32-spec : {M : Type 1} → statement M
-run5-f32-spec =
-    tie.close
-    (tie.spec
-    Inv-loop
-    μ-loop
-    (λ c. (omega arith, ran-none (c .before .before .pre)))
-    (λ c. search needs)
-    (λ c. search needs)
-    (λ c κs. ran-bands (c .before .before .before .before .before .before .before .pre) (c .before .before .before .before .loop .inv .1))
-    (λ c. omega arith)
-    (λ c. omega arith)
-    loop-again
-    (λ c. ran-lengthA (c .before .before .before .before .pre) (c .before .loop .inv .1))
-    (λ c. ran-lengthD (c .before .before .before .before .pre) (c .before .loop .inv .1))
-    returns)
+run5-f32-spec = tie.close (tie.spec Inv-loop μ-loop (λ c. search ranTo-none) (λ c. search needs)
+    (λ c. search needs) (λ c κs. ranTo-bands (c .before .before .before .before .loop .inv))
+    (λ c. search needs) (λ c. search needs) (λ c. search ranTo-more)
+    (λ c. ranTo-lengthA (c .before .loop .inv)) (λ c. ranTo-lengthD (c .before .loop .inv))
+    (λ c. ranTo-all (c .before .loop .inv) (c .loop-test .left)))
