@@ -1,0 +1,124 @@
+-- Each program that document 01 names to be shut out differs from the statement on an input: by computing. Assumes nothing.
+use mathlib.Core.List.{List, [], _∷_, _++_}
+use mathlib.Core.Path.{_≡_, refl, sym, ap, _∙_}
+use Prim.Native.Nat.{ℕ, _*_}
+use native.Mathlib.Omega.{arith}
+use lib.ListN.{getD, take, drop}
+use Rattle.answers.specs.declared.err.Answer.{Answer}
+use Rattle.answers.specs.declared.err.Refusal.the-variants.{Done}
+use Rattle.answers.specs.Answers.{answerOf}
+use Rattle.answers.specs.Checks.{left}
+use Rattle.sizes.specs.declared.Wavelet.the-variants.{Cdf53}
+use Rattle.sizes.specs.Calls.{sayForward, sayInverse}
+use Rattle.sizes.specs.Levels.{places, depthWithin, depthFrom}
+use Rattle.samples.specs.Le.{leAt, leBytes}
+use Rattle.samples.specs.Words.{tabulate, wordAt, wordsOf, bytesOf}
+use Rattle.samples.specs.Halves.{evenOf, oddOf}
+use Rattle.samples.specs.Integers.{val, residue, wrap, decode, encode}
+use Rattle.cdf53i.specs.Lift.{detail, details, approx, approxs, even, odd, sample, restored}
+use Rattle.cdf53i.specs.Bands.{low, high, back}
+use Rattle.dwt.specs.declared.filter.Filter.the-variants.{Cdf53I8}
+use Rattle.dwt.specs.Pyramids.{approxAt, pyramid, samplesOf}
+use Rattle.dwt.specs.Calls.{sayDwt, sayMulti, OneForward, OneInverse, Multi}
+use Rattle.dwt.specs.Backward.{sayBack, MultiBack}
+use Rattle.pyramid.specs.Writes.{sayWrite}
+use Rattle.pyramid.specs.Opens.{countIn, samplesIn, Open}
+use Rattle.pyramid.proofs.Survives.{OpensTo}
+use Rattle.figures.specs.Worked.{five, thirtyOne}
+use Rattle.figures.specs.ShutOut.{splitOnly, restSplit, detailsUp, three, one0, two0, three0, five0, lengths, NotAllRefused, ShutOut}
+use Rattle.figures.proofs.Files.{p6-to-p10}
+
+-- lists that differ at place i
+differ : {x y : List ℕ} (i : ℕ) → (getD x i 0 ≡ getD y i 0 → ⊥) → x ≡ y → ⊥
+differ i h e = h (ap (λ (l : List ℕ). getD l i 0) e)
+
+-- ---- what the checks say of the inputs
+
+says-forward : sayForward Cdf53 1 3 2 1 ≡ Done 0 0
+unfolding sayForward
+says-forward = refl
+
+says-inverse : sayInverse Cdf53 1 2 1 3 ≡ Done 0 0
+unfolding sayInverse
+says-inverse = refl
+
+says-last : sayDwt Cdf53I8 2 5 2 1 5 5 ≡ Done 0 0
+unfolding sayDwt places depthFrom depthWithin
+says-last = refl
+
+says-down : sayMulti Cdf53I8 2 5 5 5 5 ≡ Done 0 0
+unfolding sayMulti depthFrom depthWithin
+says-down = refl
+
+says-back : sayBack Cdf53I8 2 3 lengths 5 5 5 ≡ Done 0 0
+unfolding sayBack leAt tabulate wordAt wordsOf
+says-back = refl
+
+says-write : sayWrite Cdf53I8 2 5 31 5 5 ≡ Done 0 0
+unfolding sayWrite depthFrom depthWithin
+says-write = refl
+
+-- the number of a done answer
+number-of : {r : Answer} {a b : ℕ} → r ≡ answerOf (Done a b) → r .number ≡ 0
+number-of e = ap (λ (q : Answer). q .number) e
+
+-- ---- what is left, of calls that are done with the inputs
+
+bands : {r : Answer} {a d : List ℕ} → OneForward Cdf53I8 three two0 one0 r a d → (a ≡ 3 ∷ 4 ∷ []) × (d ≡ 4 ∷ [])
+unfolding leAt leBytes tabulate wordAt wordsOf bytesOf val residue wrap decode encode detail details approx approxs low high
+bands m = (m .approx ∙ ap (λ s. left s (low 1 three) two0) says-forward, m .details ∙ ap (λ s. left s (high 1 three) one0) says-forward)
+
+restores : {r : Answer} {o : List ℕ} → OneInverse Cdf53I8 (3 ∷ 4 ∷ []) (4 ∷ []) three0 r o → o ≡ three
+unfolding leAt leBytes tabulate wordAt wordsOf bytesOf val residue wrap decode encode even odd sample restored back
+restores m = m .output ∙ ap (λ s. left s (back 1 (3 ∷ 4 ∷ []) (4 ∷ [])) three0) says-inverse
+
+restores-zero : {r : Answer} {o : List ℕ} → OneInverse Cdf53I8 two0 one0 three0 r o → o ≡ three0
+unfolding leAt leBytes tabulate wordAt wordsOf bytesOf val residue wrap decode encode even odd sample restored back
+restores-zero m = m .output ∙ ap (λ s. left s (back 1 two0 one0) three0) says-inverse
+
+levels : {r : Answer} {o u v : List ℕ} → Multi Cdf53I8 2 five five0 five0 five0 r o u v → o ≡ 255 ∷ 3 ∷ 248 ∷ 5 ∷ 0 ∷ []
+unfolding leAt leBytes tabulate wordAt wordsOf bytesOf val residue wrap decode encode detail details approx approxs low high pyramid
+levels m = m .output ∙ ap (λ s. left s (pyramid Cdf53I8 2 five) five0) says-down
+
+restores-five : {r : Answer} {o u v : List ℕ} → MultiBack Cdf53I8 (255 ∷ 3 ∷ []) (248 ∷ 5 ∷ 0 ∷ []) lengths five0 five0 five0 r o u v → o ≡ five
+unfolding leAt leBytes tabulate wordAt wordsOf bytesOf val residue wrap decode encode even odd sample restored back samplesOf
+restores-five m = m .output ∙ ap (λ s. left s (samplesOf Cdf53I8 (255 ∷ 3 ∷ []) (248 ∷ 5 ∷ 0 ∷ []) (wordsOf 4 lengths)) five0) says-back
+
+restores-zeros : {r : Answer} {o u v : List ℕ} → MultiBack Cdf53I8 two0 three0 lengths five0 five0 five0 r o u v → o ≡ five0
+unfolding leAt leBytes tabulate wordAt wordsOf bytesOf val residue wrap decode encode even odd sample restored back samplesOf
+restores-zeros m = m .output ∙ ap (λ s. left s (samplesOf Cdf53I8 two0 three0 (wordsOf 4 lengths)) five0) says-back
+
+-- what opening leaves, of lent slices of five samples
+opened : {s : List ℕ} {l c : ℕ} {x : List ℕ} {r : Answer} {o u v : List ℕ} → OpensTo s 1 14 5 5 5 l c x → Open s 1 14 five0 five0 five0 r o u v
+    → (r ≡ answerOf (Done l c)) × (o ≡ x ++ drop (1 * countIn s) five0)
+opened {s} e m = (
+  m .answer ∙ ap answerOf (e .says),
+  m .output ∙ ap (λ t. left t (samplesIn s ++ drop (1 * countIn s) five0) five0) (e .says) ∙ ap (λ (y : List ℕ). y ++ drop (1 * countIn s) five0) (e .samples),
+)
+
+not-all-refused : NotAllRefused
+not-all-refused =
+    record {
+      forward = λ m. number-of (m .answer ∙ ap answerOf says-forward);
+      inverse = λ m. number-of (m .answer ∙ ap answerOf says-inverse);
+      last = λ m. number-of (m .answer ∙ ap answerOf says-last);
+      down = λ m. number-of (m .answer ∙ ap answerOf says-down);
+      back = λ m. number-of (m .answer ∙ ap answerOf says-back);
+      writes = λ m. number-of (m .answer ∙ ap answerOf says-write);
+      opens = λ m. number-of (opened (p6-to-p10 .p10) m .0);
+    }
+
+pub shut-out : ShutOut
+unfolding leAt leBytes tabulate wordAt wordsOf bytesOf val residue wrap decode encode detail details approx approxs low high approxAt evenOf oddOf splitOnly restSplit detailsUp
+shut-out =
+    record {
+      not-all-refused = not-all-refused;
+      same-samples = λ m k e. differ 0 (λ h. omega arith) (sym (restores m) ∙ e ∙ restores-zero k);
+      same-samples-back = λ m k e. differ 1 (λ h. omega arith) (sym (restores-five m) ∙ e ∙ restores-zeros k);
+      copied = λ m. (λ e. differ 0 (λ h. omega arith) (sym (bands m .0) ∙ e), λ e. differ 0 (λ h. omega arith) (sym (bands m .1) ∙ e));
+      rest-split = λ m e. differ 0 (λ h. omega arith) (sym (levels m) ∙ e);
+      rest-left = λ m e. differ 0 (λ h. omega arith) (sym (levels m) ∙ e);
+      finest-first = λ m e. differ 2 (λ h. omega arith) (sym (levels m) ∙ e);
+      coarsest = λ m. let q = opened (p6-to-p10 .p10) m in (λ e. absurd (omega (arith, ap (λ (r : Answer). r .first) (q .0))), λ e. differ 0 (λ h. omega arith) (sym e ∙ ap (take 2) (q .1)));
+      invented = λ m. let q = opened (p6-to-p10 .p9 27 (omega arith) (omega arith)) m in (ap (λ (r : Answer). r .first) (q .0), ap (λ (r : Answer). r .second) (q .0), ap (take 3) (q .1));
+    }

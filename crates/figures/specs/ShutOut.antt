@@ -1,0 +1,88 @@
+-- Document 01, "Programs to be shut out": for each an input on which what the statement allows is not what that program would give. Samples are 8 bits wide, so
+-- a byte is a sample; the inputs are those of P1 and P5.
+-- Assumes nothing: these are definitions.
+use mathlib.Core.List.{List, [], _∷_, _++_}
+use mathlib.Core.Path.{_≡_}
+use Prim.Native.Nat.{ℕ, zero, suc}
+use lib.ListN.{take}
+use Rattle.answers.specs.declared.err.Answer.{Answer}
+use Rattle.samples.specs.Halves.{evenOf, oddOf}
+use Rattle.dwt.specs.declared.filter.Filter.{Filter}
+use Rattle.dwt.specs.declared.filter.Filter.the-variants.{Cdf53I8}
+use Rattle.dwt.specs.Filters.{lowOf, highOf}
+use Rattle.dwt.specs.Pyramids.{approxAt}
+use Rattle.dwt.specs.Calls.{OneForward, OneInverse, Dwt, Multi}
+use Rattle.dwt.specs.Backward.{MultiBack}
+use Rattle.pyramid.specs.Writes.{Write}
+use Rattle.pyramid.specs.Opens.{Open}
+use Rattle.figures.specs.Worked.{five, thirtyOne}
+
+-- ---- what the wrong programs would give
+
+-- the samples only split, evens before odds, at each of l levels
+unfoldable pub splitOnly : ℕ → List ℕ → List ℕ
+splitOnly zero x = x
+splitOnly (suc l) x = splitOnly l (evenOf 0 x) ++ oddOf 0 x
+
+-- level 1 transformed, and l levels below it only split
+unfoldable pub restSplit : ℕ → List ℕ → List ℕ
+restSplit l x = splitOnly l (lowOf Cdf53I8 x) ++ highOf Cdf53I8 x
+
+-- the details of l levels, finest first
+unfoldable pub detailsUp : ℕ → List ℕ → List ℕ
+detailsUp zero x = []
+detailsUp (suc l) x = highOf Cdf53I8 x ++ detailsUp l (lowOf Cdf53I8 x)
+
+-- ---- the inputs
+
+-- P1's samples
+abbrev pub three : List ℕ
+three = 1 ∷ 5 ∷ 2 ∷ []
+
+-- lent slices
+abbrev pub one0 : List ℕ
+one0 = 0 ∷ []
+
+abbrev pub two0 : List ℕ
+two0 = 0 ∷ 0 ∷ []
+
+abbrev pub three0 : List ℕ
+three0 = 0 ∷ 0 ∷ 0 ∷ []
+
+abbrev pub five0 : List ℕ
+five0 = 0 ∷ 0 ∷ 0 ∷ 0 ∷ 0 ∷ []
+
+-- P5's lengths of details, 1 and 2, as u32 numbers
+abbrev pub lengths : List ℕ
+lengths = 1 ∷ 0 ∷ 0 ∷ 0 ∷ 2 ∷ 0 ∷ 0 ∷ 0 ∷ []
+
+-- ---- "one that refuses everything": each call is done with these
+
+pub record NotAllRefused : Type 0 where
+  pub forward : {r : Answer} {a d : List ℕ} → OneForward Cdf53I8 three two0 one0 r a d → r .number ≡ 0
+  pub inverse : {r : Answer} {o : List ℕ} → OneInverse Cdf53I8 (3 ∷ 4 ∷ []) (4 ∷ []) three0 r o → r .number ≡ 0
+  pub last : {r : Answer} {a d u v : List ℕ} → Dwt Cdf53I8 2 five two0 one0 five0 five0 r a d u v → r .number ≡ 0
+  pub down : {r : Answer} {o u v : List ℕ} → Multi Cdf53I8 2 five five0 five0 five0 r o u v → r .number ≡ 0
+  pub back : {r : Answer} {o u v : List ℕ} → MultiBack Cdf53I8 (255 ∷ 3 ∷ []) (248 ∷ 5 ∷ 0 ∷ []) lengths five0 five0 five0 r o u v → r .number ≡ 0
+  pub writes : {r : Answer} {s u v : List ℕ} → Write Cdf53I8 2 14 five thirtyOne five0 five0 r s u v → r .number ≡ 0
+  pub opens : {r : Answer} {o u v : List ℕ} → Open thirtyOne 1 14 five0 five0 five0 r o u v → r .number ≡ 0
+
+-- ---- the others, by what the statements allow
+
+pub record ShutOut : Type 0 where
+  pub not-all-refused : NotAllRefused
+  -- "one that restores the same samples always": two bands, and two pyramids, whose samples differ
+  pub same-samples : {r s : Answer} {o p : List ℕ} → OneInverse Cdf53I8 (3 ∷ 4 ∷ []) (4 ∷ []) three0 r o → OneInverse Cdf53I8 two0 one0 three0 s p → o ≡ p → ⊥
+  pub same-samples-back : {r s : Answer} {o u v p t w : List ℕ} → MultiBack Cdf53I8 (255 ∷ 3 ∷ []) (248 ∷ 5 ∷ 0 ∷ []) lengths five0 five0 five0 r o u v
+      → MultiBack Cdf53I8 two0 three0 lengths five0 five0 five0 s p t w → o ≡ p → ⊥
+  -- "one that copies samples and calls them coefficients": neither band is the samples it would be copied from
+  pub copied : {r : Answer} {a d : List ℕ} → OneForward Cdf53I8 three two0 one0 r a d → (a ≡ evenOf 0 three → ⊥) × (d ≡ oddOf 0 three → ⊥)
+  -- "one that transforms level 1 and only splits the rest"; and one that leaves the rest as it is
+  pub rest-split : {r : Answer} {o u v : List ℕ} → Multi Cdf53I8 2 five five0 five0 five0 r o u v → o ≡ restSplit 1 five → ⊥
+  pub rest-left : {r : Answer} {o u v : List ℕ} → Multi Cdf53I8 2 five five0 five0 five0 r o u v → o ≡ restSplit 0 five → ⊥
+  -- details joined finest first
+  pub finest-first : {r : Answer} {o u v : List ℕ} → Multi Cdf53I8 2 five five0 five0 five0 r o u v → o ≡ approxAt Cdf53I8 2 five ++ detailsUp 2 five → ⊥
+  -- "an opener that always stops at the coarsest level": the whole file opens at level 0, not at 2
+  pub coarsest : {r : Answer} {o u v : List ℕ} → Open thirtyOne 1 14 five0 five0 five0 r o u v → (r .first ≡ 2 → ⊥) × (take 2 o ≡ 255 ∷ 3 ∷ [] → ⊥)
+  -- "or invents level or count": 27 bytes are level 1 and three samples, and nothing else
+  pub invented : {r : Answer} {o u v : List ℕ} → Open (take 27 thirtyOne) 1 14 five0 five0 five0 r o u v → (r .first ≡ 1) × (r .second ≡ 3) × (take 3 o ≡ 3 ∷ 253 ∷ 7 ∷ [])
