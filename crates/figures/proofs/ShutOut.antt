@@ -20,7 +20,7 @@ use Rattle.cdf53i.specs.Bands.{low, high, back}
 use Rattle.dwt.specs.declared.filter.Filter.the-variants.{Cdf53I8}
 use Rattle.dwt.specs.Pyramids.{approxAt, pyramid, samplesOf}
 use Rattle.dwt.specs.Calls.{sayDwt, sayMulti, OneForward, OneInverse, Multi}
-use Rattle.dwt.specs.Backward.{sayBack, MultiBack}
+use Rattle.dwt.specs.Backward.{total, bandChecks, sayBack, MultiBack}
 use Rattle.pyramid.specs.Writes.{sayWrite}
 use Rattle.pyramid.specs.Opens.{countIn, samplesIn, Open}
 use Rattle.pyramid.proofs.Survives.{OpensTo}
@@ -51,7 +51,7 @@ unfolding sayMulti depthFrom depthWithin
 says-down = refl
 
 says-back : sayBack Cdf53I8 2 3 lengths 5 5 5 ≡ Done 0 0
-unfolding sayBack leAt tabulate wordAt wordsOf
+unfolding sayBack total bandChecks leAt tabulate wordAt wordsOf
 says-back = refl
 
 says-write : sayWrite Cdf53I8 2 5 31 5 5 ≡ Done 0 0
