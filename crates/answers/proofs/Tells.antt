@@ -28,3 +28,7 @@ injective r s e = sym (tells r) ∙ ap refusalOf e ∙ tells s
 -- the number alone says which check it was: r is the case of s, with the values of r
 pub number-says : (r s : Refusal) → answerOf r .number ≡ answerOf s .number → r ≡ refusalOf (say (answerOf s .number) (answerOf r .first) (answerOf r .second))
 number-says r s e = sym (tells r) ∙ ap (λ n. refusalOf (say n (answerOf r .first) (answerOf r .second))) e
+
+-- where a promise is an equation, two results that it allows are equal
+pub one-result : {A : Type 0} {r s x : A} → r ≡ x → s ≡ x → r ≡ s
+one-result p q = p ∙ sym q
