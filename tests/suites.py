@@ -637,10 +637,17 @@ def too_long(random, filter, *verbs):
             yield any_call(random, verb, filter, *lengths)
 
 
-# A recording of the limit at each width, as deep as it goes, and back, in lines of up to 540 megabytes: --large
+# As many samples as the limit; floats are a shorter recording again and again, which takes less time to draw.
+def longest(random, filter):
+    if filter in INTEGERS:
+        return random.randbytes(filter.width * LIMIT)
+    return 256 * ordinary(random, filter.kind, LIMIT // 256)
+
+
+# Those of integers and of f32, as deep as they go, and back, in lines of up to 540 megabytes: --large
 def whole_recordings(random):
-    for filter in INTEGERS:
-        recording = filter, random.randbytes(filter.width * LIMIT), MOST_LEVELS
+    for filter in INTEGERS + [filter for filter in FLOATS if filter.kind == "f32"]:
+        recording = filter, longest(random, filter), MOST_LEVELS
         [answer] = yield [(multi_dwt_call(random, *recording), None)]
         yield [(dwt_call(random, *recording), front(*recording, answer))]
         yield [back_again(random, "multi_dwt", recording, answer)]
