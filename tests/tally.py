@@ -193,7 +193,8 @@ class Tally:
             "Levels of the dwt, multi_dwt and multi_idwt that were done": dict(sorted(self.levels.items())),
             "Among the samples of the calls that were done": self.contents,
         }.items():
-            yield f"- {title}: " + "; ".join(f"{name} ({count:,})" for name, count in counts.items())
+            if any(counts.values()):
+                yield f"- {title}: " + "; ".join(f"{name} ({count:,})" for name, count in counts.items())
 
 
 # A row for each pair of names: how many, how many done, how many refused with each number.
