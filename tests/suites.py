@@ -1,7 +1,7 @@
 # What tests/compare.py asks: its suites, and the table of them at the end. tests/tables/make-replay imports it too.
-# A suite is a generator of lists of asks, and is sent the desk's answers to each list. An ask is a request line and
-# the answer that it must have, None where only the servers know it. Every lent slice starts as random bytes, so that
-# one that should have been written, or should not, is seen.
+# A suite takes a source of numbers and one of compare.py's sizes. It is a generator of lists of asks, and is sent the
+# desk's answers to each list. An ask is a request line and the answer that it must have, None where only the servers
+# know it. Every lent slice starts as random bytes, so that one that should have been written, or should not, is seen.
 import struct
 from itertools import product
 from typing import NamedTuple
@@ -14,23 +14,23 @@ MOST_LEVELS = 23
 
 
 # The slices of a call: how many; the places of those that have a limit; how many, at the end, are lent; how many of
-# those are work areas, which the Rust does not have; how many, from the first, have together as many samples as a work
-# area needs; the place of the one of u32 numbers.
+# those are work areas, which the Rust does not have; how many, from the first, are of samples that are read, together as
+# many as a work area needs; the place of the one of u32 numbers.
 class Slices(NamedTuple):
     count: int
     limited: tuple
     lent: int
     works: int = 0
-    needed: int = 1
+    read: int = 1
     lengths: int = None
 
 
 SLICES = {
     "forward": Slices(3, (0,), 2),
-    "inverse": Slices(3, (0, 1, 2), 1),
+    "inverse": Slices(3, (0, 1, 2), 1, read=2),
     "dwt": Slices(5, (0,), 4, 2),
     "multi_dwt": Slices(4, (0,), 3, 2),
-    "multi_idwt": Slices(6, (0, 1, 3), 3, 2, needed=2, lengths=2),
+    "multi_idwt": Slices(6, (0, 1, 3), 3, 2, read=2, lengths=2),
 }
 
 
@@ -44,6 +44,9 @@ INTEGER_LENGTHS = sorted(set(range(3, 71)) | beside_powers(12))
 FLOAT_LENGTHS = sorted(set(range(21)) | beside_powers(10))
 # Those around every boundary of depth: 5/3 gains a level after a power of two, 9/7 after three times one.
 LEVEL_LENGTHS = sorted(set(FLOAT_LENGTHS) | {3 * 2**power + beside for power in range(9) for beside in (-1, 0, 1)})
+# Those around the boundaries of longer inputs too.
+BOUNDARIES = sorted(beside_powers(13) | {3 * 2**power + beside for power in range(12) for beside in (-1, 0, 1)})
+MORE_LEVELS = [32, 33, 255, 256, 65_536, 2**31, 2**32 - 1]
 
 
 class Filter(NamedTuple):
@@ -288,8 +291,9 @@ FLOAT_SORTS = [
 # Both depths: the short inputs, and lengths of every size.
 def depth(random, size):
     # n of up to 24 bits; for the longest ones the Rust makes and transforms megabytes
-    few, many = {"small": (0, 40), "full": (40, 2000), "large": (400, 0)}[size]
-    lengths = list(range(2 * many))
+    few, many = {"small": (0, 40), "full": (40, 2000), "large": (400, 0), "drawn": (2, 100)}[size]
+    lengths = [] if size == "drawn" else list(range(2 * many))
+    lengths += random.choices(BOUNDARIES, k=many)
     lengths += [random.getrandbits(random.randrange(1, 17)) for _ in range(many)]
     lengths += [random.getrandbits(random.randrange(17, 25)) for _ in range(few)]
     lengths += [LIMIT + 1 + random.getrandbits(random.randrange(64)) for _ in range(many)]
@@ -300,6 +304,9 @@ def depth(random, size):
 def integer(random, size):
     if size == "large":
         yield from one_by_one(at_the_limit(random, INTEGERS))
+        return
+    if size == "drawn":
+        yield from any_level(random, INTEGERS, 1500)
         return
     rounds, longer = {"small": (10, 0), "full": (60, 2)}[size]
     yield from lengths_of_slices(random, INTEGERS, 500 * rounds)
@@ -314,6 +321,9 @@ def floats(random, size):
     if size == "large":
         yield from one_by_one(at_the_limit(random, FLOATS))
         return
+    if size == "drawn":
+        yield from any_level(random, FLOATS, 1000)
+        return
     rounds, longer = {"small": (3, 0), "full": (30, 1)}[size]
     yield from lengths_of_slices(random, FLOATS, 1000 * rounds)
     for verb in OTHER:
@@ -326,6 +336,11 @@ def floats(random, size):
 def multi_dwt(random, size):
     if size == "large":
         yield from whole_recordings(random)
+        return
+    if size == "drawn":
+        yield from levels_and_back(random, "multi_dwt", any_levels(random, 1000, *MORE_LEVELS))
+        yield from levels_and_back(random, "multi_dwt", any_exact_levels(random, 300))
+        yield from plain(any_rooms(random, "multi_dwt", 1500))
         return
     rounds = {"small": 1, "full": 12}[size]
     yield [("cdf53_multi_dwt_i8 x0003fc0107 2 x0000000000 x0000000000 x0000000000", "0 0 0 xff03f80500 - -")]  # P5
@@ -340,6 +355,12 @@ def multi_idwt(random, size):
     if size == "large":
         for filter in INTEGERS:
             yield from one_by_one(too_long(random, filter, "multi_idwt"))
+        return
+    if size == "drawn":
+        yield from levels_and_back(random, "multi_idwt", any_levels(random, 1000))
+        yield from plain(any_rooms(random, "multi_idwt", 1000))
+        yield from plain(wrong_slices(random, 1000))
+        yield from plain(any_lists(random, 1000))
         return
     rounds = {"small": 1, "full": 12}[size]
     p5 = "cdf53_multi_idwt_i8 xff03 xf80500 x0100000002000000 x0000000000 x0000000000 x0000000000"
@@ -358,12 +379,50 @@ def dwt(random, size):
         for filter in INTEGERS:
             yield from one_by_one(too_long(random, filter, "dwt"))
         return
+    if size == "drawn":
+        yield from last_of_many(random, any_levels(random, 1000, *MORE_LEVELS))
+        yield from plain(any_rooms(random, "dwt", 1500))
+        return
     rounds = {"small": 1, "full": 12}[size]
     yield [("cdf53_dwt_i8 x0003fc0107 2 x0000 x00 x0000000000 x0000000000", "0 0 0 xff03 xf8 - -")]  # P5
     yield from last_of_many(random, of_levels(random, rounds, 2**32 - 1))
     yield from plain(wrong_last_bands(random))
     yield from plain(wrong_rooms(random, "dwt", 3000 * rounds))
     yield from one_by_one(too_long(random, INTEGERS[0], "dwt"))
+
+
+# Short, or at a boundary, or some thousands.
+def any_length(random):
+    short, beside, long = random.randrange(71), random.choice(BOUNDARIES), random.randrange(1000, 7000)
+    return random.choices([short, beside, long], [12, 7, 1])[0]
+
+
+def any_inputs(random, filters, count):
+    for _ in range(count):
+        filter = random.choice(filters)
+        yield filter, any_sort(random, filter.kind, any_length(random))
+
+
+# One level, there and back, and slices of wrong lengths.
+def any_level(random, filters, count):
+    for verb in OTHER:
+        yield from there_and_back(random, verb, any_inputs(random, filters, count))
+    yield from plain(wrong_lengths(random, filters, 2 * count))
+
+
+# Inputs with levels within their depth, and others.
+def any_levels(random, count, *beyond):
+    for filter, data in any_inputs(random, INTEGERS + FLOATS, count):
+        deep = depth_of(filter, len(data) // filter.width)
+        others = [*range(9), deep + 1, MOST_LEVELS, MOST_LEVELS + 1, *beyond]
+        yield filter, data, random.choice([random.randint(0, deep), deep, random.choice(others)])
+
+
+def any_exact_levels(random, count):
+    for _ in range(count):
+        filter, n = Filter("cdf53", random.choice(list(FORMATS))), max(3, any_length(random))
+        levels = random.randint(1, min(depth_of(filter, n), FORMATS[filter.kind].exact))
+        yield filter, whole(random, filter.kind, n, levels), levels
 
 
 # How many approximations so many levels of n samples have, and how many details each, the deepest first.
@@ -469,8 +528,12 @@ def wrong_rooms(random, verb, count):
         for levels, *works in product(range(1 + depth_of(filter, n)), *2 * [(-n, -1, 0, 1)]):
             longer = [filter.width * more for more in outputs + works]
             yield LEVELS_CALLS[verb](random, filter, any_sort(random, filter.kind, n), levels, longer)
+    yield from any_rooms(random, verb, count)
+
+
+def any_rooms(random, verb, count):
     for _ in range(count):
-        filter, n = random.choice(INTEGERS + FLOATS), random.choice([0, 1, 2, 3, 4, 5, 8, 9, 33])
+        filter, n = random.choice(INTEGERS + FLOATS), random.choice([0, 1, 2, 3, 4, 5, 8, 9, 33, random.randrange(300)])
         data = random.randbytes(n * filter.width + random.choice([0, 0, 0, 1]))
         steps = [0, 0, 0, -filter.width, filter.width, 1, -1]
         longer = random.choices(steps, k=SLICES[verb].lent)
@@ -524,15 +587,43 @@ def wrong_lists(random):
             yield bands_call(random, filter, 0, n - approx, many)
 
 
+# Lists of lengths that are wrong in any way, with as many details as they say or as the pyramid has.
+def any_lists(random, count):
+    for _ in range(count):
+        filter, n = random.choice(INTEGERS + FLOATS), random.randrange(200)
+        approx, lengths = pyramid(n, random.randint(1, max(1, depth_of(filter, n) + 1)))
+        wrong = wrong_list(random, lengths)
+        details = random.choice([n - approx, min(sum(wrong), 1000), sum(wrong) % 2**32 % 1000])
+        yield bands_call(random, filter, random.choice([approx, approx, approx, approx + 1, 1, 0]), details, wrong)
+
+
+def wrong_list(random, lengths):
+    at = random.randrange(len(lengths))
+    before, after = lengths[:at], lengths[at + 1:]
+    return random.choice([
+        random.sample(lengths, len(lengths)),
+        before,
+        before + after,
+        before + [max(0, lengths[at] + random.choice([-1, 1]))] + after,
+        before + [random.getrandbits(random.randrange(33))] + after,
+        before + [0] + lengths[at:],
+        before + [lengths[at] // 2, lengths[at] - lengths[at] // 2] + after,
+        before + [2**31, 2**31] + lengths[at:],
+        before + [2**32 - 1, 1] + lengths[at:],
+        random.randrange(MOST_LEVELS + 3) * [random.choice([0, 1, 2, 2**32 - 1])],
+        (MOST_LEVELS - len(lengths) + random.randrange(2)) * [0] + lengths,
+    ])
+
+
 # Any of the six slices wrong, several at once, in samples and in bytes.
 def wrong_slices(random, count):
     for _ in range(count):
-        filter, n = random.choice(INTEGERS + FLOATS), random.choice([3, 4, 5, 8, 9, 13, 33])
+        filter, n = random.choice(INTEGERS + FLOATS), random.choice([3, 4, 5, 8, 9, 13, 33, random.randrange(3, 300)])
         approx, lengths = pyramid(n, random.randrange(1, 5))
         steps = [0, 0, 0, 0, -filter.width, filter.width, 1, -1]
         counts = [filter.width * count for count in (approx, n - approx, n, n, n)]
         first, second, *rooms = lent(random, counts, random.choices(steps, k=5))
-        numbers = packed("I", random.choice([lengths, lengths, lengths, lengths[::-1], [0, *lengths]]))
+        numbers = packed("I", random.choice([lengths, lengths, lengths, lengths[::-1], wrong_list(random, lengths)]))
         numbers += random.randbytes(random.choice([0, 0, 0, 1, 3]))
         yield filter.request("multi_idwt", [first, second, numbers, *rooms])
 
@@ -546,10 +637,17 @@ def too_long(random, filter, *verbs):
             yield any_call(random, verb, filter, *lengths)
 
 
-# A recording of the limit at each width, as deep as it goes, and back, in lines of up to 540 megabytes: --large
+# As many samples as the limit; floats are a shorter recording again and again, which takes less time to draw.
+def longest(random, filter):
+    if filter in INTEGERS:
+        return random.randbytes(filter.width * LIMIT)
+    return 256 * ordinary(random, filter.kind, LIMIT // 256)
+
+
+# Those of integers and of f32, as deep as they go, and back, in lines of up to 540 megabytes: --large
 def whole_recordings(random):
-    for filter in INTEGERS:
-        recording = filter, random.randbytes(filter.width * LIMIT), MOST_LEVELS
+    for filter in INTEGERS + [filter for filter in FLOATS if filter.kind == "f32"]:
+        recording = filter, longest(random, filter), MOST_LEVELS
         [answer] = yield [(multi_dwt_call(random, *recording), None)]
         yield [(dwt_call(random, *recording), front(*recording, answer))]
         yield [back_again(random, "multi_dwt", recording, answer)]
@@ -636,13 +734,14 @@ def odd_bytes(random, filters):
                 yield any_call(random, "inverse", filter, a, d, x)
 
 
-# Lengths of which some are wrong by one or by more.
+# Lengths of which some are wrong by one or by more, and some byte lengths.
 def wrong_lengths(random, filters, count):
     for _ in range(count):
-        verb, filter, n = random.choice(list(OTHER)), random.choice(filters), random.randrange(3, 300)
+        verb, filter, n = random.choice(list(OTHER)), random.choice(filters), random.randrange(1, 300)
         lengths = [n, *bands(n)] if verb == "forward" else [*bands(n), n]
         wrong = [max(0, length + random.choice([0, 0, -1, 1, random.randrange(-n, n)])) for length in lengths]
-        yield any_call(random, verb, filter, *(length * filter.width for length in wrong))
+        odd = random.choice([[0, 0, 0], [0, 0, 0], random.choices(range(filter.width), k=3)])
+        yield any_call(random, verb, filter, *(length * filter.width + more for length, more in zip(wrong, odd)))
 
 
 # The limit itself in the narrowest samples, and beyond it in all, in lines of up to 270 megabytes: --large
