@@ -7,6 +7,19 @@
  * is not null.
  *
  * Link with libdesk.a (`rt staticlib desk` writes target/staticlib/libdesk.a, for x86-64).
+ *
+ * The calls, in the order of this file; T is the kind of a sample, i8, i16, i32, f32 or f64 (9/7: f32 or f64):
+ *   bk_cdf53_depth, bk_cdf97_depth                 how many levels a recording has
+ *   bk_cdf53_forward_T, bk_cdf97_forward_T         one level: samples to approximations and details
+ *   bk_cdf53_inverse_T, bk_cdf97_inverse_T         and back
+ *   bk_cdf53_dwt_T, bk_cdf97_dwt_T                 the last of so many levels
+ *   bk_cdf53_multi_dwt_T, bk_cdf97_multi_dwt_T     all of so many levels
+ *   bk_cdf53_multi_idwt_T, bk_cdf97_multi_idwt_T   and back
+ *   bk_pyramid_write_i8, _i16, _i32                a recording as a pyramid file
+ *   bk_pyramid_open                                what a file, or the front of one, still lets see
+ *   bk_pyramid_section                             where a section of a file stands
+ *   bk_note_column, bk_note_span                   the column of a sample, the samples of a column
+ *   bk_band_window_T                               where a part of a band stands
  */
 #ifndef BEKSANOUR_H
 #define BEKSANOUR_H
@@ -140,6 +153,42 @@ bk_answer bk_cdf97_inverse_f64(const uint8_t *approx, size_t approx_bytes, const
                                uint8_t *output, size_t output_bytes);
 
 /*
+ * The last of so many levels of the samples in `signal`: its approximations into `approx`, its details into `details`. The next
+ * level's input is this level's approximations, and m, the last level's input length, is n halved, rounded up, at every level
+ * before it. 0 levels means 1. `work1` and `work2` are room for the n samples of `signal` each; what their first n samples hold
+ * after a done call is not said, and what is beyond them is as it was.
+ *
+ * Refused, in this order:
+ *   9 (0, length)   a slice's byte length is no multiple of the width: the first of signal, approx, details, work1, work2
+ *   6               over 16,777,216 samples
+ *   4               fewer levels in the recording than asked, or none
+ *   2 (got, m)      approx does not hold ceil(m/2) samples
+ *   2 (got, m)      details does not hold floor(m/2) samples
+ *   7 (have, n)     work1 holds fewer than n samples, then work2
+ */
+bk_answer bk_cdf53_dwt_i8(const uint8_t *signal, size_t signal_bytes, uint32_t levels, uint8_t *approx,
+                          size_t approx_bytes, uint8_t *details, size_t details_bytes, uint8_t *work1,
+                          size_t work1_bytes, uint8_t *work2, size_t work2_bytes);
+bk_answer bk_cdf53_dwt_i16(const uint8_t *signal, size_t signal_bytes, uint32_t levels, uint8_t *approx,
+                           size_t approx_bytes, uint8_t *details, size_t details_bytes, uint8_t *work1,
+                           size_t work1_bytes, uint8_t *work2, size_t work2_bytes);
+bk_answer bk_cdf53_dwt_i32(const uint8_t *signal, size_t signal_bytes, uint32_t levels, uint8_t *approx,
+                           size_t approx_bytes, uint8_t *details, size_t details_bytes, uint8_t *work1,
+                           size_t work1_bytes, uint8_t *work2, size_t work2_bytes);
+bk_answer bk_cdf53_dwt_f32(const uint8_t *signal, size_t signal_bytes, uint32_t levels, uint8_t *approx,
+                           size_t approx_bytes, uint8_t *details, size_t details_bytes, uint8_t *work1,
+                           size_t work1_bytes, uint8_t *work2, size_t work2_bytes);
+bk_answer bk_cdf53_dwt_f64(const uint8_t *signal, size_t signal_bytes, uint32_t levels, uint8_t *approx,
+                           size_t approx_bytes, uint8_t *details, size_t details_bytes, uint8_t *work1,
+                           size_t work1_bytes, uint8_t *work2, size_t work2_bytes);
+bk_answer bk_cdf97_dwt_f32(const uint8_t *signal, size_t signal_bytes, uint32_t levels, uint8_t *approx,
+                           size_t approx_bytes, uint8_t *details, size_t details_bytes, uint8_t *work1,
+                           size_t work1_bytes, uint8_t *work2, size_t work2_bytes);
+bk_answer bk_cdf97_dwt_f64(const uint8_t *signal, size_t signal_bytes, uint32_t levels, uint8_t *approx,
+                           size_t approx_bytes, uint8_t *details, size_t details_bytes, uint8_t *work1,
+                           size_t work1_bytes, uint8_t *work2, size_t work2_bytes);
+
+/*
  * Many levels of the samples in `signal`: the next level's input is this level's approximations. Into `output`, as many samples
  * as there are in `signal`: the deepest approximations, then the details, deepest first. 0 levels means 1. `work1` and `work2`
  * are room; what their first n samples hold after a done call is not said, and what is beyond them is as it was.
@@ -222,42 +271,6 @@ bk_answer bk_cdf97_multi_idwt_f64(const uint8_t *approx, size_t approx_bytes, co
                                   size_t details_bytes, const uint8_t *lengths, size_t lengths_bytes, uint8_t *output,
                                   size_t output_bytes, uint8_t *work1, size_t work1_bytes, uint8_t *work2,
                                   size_t work2_bytes);
-
-/*
- * The last of so many levels of the samples in `signal`: its approximations into `approx`, its details into `details`. The next
- * level's input is this level's approximations, and m, the last level's input length, is n halved, rounded up, at every level
- * before it. 0 levels means 1. `work1` and `work2` are room for the n samples of `signal` each; what their first n samples hold
- * after a done call is not said, and what is beyond them is as it was.
- *
- * Refused, in this order:
- *   9 (0, length)   a slice's byte length is no multiple of the width: the first of signal, approx, details, work1, work2
- *   6               over 16,777,216 samples
- *   4               fewer levels in the recording than asked, or none
- *   2 (got, m)      approx does not hold ceil(m/2) samples
- *   2 (got, m)      details does not hold floor(m/2) samples
- *   7 (have, n)     work1 holds fewer than n samples, then work2
- */
-bk_answer bk_cdf53_dwt_i8(const uint8_t *signal, size_t signal_bytes, uint32_t levels, uint8_t *approx,
-                          size_t approx_bytes, uint8_t *details, size_t details_bytes, uint8_t *work1,
-                          size_t work1_bytes, uint8_t *work2, size_t work2_bytes);
-bk_answer bk_cdf53_dwt_i16(const uint8_t *signal, size_t signal_bytes, uint32_t levels, uint8_t *approx,
-                           size_t approx_bytes, uint8_t *details, size_t details_bytes, uint8_t *work1,
-                           size_t work1_bytes, uint8_t *work2, size_t work2_bytes);
-bk_answer bk_cdf53_dwt_i32(const uint8_t *signal, size_t signal_bytes, uint32_t levels, uint8_t *approx,
-                           size_t approx_bytes, uint8_t *details, size_t details_bytes, uint8_t *work1,
-                           size_t work1_bytes, uint8_t *work2, size_t work2_bytes);
-bk_answer bk_cdf53_dwt_f32(const uint8_t *signal, size_t signal_bytes, uint32_t levels, uint8_t *approx,
-                           size_t approx_bytes, uint8_t *details, size_t details_bytes, uint8_t *work1,
-                           size_t work1_bytes, uint8_t *work2, size_t work2_bytes);
-bk_answer bk_cdf53_dwt_f64(const uint8_t *signal, size_t signal_bytes, uint32_t levels, uint8_t *approx,
-                           size_t approx_bytes, uint8_t *details, size_t details_bytes, uint8_t *work1,
-                           size_t work1_bytes, uint8_t *work2, size_t work2_bytes);
-bk_answer bk_cdf97_dwt_f32(const uint8_t *signal, size_t signal_bytes, uint32_t levels, uint8_t *approx,
-                           size_t approx_bytes, uint8_t *details, size_t details_bytes, uint8_t *work1,
-                           size_t work1_bytes, uint8_t *work2, size_t work2_bytes);
-bk_answer bk_cdf97_dwt_f64(const uint8_t *signal, size_t signal_bytes, uint32_t levels, uint8_t *approx,
-                           size_t approx_bytes, uint8_t *details, size_t details_bytes, uint8_t *work1,
-                           size_t work1_bytes, uint8_t *work2, size_t work2_bytes);
 
 /*
  * The samples in `signal`, 8, 16 or 32 bits each, as a pyramid file for a point, into `file`. A file is sections in a fixed
