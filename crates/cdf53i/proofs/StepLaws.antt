@@ -2,14 +2,18 @@
 -- so that the order and the sums of the biased words are those of the numbers, and floors are divisions of naturals.
 -- Assumes nothing.
 use mathlib.Core.Path.{_≡_, refl, sym, ap, _∙_}
-use Prim.Native.Nat.{ℕ, _+_, _-_, _*_, _/_, _%_, _<_}
+use Prim.Native.Nat.{ℕ, _+_, _-_, _*_, _/_, _%_, _^_, _<_}
 use native.Mathlib.Nat.{mod-lt, mod-add-mod}
 use native.Mathlib.Omega.{arith}
 use lib.IntN.{pos, _+ℤ_, _-ℤ_}
 use lib.Signed.{shrZ}
-use Rattle.samples.specs.Integers.{val, residue}
+use Rattle.samples.specs.Integers.{Width, quarter, val, residue}
 use Rattle.samples.proofs.Diff.{sub-same, pos-sub, sub-add, sub-sub, floor-half, floor-quarter, residue-sub}
 use Rattle.samples.proofs.IntegerLaws.{bias, val-sub}
+
+-- a word that half of all words was added to
+pub biased : (x : ℕ) {k q p : ℕ} → Width k → q ≡ quarter k → p ≡ (x + 2 * q) % 256 ^ k → p ≡ bias (quarter k) x
+biased x w e h = h ∙ rw (e, w .words)
 
 -- b and c are the biases of u and z; t is v less their mean, and the bias of t is the detail
 pub detail-word : (Q u v z b c t : ℕ) → u < 4 * Q → v < 4 * Q → z < 4 * Q → b ≡ bias Q u → c ≡ bias Q z → (t + (b + c) / 2) % (4 * Q) ≡ v
