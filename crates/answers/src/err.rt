@@ -1,7 +1,8 @@
+// The refusals, and the three numbers in which a call answers. Names are those of osclet's src/err.rs where it has one.
 ghost use mathlib.Core.Path.{_≡_};
 ghost use Rattle.answers.specs.Answers.{say, answerOf, done};
 
-// What a call has to say, with the values that document 01's table names. C-14 to C-24 add 14 to 19.
+// What a call has to say, with the values that document 01's table names.
 pub enum Refusal {
     Done(usize, usize),
     MinFilterSize(usize, usize),

@@ -1,4 +1,4 @@
-// Integer 5/3, one level, once over the width. Ported from osclet's src/cdf53i.rs.
+// Integer 5/3, one level, once over the width. Ported from osclet's src/cdf53i.rs; execute_forward and execute_inverse with their checks are in dwt/src/filter.rt.
 ghost use mathlib.Core.List.{_++_};
 ghost use mathlib.Core.Path.{_≡_};
 ghost use Prim.Native.Nat.{_+_, _-_, _*_, _/_, _<_};

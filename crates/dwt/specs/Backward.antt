@@ -3,16 +3,17 @@
 use mathlib.Core.Bool.{not}
 use mathlib.Core.List.{List, [], _∷_, _++_}
 use mathlib.Core.Path.{_≡_}
-use Prim.Native.Nat.{ℕ, _+_, _*_, _/_, _≤_, _<_}
+use Prim.Native.Nat.{ℕ, _+_, _*_, _/_, _≤_}
 use lib.Dec.{ltb, eqb}
 use lib.ListN.{length}
 use Rattle.answers.specs.declared.err.Answer.{Answer}
 use Rattle.answers.specs.declared.err.Refusal.{Refusal}
-use Rattle.answers.specs.declared.err.Refusal.the-variants.{Done, ApproxSizeNotMatches, OutputSizeIsNotValid, ZeroedBaseSize, TooLong, BadCount}
+use Rattle.answers.specs.declared.err.Refusal.the-variants.{Done, OutputSizeIsNotValid, ZeroedBaseSize, TooLong, BadCount}
 use Rattle.answers.specs.Answers.{answerOf}
 use Rattle.answers.specs.Checks.{Check, firstOf, ragged, tight, left, Spared}
 use Rattle.sizes.specs.declared.Wavelet.{Wavelet}
-use Rattle.sizes.specs.Bands.{mostSamples, ups, downs, smallestOf, expectedApprox, expectedDetails}
+use Rattle.sizes.specs.Bands.{mostSamples, ups, downs, smallestOf}
+use Rattle.sizes.specs.Calls.{inverseBands}
 use Rattle.samples.specs.Words.{wordsOf}
 use Rattle.dwt.specs.declared.filter.Filter.{Filter}
 use Rattle.dwt.specs.Filters.{widthOf, waveletOf}
@@ -40,10 +41,7 @@ sizeChecks a d c n =
 
 -- "2 .. as in inverse": a level of a approximations and m details
 abbrev pub levelChecks : Wavelet → ℕ → ℕ → List Check
-levelChecks w a m =
-    (not (eqb a (expectedApprox (a + m))), ApproxSizeNotMatches (expectedApprox (a + m)) a)
-    ∷ (not (eqb m (expectedDetails w (a + m))), ApproxSizeNotMatches (expectedApprox (a + m)) a)
-    ∷ []
+levelChecks w a m = inverseBands w (a + m) a m
 
 -- "level by level from the deepest": what a level restores is the next one's approximations
 unfoldable pub bandChecks : Wavelet → ℕ → List ℕ → List Check

@@ -1,18 +1,18 @@
 -- What the calls promise, over the filter: one level, and the drivers with their checks, each a list in document 01's order.
 -- Assumes nothing: these are definitions.
-use mathlib.Core.Bool.{Bool, cond, not}
-use mathlib.Core.List.{List, [], _∷_}
+use mathlib.Core.Bool.{cond, not}
+use mathlib.Core.List.{List, [], _∷_, _++_}
 use mathlib.Core.Path.{_≡_}
 use Prim.Native.Nat.{ℕ, _+_, _-_, _*_, _/_, _≤_, _<_}
 use lib.Dec.{ltb, leb, eqb}
 use lib.ListN.{length}
 use Rattle.answers.specs.declared.err.Answer.{Answer}
 use Rattle.answers.specs.declared.err.Refusal.{Refusal}
-use Rattle.answers.specs.declared.err.Refusal.the-variants.{Done, MinFilterSize, ApproxSizeNotMatches, OutputSizeIsNotValid, BufferWasTooSmallForLevel, TooLong}
+use Rattle.answers.specs.declared.err.Refusal.the-variants.{Done, MinFilterSize, OutputSizeIsNotValid, BufferWasTooSmallForLevel, TooLong}
 use Rattle.answers.specs.Answers.{answerOf}
 use Rattle.answers.specs.Checks.{Check, firstOf, ragged, tight, left, Spared}
 use Rattle.sizes.specs.Bands.{mostSamples, ups, downs}
-use Rattle.sizes.specs.Calls.{Level, Forward, Inverse}
+use Rattle.sizes.specs.Calls.{Level, Forward, Inverse, forwardBands}
 use Rattle.sizes.specs.Levels.{places, depthOf, levelsOf}
 use Rattle.dwt.specs.declared.filter.Filter.{Filter}
 use Rattle.dwt.specs.declared.filter.Filter.the-variants.{Cdf53I8, Cdf53I16, Cdf53I32, Cdf53F32, Cdf53F64, Cdf97F32, Cdf97F64}
@@ -40,15 +40,14 @@ short Cdf53F64 n = BufferWasTooSmallForLevel
 short Cdf97F32 n = BufferWasTooSmallForLevel
 short Cdf97F64 n = BufferWasTooSmallForLevel
 
--- "`multi_dwt`: 6; for 0 or 1 levels and n too short ..; for more levels 4; 3; 7, 7", by samples: n of the signal, m of the output, u and v of the work areas
+-- "6; for 0 or 1 levels and n too short ..; for more levels 4", also of writing a file
+abbrev pub levelsChecks : Filter → ℕ → ℕ → List Check
+levelsChecks f l n =
+    (ltb mostSamples n, TooLong) ∷ (ltb (depthOf (waveletOf f) n) (levelsOf l), cond (leb l 1) (short f n) BufferWasTooSmallForLevel) ∷ []
+
+-- "`multi_dwt`: 6; ..; 3; 7, 7", by samples: n of the signal, m of the output, u and v of the work areas
 abbrev pub multiChecks : Filter → ℕ → ℕ → ℕ → ℕ → ℕ → List Check
-multiChecks f l n m u v =
-    (ltb mostSamples n, TooLong)
-    ∷ (ltb (depthOf (waveletOf f) n) (levelsOf l), cond (leb l 1) (short f n) BufferWasTooSmallForLevel)
-    ∷ (not (eqb m n), OutputSizeIsNotValid m n)
-    ∷ tight u n
-    ∷ tight v n
-    ∷ []
+multiChecks f l n m u v = levelsChecks f l n ++ ((not (eqb m n), OutputSizeIsNotValid m n) ∷ tight u n ∷ tight v n ∷ [])
 
 -- the same by byte lengths
 unfoldable pub sayMulti : Filter → ℕ → ℕ → ℕ → ℕ → ℕ → Refusal
@@ -70,11 +69,7 @@ dwtChecks f l n a d u v =
     let m = places (levelsOf l - 1) n in
     (ltb mostSamples n, TooLong)
     ∷ (ltb (depthOf (waveletOf f) n) (levelsOf l), BufferWasTooSmallForLevel)
-    ∷ (not (eqb a (ups m)), ApproxSizeNotMatches a m)
-    ∷ (not (eqb d (downs m)), ApproxSizeNotMatches d m)
-    ∷ tight u n
-    ∷ tight v n
-    ∷ []
+    ∷ (forwardBands m a d ++ (tight u n ∷ tight v n ∷ []))
 
 unfoldable pub sayDwt : Filter → ℕ → ℕ → ℕ → ℕ → ℕ → ℕ → Refusal
 sayDwt f l n a d u v =

@@ -82,7 +82,7 @@ fn forward(f: Filter, input: &[u8], approx: &mut [u8], details: &mut [u8])
     }
 }
 
-// One level back of any filter, of bands that fit. The signs of the six factors are changed here.
+// One level back of any filter, of bands that fit. The signs of the four lifting factors are changed here.
 fn inverse(f: Filter, approx: &[u8], details: &[u8], output: &mut [u8])
     requires { ⌜ LevelOf f (length (now output)) (length (now approx)) (length (now details)) ⌝ }
     ensures { λ _. ⌜ now (output .exit) ≡ backOf f (now (approx .entry)) (now (details .entry)) ⌝ }
@@ -152,7 +152,7 @@ pub fn execute_within(f: Filter, n: usize, x: &mut [u8], d: &mut [u8])
         Filter::Cdf53I32 => integer::forward_within(4, x, d),
         Filter::Cdf53F32 => cdf53f::forward_within_f32(x, d),
         Filter::Cdf53F64 => cdf53f::forward_within_f64(x, d),
-        Filter::Cdf97F32 => cdf97f::forward_within_f32(x, d),
-        Filter::Cdf97F64 => cdf97f::forward_within_f64(x, d),
+        Filter::Cdf97F32 => cdf97f::forward_within_f32(cdf97f::factors_f32(), x, d),
+        Filter::Cdf97F64 => cdf97f::forward_within_f64(cdf97f::factors_f64(), x, d),
     }
 }

@@ -5,7 +5,7 @@ ghost use lib.ListN.{length, take, drop};
 ghost use Rattle.answers.specs.Checks.{firstOf};
 ghost use Rattle.sizes.specs.Bands.{mostSamples, ups, smallestOf};
 ghost use Rattle.sizes.specs.Levels.{places, depthOf};
-ghost use Rattle.dwt.specs.Filters.{widthOf, waveletOf, lowOf, highOf};
+ghost use Rattle.dwt.specs.Filters.{widthOf, waveletOf, lowOf};
 ghost use Rattle.dwt.specs.Pyramids.{approxAt};
 ghost use Rattle.dwt.specs.Calls.{dwtChecks, sayDwt, Dwt};
 use crate::filter::Filter;

@@ -1,9 +1,9 @@
 // `multi_dwt`: the levels down, each one's details straight to their place in the output.
-ghost use mathlib.Core.List.{[], _∷_, _++_};
+ghost use mathlib.Core.List.{_++_};
 ghost use mathlib.Core.Path.{_≡_};
 ghost use Prim.Native.Nat.{_*_, _<_, _≤_, _^_};
 ghost use lib.ListN.{length, take, drop};
-ghost use Rattle.answers.specs.Checks.{firstOf, ragged};
+ghost use Rattle.answers.specs.Checks.{firstOf};
 ghost use Rattle.sizes.specs.Bands.{mostSamples, ups, downs, smallestOf};
 ghost use Rattle.sizes.specs.Levels.{depthOf};
 ghost use Rattle.dwt.specs.Filters.{widthOf, waveletOf, lowOf, highOf};

@@ -7,7 +7,6 @@ use Prim.Native.Nat.{ℕ, zero, suc}
 use lib.ListN.{take}
 use Rattle.answers.specs.declared.err.Answer.{Answer}
 use Rattle.samples.specs.Halves.{evenOf, oddOf}
-use Rattle.dwt.specs.declared.filter.Filter.{Filter}
 use Rattle.dwt.specs.declared.filter.Filter.the-variants.{Cdf53I8}
 use Rattle.dwt.specs.Filters.{lowOf, highOf}
 use Rattle.dwt.specs.Pyramids.{approxAt}

@@ -1,4 +1,4 @@
-// Float 5/3, one level. Ported from osclet's src/cdf53f.rs.
+// Float 5/3, one level. Ported from osclet's src/cdf53f.rs: its steps are in single.rt and double.rt, execute_forward and execute_inverse with their checks in dwt/src/filter.rt.
 ghost use mathlib.Core.Path.{_≡_};
 ghost use mathlib.Core.List.{_++_, map};
 ghost use Prim.Native.Nat.{_*_, _/_};

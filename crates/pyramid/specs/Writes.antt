@@ -1,33 +1,24 @@
 -- Writing a file, from document 01: "writing checks as integer `multi_dwt` without its 3, then 7 (file area; need: the size), 7, 7. Bytes past the size are unchanged. Levels 0
 -- is stored as 1."
 -- Assumes nothing: these are definitions.
-use mathlib.Core.Bool.{cond}
 use mathlib.Core.List.{List, [], _∷_, _++_}
 use mathlib.Core.Path.{_≡_}
 use Prim.Native.Nat.{ℕ, _/_}
-use lib.Dec.{ltb, leb}
 use lib.ListN.{length, drop}
 use Rattle.answers.specs.declared.err.Answer.{Answer}
 use Rattle.answers.specs.declared.err.Refusal.{Refusal}
-use Rattle.answers.specs.declared.err.Refusal.the-variants.{Done, BufferWasTooSmallForLevel, TooLong}
+use Rattle.answers.specs.declared.err.Refusal.the-variants.{Done}
 use Rattle.answers.specs.Answers.{answerOf}
 use Rattle.answers.specs.Checks.{Check, firstOf, ragged, tight, left, Spared}
-use Rattle.sizes.specs.Bands.{mostSamples}
-use Rattle.sizes.specs.Levels.{depthOf, levelsOf}
+use Rattle.sizes.specs.Levels.{levelsOf}
 use Rattle.dwt.specs.declared.filter.Filter.{Filter}
-use Rattle.dwt.specs.Filters.{widthOf, waveletOf}
-use Rattle.dwt.specs.Calls.{short}
+use Rattle.dwt.specs.Filters.{widthOf}
+use Rattle.dwt.specs.Calls.{levelsChecks}
 use Rattle.pyramid.specs.Files.{fileSize, fileOf}
 
 -- by samples: n of the signal, u and v of the work areas; b bytes of the file area
 abbrev pub writeChecks : Filter → ℕ → ℕ → ℕ → ℕ → ℕ → List Check
-writeChecks f l n b u v =
-    (ltb mostSamples n, TooLong)
-    ∷ (ltb (depthOf (waveletOf f) n) (levelsOf l), cond (leb l 1) (short f n) BufferWasTooSmallForLevel)
-    ∷ tight b (fileSize (widthOf f) (levelsOf l) n)
-    ∷ tight u n
-    ∷ tight v n
-    ∷ []
+writeChecks f l n b u v = levelsChecks f l n ++ (tight b (fileSize (widthOf f) (levelsOf l) n) ∷ tight u n ∷ tight v n ∷ [])
 
 -- by byte lengths: the file area may have any
 unfoldable pub sayWrite : Filter → ℕ → ℕ → ℕ → ℕ → ℕ → Refusal

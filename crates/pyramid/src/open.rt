@@ -234,7 +234,7 @@ fn check_open(s: &[u8], w: usize, p: usize, o: usize, u: usize, v: usize) -> Ref
     check_rooms(w, level, places_of(level, samples_in(s)), o, u, v)
 }
 
-// The samples of the deepest level that the file lets see, to the front of the output.
+// The samples of the finest level that the file lets see, to the front of the output.
 pub fn open(s: &[u8], w: usize, p: usize, out: &mut [u8], one: &mut [u8], two: &mut [u8]) -> Answer
     ensures { λ r. ⌜ Open (now (s .entry)) w p (now (out .entry)) (now (one .entry)) (now (two .entry)) r (now (out .exit)) (now (one .exit)) (now (two .exit)) ⌝ }
 {

@@ -1,3 +1,4 @@
+// Floats by their bits, in little-endian bytes. A NaN is written by one pattern.
 ghost use mathlib.Core.Path.{_≡_};
 ghost use Prim.Native.Nat.{_/_, _<_};
 ghost use lib.ListN.{length};

@@ -1,3 +1,4 @@
+// Samples of 1, 2 and 4 bytes as words, once over the width.
 ghost use mathlib.Core.Path.{_≡_};
 ghost use Prim.Native.Nat.{_/_, _^_, _<_};
 ghost use lib.ListN.{length};

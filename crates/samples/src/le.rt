@@ -1,3 +1,4 @@
+// Little-endian numbers of 2, 4 and 8 bytes.
 ghost use mathlib.Core.Path.{_≡_};
 ghost use Prim.Native.Nat.{_+_, _≤_, _<_};
 ghost use lib.ListN.{length};

@@ -15,18 +15,27 @@ use Rattle.answers.specs.Checks.{Check, firstOf, ragged, left}
 use Rattle.sizes.specs.declared.Wavelet.{Wavelet}
 use Rattle.sizes.specs.Bands.{mostSamples, ups, downs, smallestOf, expectedApprox, expectedDetails}
 
+-- "2 approximations (got, n), 2 details (got, n)", also of `dwt`, "as forward with the last level's input length"
+abbrev pub forwardBands : ℕ → ℕ → ℕ → List Check
+forwardBands n a d = (not (eqb a (ups n)), ApproxSizeNotMatches a n) ∷ (not (eqb d (downs n)), ApproxSizeNotMatches d n) ∷ []
+
 -- "Forward: 6 (n over 16,777,216), 1, 2 approximations (got, n), 2 details (got, n)", by samples
 abbrev pub forwardChecks : Wavelet → ℕ → ℕ → ℕ → List Check
 forwardChecks w n a d =
     (ltb mostSamples n, TooLong)
     ∷ (ltb n (smallestOf w), MinFilterSize n (smallestOf w))
-    ∷ (not (eqb a (ups n)), ApproxSizeNotMatches a n)
-    ∷ (not (eqb d (downs n)), ApproxSizeNotMatches d n)
-    ∷ []
+    ∷ forwardBands n a d
 
 -- the same by byte lengths, after "this 9 comes before all else (of several, the first of inputs, outputs, ..)"
 unfoldable pub sayForward : Wavelet → ℕ → ℕ → ℕ → ℕ → Refusal
 sayForward w k x a d = firstOf (ragged k x ∷ ragged k a ∷ ragged k d ∷ forwardChecks w (x / k) (a / k) (d / k)) (Done 0 0)
+
+-- "2 approximations (expected, got), 2 details, which reports the approximations' numbers", also of `multi_idwt`, "level by level .. as in inverse"
+abbrev pub inverseBands : Wavelet → ℕ → ℕ → ℕ → List Check
+inverseBands w n a d =
+    (not (eqb a (expectedApprox n)), ApproxSizeNotMatches (expectedApprox n) a)
+    ∷ (not (eqb d (expectedDetails w n)), ApproxSizeNotMatches (expectedApprox n) a)
+    ∷ []
 
 -- "Inverse: 6 (any slice), 3 (output against the sum), 2 approximations (expected, got), 2 details, which reports the approximations' numbers"
 abbrev pub inverseChecks : Wavelet → ℕ → ℕ → ℕ → List Check
@@ -35,9 +44,7 @@ inverseChecks w a d n =
     ∷ (ltb mostSamples d, TooLong)
     ∷ (ltb mostSamples n, TooLong)
     ∷ (not (eqb n (a + d)), OutputSizeIsNotValid n (a + d))
-    ∷ (not (eqb a (expectedApprox n)), ApproxSizeNotMatches (expectedApprox n) a)
-    ∷ (not (eqb d (expectedDetails w n)), ApproxSizeNotMatches (expectedApprox n) a)
-    ∷ []
+    ∷ inverseBands w n a d
 
 unfoldable pub sayInverse : Wavelet → ℕ → ℕ → ℕ → ℕ → Refusal
 sayInverse w k a d o = firstOf (ragged k a ∷ ragged k d ∷ ragged k o ∷ inverseChecks w (a / k) (d / k) (o / k)) (Done 0 0)

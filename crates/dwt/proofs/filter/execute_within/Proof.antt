@@ -10,58 +10,44 @@ use Rattle.dwt.proofs.Filters.{level-of, within-of}
 use Rattle.dwt.proofs.filter.execute_within.Statement.{statement}
 use Rattle.dwt.proofs.filter.execute_within.Tie as tie
 
-forward-within-requires : tie.Need-forward-within-requires
-forward-within-requires c κs = integer.ready-within width-1 (level-of _ Cdf53I8 (c .before .before .enum-told .given .1) (c .before .before .before .before .before .before .pre))
-
-returns : tie.Need-returns
-returns c = within-of _ Cdf53I8 _ (c .before .before .before .before .before .before .before .enum-told .given .1) (c .before .before .before .before .before .before .before .before .before .before .before .pre) (c .before .before .before .before .forward-within .ensures)
-
-forward-within-requires-2 : tie.Need-forward-within-requires-2
-forward-within-requires-2 c κs = integer.ready-within width-2 (level-of _ Cdf53I16 (c .before .before .enum-told2 .given .1) (c .before .before .before .before .before .before .pre))
-
-returns-2 : tie.Need-returns-2
-returns-2 c = within-of _ Cdf53I16 _ (c .before .before .before .before .before .before .before .enum-told2 .given .1) (c .before .before .before .before .before .before .before .before .before .before .before .pre) (c .before .before .before .before .forward-within2 .ensures)
-
-forward-within-requires-3 : tie.Need-forward-within-requires-3
-forward-within-requires-3 c κs = integer.ready-within width-4 (level-of _ Cdf53I32 (c .before .before .enum-told3 .given .1) (c .before .before .before .before .before .before .pre))
-
-returns-3 : tie.Need-returns-3
-returns-3 c = within-of _ Cdf53I32 _ (c .before .before .before .before .before .before .before .enum-told3 .given .1) (c .before .before .before .before .before .before .before .before .before .before .before .pre) (c .before .before .before .before .forward-within3 .ensures)
-
-forward-within-f32-requires : tie.Need-forward-within-f32-requires
-forward-within-f32-requires c κs = float.ready-within Cdf53 binary32 (level-of _ Cdf53F32 (c .before .before .enum-told4 .given .1) (c .before .before .before .before .before .before .pre))
-
-returns-4 : tie.Need-returns-4
-returns-4 c = within-of _ Cdf53F32 _ (c .before .before .before .before .before .before .before .enum-told4 .given .1) (c .before .before .before .before .before .before .before .before .before .before .before .pre) (c .before .before .before .before .forward-within-f32 .ensures)
-
-forward-within-f64-requires : tie.Need-forward-within-f64-requires
-forward-within-f64-requires c κs = float.ready-within Cdf53 binary64 (level-of _ Cdf53F64 (c .before .before .enum-told5 .given .1) (c .before .before .before .before .before .before .pre))
-
-returns-5 : tie.Need-returns-5
-returns-5 c = within-of _ Cdf53F64 _ (c .before .before .before .before .before .before .before .enum-told5 .given .1) (c .before .before .before .before .before .before .before .before .before .before .before .pre) (c .before .before .before .before .forward-within-f64 .ensures)
-
-forward-within-f32-requires-2 : tie.Need-forward-within-f32-requires-2
-forward-within-f32-requires-2 c κs = float.ready-within Cdf97 binary32 (level-of _ Cdf97F32 (c .before .before .enum-told6 .given .1) (c .before .before .before .before .before .before .pre))
-
-returns-6 : tie.Need-returns-6
-returns-6 c = within-of _ Cdf97F32 _ (c .before .before .before .before .before .before .before .enum-told6 .given .1) (c .before .before .before .before .before .before .before .before .before .before .before .pre) (c .before .before .before .before .forward-within-f322 .ensures)
-
-forward-within-f64-requires-2 : tie.Need-forward-within-f64-requires-2
-forward-within-f64-requires-2 c κs = float.ready-within Cdf97 binary64 (level-of _ Cdf97F64 (c .before .before .enum-told7 .given .1) (c .before .before .before .before .before .before .pre))
-
-returns-7 : tie.Need-returns-7
-returns-7 c = within-of _ Cdf97F64 _ (c .before .before .before .before .before .before .before .enum-told7 .given .1) (c .before .before .before .before .before .before .before .before .before .before .before .pre) (c .before .before .before .before .forward-within-f642 .ensures)
-
 pub execute-within-spec : {M : Type 1} → statement M
 execute-within-spec =
     tie.close
     (tie.spec
-    (λ c. search needs) forward-within-requires (λ c. search needs) forward-within-requires-2
-    (λ c. search needs) forward-within-requires-3 (λ c. search needs) forward-within-f32-requires
-    (λ c. search needs) forward-within-f64-requires (λ c. search needs)
-    forward-within-f32-requires-2 (λ c. search needs) forward-within-f64-requires-2
-    (λ c. search needs) (λ c. search needs) returns (λ c. search needs) (λ c. search needs)
-    returns-2 (λ c. search needs) (λ c. search needs) returns-3 (λ c. search needs)
-    (λ c. search needs) returns-4 (λ c. search needs) (λ c. search needs) returns-5
-    (λ c. search needs) (λ c. search needs) returns-6 (λ c. search needs) (λ c. search needs)
-    returns-7)
+    (λ c. search needs)
+    (λ c κs. integer.ready-within width-1 (level-of _ Cdf53I8 (c .before .before .enum-told .given .1) (c .before .before .before .before .before .before .pre)))
+    (λ c. search needs)
+    (λ c κs. integer.ready-within width-2 (level-of _ Cdf53I16 (c .before .before .enum-told2 .given .1) (c .before .before .before .before .before .before .pre)))
+    (λ c. search needs)
+    (λ c κs. integer.ready-within width-4 (level-of _ Cdf53I32 (c .before .before .enum-told3 .given .1) (c .before .before .before .before .before .before .pre)))
+    (λ c. search needs)
+    (λ c κs. float.ready-within Cdf53 binary32 (level-of _ Cdf53F32 (c .before .before .enum-told4 .given .1) (c .before .before .before .before .before .before .pre)))
+    (λ c. search needs)
+    (λ c κs. float.ready-within Cdf53 binary64 (level-of _ Cdf53F64 (c .before .before .enum-told5 .given .1) (c .before .before .before .before .before .before .pre)))
+    (λ c. search needs)
+    (λ c κs. search needs)
+    (λ c κs. (c .before .before .factors-f32 .ensures, float.ready-within Cdf97 binary32 (level-of _ Cdf97F32 (c .before .before .before .enum-told6 .given .1) (c .before .before .before .before .before .before .before .pre))))
+    (λ c. search needs)
+    (λ c κs. search needs)
+    (λ c κs. (c .before .before .factors-f64 .ensures, float.ready-within Cdf97 binary64 (level-of _ Cdf97F64 (c .before .before .before .enum-told7 .given .1) (c .before .before .before .before .before .before .before .pre))))
+    (λ c. search needs)
+    (λ c. search needs)
+    (λ c. within-of _ Cdf53I8 _ (c .before .before .before .before .before .before .before .enum-told .given .1) (c .before .before .before .before .before .before .before .before .before .before .before .pre) (c .before .before .before .before .forward-within .ensures))
+    (λ c. search needs)
+    (λ c. search needs)
+    (λ c. within-of _ Cdf53I16 _ (c .before .before .before .before .before .before .before .enum-told2 .given .1) (c .before .before .before .before .before .before .before .before .before .before .before .pre) (c .before .before .before .before .forward-within2 .ensures))
+    (λ c. search needs)
+    (λ c. search needs)
+    (λ c. within-of _ Cdf53I32 _ (c .before .before .before .before .before .before .before .enum-told3 .given .1) (c .before .before .before .before .before .before .before .before .before .before .before .pre) (c .before .before .before .before .forward-within3 .ensures))
+    (λ c. search needs)
+    (λ c. search needs)
+    (λ c. within-of _ Cdf53F32 _ (c .before .before .before .before .before .before .before .enum-told4 .given .1) (c .before .before .before .before .before .before .before .before .before .before .before .pre) (c .before .before .before .before .forward-within-f32 .ensures))
+    (λ c. search needs)
+    (λ c. search needs)
+    (λ c. within-of _ Cdf53F64 _ (c .before .before .before .before .before .before .before .enum-told5 .given .1) (c .before .before .before .before .before .before .before .before .before .before .before .pre) (c .before .before .before .before .forward-within-f64 .ensures))
+    (λ c. search needs)
+    (λ c. search needs)
+    (λ c. within-of _ Cdf97F32 _ (c .before .before .before .before .before .before .before .before .enum-told6 .given .1) (c .before .before .before .before .before .before .before .before .before .before .before .before .pre) (c .before .before .before .before .forward-within-f322 .ensures))
+    (λ c. search needs)
+    (λ c. search needs)
+    (λ c. within-of _ Cdf97F64 _ (c .before .before .before .before .before .before .before .before .enum-told7 .given .1) (c .before .before .before .before .before .before .before .before .before .before .before .before .pre) (c .before .before .before .before .forward-within-f642 .ensures)))

@@ -9,8 +9,8 @@ use Rattle.floats.proofs.cdf97f.forward_within_f64.Tie as tie
 
 pub forward-within-f64-spec : {M : Type 1} → statement M
 forward-within-f64-spec = tie.close (tie.spec (λ c. search needs) (λ c. search needs)
-    (λ c κs. search needs) (λ c κs. search needs) (λ c κs. search needs) (λ c. search needs)
-    (λ c. cut-length (c .before .before .before .before .before .before .before .before .before .before .before .before .pre) _ (c .before .before .before .before .before .before .before .split-within-f64 .kept .0))
-    (λ c κs. within-bands (c .before .before .before .before .before .before .before .before .before .before .before .before .before .pre) (c .before .before .before .before .before .before .before .before .split-within-f64 .ensures))
+    (λ c κs. search needs) (λ c κs. search needs) (λ c. search needs)
+    (λ c. cut-length (c .before .before .before .before .before .before .before .before .before .before .before .pre .1) _ (c .before .before .before .before .before .before .split-within-f64 .kept .0))
+    (λ c κs. within-bands (c .before .before .before .before .before .before .before .before .before .before .before .before .pre .1) (c .before .before .before .before .before .before .before .split-within-f64 .ensures))
     (λ c. search needs) (λ c. search needs)
-    (λ c. within-level (c .before .before .before .before .before .before .before .before .before .before .before .before .before .before .before .before .before .before .pre) (c .before .before .before .before .before .before .before .before .before .before .before .before .before .split-within-f64 .ensures) Cdf97 (c .before .before .before .before .before .before .before .schedule97-f64 .ensures ∙ ap steps97 (c .before .before .before .before .before .before .before .before .factors-f64 .ensures)) (c .before .before .before .before .run5-f64 .ensures)))
+    (λ c. within-level (c .before .before .before .before .before .before .before .before .before .before .before .before .before .before .before .before .before .pre .1) (c .before .before .before .before .before .before .before .before .before .before .before .before .split-within-f64 .ensures) Cdf97 (c .before .before .before .before .before .before .before .schedule97-f64 .ensures ∙ ap steps97 (c .before .before .before .before .before .before .before .before .before .before .before .before .before .before .before .before .before .pre .0)) (c .before .before .before .before .run5-f64 .ensures)))
