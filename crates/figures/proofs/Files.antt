@@ -18,9 +18,9 @@ use Rattle.dwt.specs.declared.filter.Filter.the-variants.{Cdf53I8}
 use Rattle.dwt.specs.Pyramids.{approxAt, lengthsOf}
 use Rattle.pyramid.specs.Files.{bodyOf, fileOf}
 use Rattle.pyramid.specs.Opens.{sayOpen}
-use Rattle.pyramid.specs.Sees.{firstWhole, wholeOf}
+use Rattle.pyramid.specs.Sees.{firstWhole, wholeOf, Sampled, Roomy, OpensTo}
 use Rattle.pyramid.proofs.Heads.{Recording}
-use Rattle.pyramid.proofs.Survives.{Sampled, Roomy, OpensTo, cut-short, survives}
+use Rattle.pyramid.proofs.Survives.{cut-short, survives}
 use Rattle.pyramid.proofs.Answers.{opens-whole}
 use Rattle.figures.specs.Worked.{five, thirtyOne, File}
 

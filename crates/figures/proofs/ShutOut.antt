@@ -5,25 +5,28 @@ use Prim.Native.Nat.{ℕ, _*_}
 use native.Mathlib.Omega.{arith}
 use lib.ListN.{getD, take, drop}
 use Rattle.answers.specs.declared.err.Answer.{Answer}
-use Rattle.answers.specs.declared.err.Refusal.the-variants.{Done}
+use Rattle.answers.specs.declared.err.Refusal.the-variants.{Done, MinFilterSize, BufferWasTooSmallForLevel}
 use Rattle.answers.specs.Answers.{answerOf}
 use Rattle.answers.specs.Checks.{left}
 use Rattle.sizes.specs.declared.Wavelet.the-variants.{Cdf53}
 use Rattle.sizes.specs.Calls.{sayForward, sayInverse}
-use Rattle.sizes.specs.Levels.{places, depthWithin, depthFrom}
+use Rattle.sizes.specs.Levels.{places, depthWithin, depthFrom, sayDepth}
+use Rattle.notes.specs.Notes.{spanOf, sayColumn, saySpan}
+use Rattle.notes.specs.Windows.{sayWindow}
 use Rattle.samples.specs.Le.{leAt, leBytes}
 use Rattle.samples.specs.Words.{tabulate, wordAt, wordsOf, bytesOf}
 use Rattle.samples.specs.Halves.{evenOf, oddOf}
 use Rattle.samples.specs.Integers.{val, residue, wrap, decode, encode}
 use Rattle.cdf53i.specs.Lift.{detail, details, approx, approxs, even, odd, sample, restored}
 use Rattle.cdf53i.specs.Bands.{low, high, back}
-use Rattle.dwt.specs.declared.filter.Filter.the-variants.{Cdf53I8}
+use Rattle.dwt.specs.declared.filter.Filter.the-variants.{Cdf53I8, Cdf53F32}
 use Rattle.dwt.specs.Pyramids.{approxAt, pyramid, samplesOf}
-use Rattle.dwt.specs.Calls.{sayDwt, sayMulti, OneForward, OneInverse, Multi}
+use Rattle.dwt.specs.Calls.{sayDwt, sayMulti, OneForward, OneInverse, Dwt, Multi}
 use Rattle.dwt.specs.Backward.{total, bandChecks, sayBack, MultiBack}
+use Rattle.pyramid.specs.Sees.{OpensTo}
 use Rattle.pyramid.specs.Writes.{sayWrite}
-use Rattle.pyramid.specs.Opens.{countIn, samplesIn, Open}
-use Rattle.pyramid.proofs.Survives.{OpensTo}
+use Rattle.pyramid.specs.Walks.{oneOf, walkOf}
+use Rattle.pyramid.specs.Opens.{countIn, samplesIn, Open, saySection, sectionIn}
 use Rattle.figures.specs.Worked.{five, thirtyOne}
 use Rattle.figures.specs.ShutOut.{splitOnly, restSplit, detailsUp, three, one0, two0, three0, five0, lengths, NotAllRefused, ShutOut}
 use Rattle.figures.proofs.Files.{p6-to-p10}
@@ -58,6 +61,38 @@ says-write : sayWrite Cdf53I8 2 5 31 5 5 ≡ Done 0 0
 unfolding sayWrite depthFrom depthWithin
 says-write = refl
 
+says-depth : sayDepth Cdf53 5 ≡ Done 2 0
+unfolding depthFrom depthWithin
+says-depth = refl
+
+says-column : sayColumn 5 1 3 ≡ Done 1 0
+unfolding sayColumn depthFrom depthWithin
+says-column = refl
+
+says-span : saySpan 5 1 1 ≡ Done 2 3
+unfolding saySpan spanOf places depthFrom depthWithin
+says-span = refl
+
+says-window : sayWindow 1 2 1 0 1 1 ≡ Done 1 1
+unfolding sayWindow
+says-window = refl
+
+says-section : saySection thirtyOne 1 14 2 ≡ Done 24 1
+unfolding saySection walkOf oneOf leAt places depthFrom depthWithin
+says-section = refl
+
+says-cut : saySection (take 25 thirtyOne) 1 14 2 ≡ Done 24 1
+unfolding saySection walkOf oneOf leAt places depthFrom depthWithin
+says-cut = refl
+
+section-two : sectionIn thirtyOne 1 14 2 ≡ 248 ∷ []
+unfolding sectionIn walkOf oneOf leAt places
+section-two = rw says-section refl
+
+says-short : (sayMulti Cdf53I8 1 2 2 2 2 ≡ MinFilterSize 2 3) × (sayMulti Cdf53F32 1 8 8 8 8 ≡ BufferWasTooSmallForLevel)
+unfolding sayMulti depthFrom depthWithin
+says-short = (refl, refl)
+
 -- the number of a done answer
 number-of : {r : Answer} {a b : ℕ} → r ≡ answerOf (Done a b) → r .number ≡ 0
 number-of e = ap (λ (q : Answer). q .number) e
@@ -67,6 +102,14 @@ number-of e = ap (λ (q : Answer). q .number) e
 bands : {r : Answer} {a d : List ℕ} → OneForward Cdf53I8 three two0 one0 r a d → (a ≡ 3 ∷ 4 ∷ []) × (d ≡ 4 ∷ [])
 unfolding leAt leBytes tabulate wordAt wordsOf bytesOf val residue wrap decode encode detail details approx approxs low high
 bands m = (m .approx ∙ ap (λ s. left s (low 1 three) two0) says-forward, m .details ∙ ap (λ s. left s (high 1 three) one0) says-forward)
+
+wrapped : {r : Answer} {a d : List ℕ} → OneForward Cdf53I8 (127 ∷ 128 ∷ 127 ∷ []) two0 one0 r a d → a ≡ 128 ∷ 128 ∷ []
+unfolding leAt leBytes tabulate wordAt wordsOf bytesOf val residue wrap decode encode detail details approx approxs low high
+wrapped m = m .approx ∙ ap (λ s. left s (low 1 (127 ∷ 128 ∷ 127 ∷ [])) two0) says-forward
+
+last-level : {r : Answer} {a d u v : List ℕ} → Dwt Cdf53I8 2 five two0 one0 five0 five0 r a d u v → a ≡ 255 ∷ 3 ∷ []
+unfolding leAt leBytes tabulate wordAt wordsOf bytesOf val residue wrap decode encode detail details approx approxs low high approxAt
+last-level m = m .approx ∙ ap (λ s. left s (low 1 (approxAt Cdf53I8 1 five)) two0) says-last
 
 restores : {r : Answer} {o : List ℕ} → OneInverse Cdf53I8 (3 ∷ 4 ∷ []) (4 ∷ []) three0 r o → o ≡ three
 unfolding leAt leBytes tabulate wordAt wordsOf bytesOf val residue wrap decode encode even odd sample restored back
@@ -106,6 +149,11 @@ not-all-refused =
       back = λ m. number-of (m .answer ∙ ap answerOf says-back);
       writes = λ m. number-of (m .answer ∙ ap answerOf says-write);
       opens = λ m. number-of (opened (p6-to-p10 .p10) m .0);
+      depth = says-depth;
+      section = says-section;
+      column = says-column;
+      span = says-span;
+      window = says-window;
     }
 
 pub shut-out : ShutOut
@@ -118,7 +166,14 @@ shut-out =
       copied = λ m. (λ e. differ 0 (λ h. omega arith) (sym (bands m .0) ∙ e), λ e. differ 0 (λ h. omega arith) (sym (bands m .1) ∙ e));
       rest-split = λ m e. differ 0 (λ h. omega arith) (sym (levels m) ∙ e);
       rest-left = λ m e. differ 0 (λ h. omega arith) (sym (levels m) ∙ e);
+      last-split = λ m e. differ 0 (λ h. omega arith) (sym (last-level m) ∙ e);
       finest-first = λ m e. differ 2 (λ h. omega arith) (sym (levels m) ∙ e);
       coarsest = λ m. let q = opened (p6-to-p10 .p10) m in (λ e. absurd (omega (arith, ap (λ (r : Answer). r .first) (q .0))), λ e. differ 0 (λ h. omega arith) (sym e ∙ ap (take 2) (q .1)));
       invented = λ m. let q = opened (p6-to-p10 .p9 27 (omega arith) (omega arith)) m in (ap (λ (r : Answer). r .first) (q .0), ap (λ (r : Answer). r .second) (q .0), ap (take 3) (q .1));
+      section-cut = says-cut;
+      section-is = section-two;
+      toward-zero = λ m e. differ 0 (λ h. omega arith) (sym (ap (take 2) (levels m)) ∙ e);
+      before-the-wrap = λ m e. differ 0 (λ h. omega arith) (sym (wrapped m) ∙ e);
+      short-integer = says-short .0;
+      short-float = says-short .1;
     }

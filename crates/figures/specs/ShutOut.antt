@@ -6,14 +6,19 @@ use mathlib.Core.Path.{_≡_}
 use Prim.Native.Nat.{ℕ, zero, suc}
 use lib.ListN.{take}
 use Rattle.answers.specs.declared.err.Answer.{Answer}
+use Rattle.answers.specs.declared.err.Refusal.the-variants.{Done, MinFilterSize, BufferWasTooSmallForLevel}
+use Rattle.sizes.specs.declared.Wavelet.the-variants.{Cdf53}
+use Rattle.sizes.specs.Levels.{sayDepth}
+use Rattle.notes.specs.Notes.{sayColumn, saySpan}
+use Rattle.notes.specs.Windows.{sayWindow}
 use Rattle.samples.specs.Halves.{evenOf, oddOf}
-use Rattle.dwt.specs.declared.filter.Filter.the-variants.{Cdf53I8}
+use Rattle.dwt.specs.declared.filter.Filter.the-variants.{Cdf53I8, Cdf53F32}
 use Rattle.dwt.specs.Filters.{lowOf, highOf}
 use Rattle.dwt.specs.Pyramids.{approxAt}
-use Rattle.dwt.specs.Calls.{OneForward, OneInverse, Dwt, Multi}
+use Rattle.dwt.specs.Calls.{OneForward, OneInverse, Dwt, sayMulti, Multi}
 use Rattle.dwt.specs.Backward.{MultiBack}
 use Rattle.pyramid.specs.Writes.{Write}
-use Rattle.pyramid.specs.Opens.{Open}
+use Rattle.pyramid.specs.Opens.{Open, saySection, sectionIn}
 use Rattle.figures.specs.Worked.{five, thirtyOne}
 
 -- ---- what the wrong programs would give
@@ -65,6 +70,11 @@ pub record NotAllRefused : Type 0 where
   pub back : {r : Answer} {o u v : List ℕ} → MultiBack Cdf53I8 (255 ∷ 3 ∷ []) (248 ∷ 5 ∷ 0 ∷ []) lengths five0 five0 five0 r o u v → r .number ≡ 0
   pub writes : {r : Answer} {s u v : List ℕ} → Write Cdf53I8 2 14 five thirtyOne five0 five0 r s u v → r .number ≡ 0
   pub opens : {r : Answer} {o u v : List ℕ} → Open thirtyOne 1 14 five0 five0 five0 r o u v → r .number ≡ 0
+  pub depth : sayDepth Cdf53 5 ≡ Done 2 0
+  pub section : saySection thirtyOne 1 14 2 ≡ Done 24 1
+  pub column : sayColumn 5 1 3 ≡ Done 1 0
+  pub span : saySpan 5 1 1 ≡ Done 2 3
+  pub window : sayWindow 1 2 1 0 1 1 ≡ Done 1 1
 
 -- ---- the others, by what the statements allow
 
@@ -79,9 +89,21 @@ pub record ShutOut : Type 0 where
   -- "one that transforms level 1 and only splits the rest"; and one that leaves the rest as it is
   pub rest-split : {r : Answer} {o u v : List ℕ} → Multi Cdf53I8 2 five five0 five0 five0 r o u v → o ≡ restSplit 1 five → ⊥
   pub rest-left : {r : Answer} {o u v : List ℕ} → Multi Cdf53I8 2 five five0 five0 five0 r o u v → o ≡ restSplit 0 five → ⊥
+  -- the same of `dwt`, whose last level would only be split
+  pub last-split : {r : Answer} {a d u v : List ℕ} → Dwt Cdf53I8 2 five two0 one0 five0 five0 r a d u v → a ≡ evenOf 0 (lowOf Cdf53I8 five) → ⊥
   -- details joined finest first
   pub finest-first : {r : Answer} {o u v : List ℕ} → Multi Cdf53I8 2 five five0 five0 five0 r o u v → o ≡ approxAt Cdf53I8 2 five ++ detailsUp 2 five → ⊥
   -- "an opener that always stops at the coarsest level": the whole file opens at level 0, not at 2
   pub coarsest : {r : Answer} {o u v : List ℕ} → Open thirtyOne 1 14 five0 five0 five0 r o u v → (r .first ≡ 2 → ⊥) × (take 2 o ≡ 255 ∷ 3 ∷ [] → ⊥)
   -- "or invents level or count": 27 bytes are level 1 and three samples, and nothing else
   pub invented : {r : Answer} {o u v : List ℕ} → Open (take 27 thirtyOne) 1 14 five0 five0 five0 r o u v → (r .first ≡ 1) × (r .second ≡ 3) × (take 3 o ≡ 3 ∷ 253 ∷ 7 ∷ [])
+  -- a lookup that looks further than its section, or hands back the count too: 25 bytes have section 2 whole, and it is -8 alone
+  pub section-cut : saySection (take 25 thirtyOne) 1 14 2 ≡ Done 24 1
+  pub section-is : sectionIn thirtyOne 1 14 2 ≡ 248 ∷ []
+  -- "dividing toward zero where floor is meant: P5's level 2 comes out wrong", as 0, 4
+  pub toward-zero : {r : Answer} {o u v : List ℕ} → Multi Cdf53I8 2 five five0 five0 five0 r o u v → take 2 o ≡ 0 ∷ 4 ∷ [] → ⊥
+  -- "updating evens from details before they wrapped": P3's -255 would leave 127 - 127, 0
+  pub before-the-wrap : {r : Answer} {a d : List ℕ} → OneForward Cdf53I8 (127 ∷ 128 ∷ 127 ∷ []) two0 one0 r a d → a ≡ two0 → ⊥
+  -- 4 where one level of a short integer input is 1, or 1 where it is 4 in the float filters
+  pub short-integer : sayMulti Cdf53I8 1 2 2 2 2 ≡ MinFilterSize 2 3
+  pub short-float : sayMulti Cdf53F32 1 8 8 8 8 ≡ BufferWasTooSmallForLevel

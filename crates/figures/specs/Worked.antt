@@ -11,9 +11,9 @@ use Rattle.cdf53i.specs.Bands.{low, high, back}
 use Rattle.cdf53i.specs.T800 as t800
 use Rattle.dwt.specs.declared.filter.Filter.the-variants.{Cdf53I8}
 use Rattle.dwt.specs.Pyramids.{approxAt, pyramid, samplesOf}
+use Rattle.pyramid.specs.Sees.{OpensTo}
 use Rattle.pyramid.specs.Files.{fileOf}
 use Rattle.pyramid.specs.Opens.{sayOpen}
-use Rattle.pyramid.proofs.Survives.{OpensTo}
 
 -- the number -n
 abbrev pub neg : ℕ → ℤ

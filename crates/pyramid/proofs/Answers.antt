@@ -24,12 +24,12 @@ use Rattle.dwt.specs.Filters.{widthOf}
 use Rattle.dwt.specs.Pyramids.{approxAt}
 use Rattle.pyramid.specs.Files.{headSize, bodySize, fileOf, fileSize}
 use Rattle.pyramid.specs.Opens.{roomsFor, sayOpen}
-use Rattle.pyramid.specs.Sees.{needed, wholeOf, wholeIn}
+use Rattle.pyramid.specs.Sees.{needed, wholeOf, wholeIn, Sampled, Roomy, OpensTo}
 use Rattle.pyramid.proofs.Sized.{file-length}
 use Rattle.pyramid.proofs.Restored.{whole-all, whole-less, whole-most}
 use Rattle.pyramid.proofs.Heads.{Recording}
 use Rattle.pyramid.proofs.Whole.{first-most, whole-is}
-use Rattle.pyramid.proofs.Survives.{Sampled, Roomy, OpensTo, cut-short, rooms-decide, survives}
+use Rattle.pyramid.proofs.Survives.{cut-short, rooms-decide, survives}
 
 -- in a whole file all sections are whole
 pub all-whole : (k l n : ℕ) → wholeOf k l n (fileSize k l n) ≡ l

@@ -32,11 +32,11 @@ use Rattle.trips.proofs.Undone.{Integers}
 use Rattle.pyramid.specs.Files.{fileOf, fileSize}
 use Rattle.pyramid.specs.Opens.{samplesIn, countIn, sayOpen, Open}
 use Rattle.pyramid.specs.Writes.{writeChecks, sayWrite, Write}
-use Rattle.pyramid.specs.Sees.{needed, wholeOf}
+use Rattle.pyramid.specs.Sees.{needed, wholeOf, Sampled, Roomy}
 use Rattle.pyramid.proofs.Sized.{file-length}
 use Rattle.pyramid.proofs.Heads.{Recording, common}
 use Rattle.pyramid.proofs.Whole.{first-most}
-use Rattle.pyramid.proofs.Survives.{Sampled, Roomy, roomy-less, cut-short, survives, count-left}
+use Rattle.pyramid.proofs.Survives.{roomy-less, cut-short, survives, count-left}
 
 early-refuses : (f : Filter) → Integers f → (n : ℕ) (t : Bool) → done (cond t (short f n) BufferWasTooSmallForLevel) ≡ false
 early-refuses f i n true = ap done (common f i .early n)

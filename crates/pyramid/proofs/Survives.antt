@@ -30,24 +30,12 @@ use Rattle.pyramid.specs.declared.walk.Way.{Way}
 use Rattle.pyramid.specs.Files.{Head, headSize, bodyOf, bodySize, fileOf, fileSize}
 use Rattle.pyramid.specs.Walks.{walkOf, restoredOf}
 use Rattle.pyramid.specs.Opens.{filterOf, headChecks, wayIn, wayChecks, wholeDetails, levelIn, countIn, samplesIn, areaChecks, roomsFor, sayOpen}
-use Rattle.pyramid.specs.Sees.{needed, wholeOf, wholeIn, reach}
+use Rattle.pyramid.specs.Sees.{Sampled, Roomy, OpensTo, needed, wholeOf, wholeIn, reach}
 use Rattle.pyramid.proofs.Sized.{frontOf, front-length, body-length}
 use Rattle.pyramid.proofs.CutWalk.{walk-cut, reach-whole}
 use Rattle.pyramid.proofs.Restored.{restored-cut, whole-all}
 use Rattle.pyramid.proofs.Heads.{Recording, common, cut-parts, cut-length, file-most, head-is, own-head-passes}
 use Rattle.pyramid.proofs.Whole.{first-most, reach-none, reach-short, whole-is}
-
--- the output and the work areas, of o, u and v bytes, are whole samples of k bytes
-pub record Sampled (k o u v : ℕ) : Type 0 where
-  pub output : o % k ≡ 0
-  pub first : u % k ≡ 0
-  pub second : v % k ≡ 0
-
--- each of them has room for c samples
-pub record Roomy (k c o u v : ℕ) : Type 0 where
-  pub output : k * c ≤ o
-  pub first : k * c ≤ u
-  pub second : k * c ≤ v
 
 -- room for n samples is room for fewer
 pub roomy-less : (k c n o u v : ℕ) → c ≤ n → Roomy k n o u v → Roomy k c o u v
@@ -68,11 +56,6 @@ enough k c o kp h = le-ltb (o / k) c (le-div-iff-mul-le kp .1 (omega (arith, mul
 
 rooms-pass : (k c o u v : ℕ) → 0 < k → Roomy k c o u v → Passing (roomsFor k c o u v)
 rooms-pass k c o u v kp r = (enough k c o kp (r .output), (enough k c u kp (r .first), (enough k c v kp (r .second), tt)))
-
--- what opening s is to give: the level, that many samples, and which
-pub record OpensTo (s : List ℕ) (k p o u v level count : ℕ) (x : List ℕ) : Type 0 where
-  pub says : sayOpen s k p o u v ≡ Done level count
-  pub samples : samplesIn s ≡ x
 
 module _ (f : Filter) (l n p : ℕ) (x : List ℕ) (r : Recording f l n p x) where
   -- the walk over the first b bytes of the file

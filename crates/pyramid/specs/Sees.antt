@@ -3,14 +3,17 @@
 -- Assumes nothing: these are definitions.
 use mathlib.Core.Bool.{cond}
 use mathlib.Core.List.{List, [], _∷_}
-use Prim.Native.Nat.{ℕ, zero, suc, _+_, _-_, _*_}
+use mathlib.Core.Path.{_≡_}
+use Prim.Native.Nat.{ℕ, zero, suc, _+_, _-_, _*_, _%_, _≤_}
 use lib.Dec.{leb}
+use Rattle.answers.specs.declared.err.Refusal.the-variants.{Done}
 use Rattle.sizes.specs.Bands.{ups}
 use Rattle.sizes.specs.Levels.{places}
 use Rattle.dwt.specs.Pyramids.{lengthsOf}
 use Rattle.pyramid.specs.declared.walk.Way.{Way}
 use Rattle.pyramid.specs.declared.walk.Way.the-variants.{Went, Short, Wrong}
 use Rattle.pyramid.specs.Files.{headSize, bodySize}
+use Rattle.pyramid.specs.Opens.{sayOpen, samplesIn}
 
 -- ---- how much is whole
 
@@ -45,3 +48,22 @@ stopped (Wrong i found) j = Wrong i found
 unfoldable pub reach : ℕ → ℕ → ℕ → ℕ → ℕ → Way
 reach k zero n p b = cond (leb (bodySize k 0 n) b) (Went (p + bodySize k 0 n)) (Short 1)
 reach k (suc l) n p b = cond (leb (bodySize k (suc l) n) b) (Went (p + bodySize k (suc l) n)) (stopped (reach k l (ups n) p b) (suc l + 1))
+
+-- ---- opening
+
+-- the output and the work areas, of o, u and v bytes, are whole samples of k bytes
+pub record Sampled (k o u v : ℕ) : Type 0 where
+  pub output : o % k ≡ 0
+  pub first : u % k ≡ 0
+  pub second : v % k ≡ 0
+
+-- each of them has room for c samples
+pub record Roomy (k c o u v : ℕ) : Type 0 where
+  pub output : k * c ≤ o
+  pub first : k * c ≤ u
+  pub second : k * c ≤ v
+
+-- what opening s is to give: the level, that many samples, and which
+pub record OpensTo (s : List ℕ) (k p o u v level count : ℕ) (x : List ℕ) : Type 0 where
+  pub says : sayOpen s k p o u v ≡ Done level count
+  pub samples : samplesIn s ≡ x

@@ -1,12 +1,11 @@
 // Opening a file: the checks in document 01's order, then the levels that a cut left.
-ghost use mathlib.Core.List.{_++_};
 ghost use mathlib.Core.Path.{_≡_};
-ghost use Prim.Native.Nat.{_+_, _≤_, _<_, _^_};
+ghost use Prim.Native.Nat.{_≤_, _<_};
 ghost use lib.ListN.{length};
 ghost use Rattle.answers.specs.Checks.{firstOf};
 ghost use Rattle.samples.specs.Integers.{isWidth};
 ghost use Rattle.pyramid.specs.Files.{headSize};
-ghost use Rattle.pyramid.specs.Opens.{filterOf, headIn, startChecks, fieldChecks, headChecks, wayIn, wayChecks, wholeDetails, levelIn, countIn, areaChecks, roomsFor, sayOpen, Open};
+ghost use Rattle.pyramid.specs.Opens.{filterOf, headIn, startChecks, fieldChecks, headChecks, wayIn, wayChecks, wholeDetails, areaChecks, roomsFor, sayOpen, Open};
 use crate::restore::restore;
 use crate::walk::Way;
 use crate::walk::walk;

@@ -2,7 +2,7 @@
 ghost use mathlib.Core.Path.{_≡_};
 ghost use Prim.Native.Nat.{_+_, _*_, _^_, _≤_, _<_};
 ghost use lib.ListN.{length};
-ghost use Rattle.pyramid.specs.Walks.{oneOf, walkOf, lastCount};
+ghost use Rattle.pyramid.specs.Walks.{oneOf, walkOf};
 use samples::le::read_u32;
 
 // How far a walk over sections got: past the last one, into a section that is cut, or to a wrong count.
