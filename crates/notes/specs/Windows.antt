@@ -39,7 +39,7 @@ unfoldable pub windowIn : ℕ → List ℕ → List ℕ → ℕ → ℕ → ℕ 
 windowIn k a d band start count =
     cond (done (sayWindow k (length a) (length d) band start count)) (take (k * count) (drop (k * start) (bandOf band a d))) []
 
--- "that stretch .. itself, never a copy": the block and the offset where the part lies are those of the band's own bytes, k * start on. An empty part lies at the band's start
+-- "a stretch of the approximations or of the details" themselves: the block and the offset where it lies are those of the band's own bytes, k * start on. An empty one lies at the band's start
 unfoldable pub windowAt : ℕ → RefT (List ℕ) → RefT (List ℕ) → ℕ → ℕ → ℕ → ℕ × ℕ
 windowAt k a d band start count =
     let s = bandOf band a d in

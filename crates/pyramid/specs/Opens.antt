@@ -137,6 +137,6 @@ saySection s w p j =
 unfoldable pub sectionIn : List ℕ → ℕ → ℕ → ℕ → List ℕ
 sectionIn s w p j = cond (done (saySection s w p j)) (take (lengthOf s j) (drop (startOf s j) s)) []
 
--- "that stretch of the caller's file itself, never a copy": the block and the offset where it lies are those of the file's own bytes, from its start on. An empty one lies at the file's start
+-- "that stretch of the caller's file itself, never a copy": the block and the offset where it lies are those of the file's own bytes, startOf on. An empty one lies at the file's start
 unfoldable pub sectionAt : RefT (List ℕ) → ℕ → ℕ → ℕ → ℕ × ℕ
 sectionAt s w p j = (s .ptr .0, s .ptr .1 + cond (done (saySection (s .now) w p j)) (startOf (s .now) j) 0)
