@@ -3,12 +3,13 @@ use mathlib.Core.Bool.{Bool, true, false, cond}
 use mathlib.Core.List.{List, [], _∷_}
 use mathlib.Core.Path.{_≡_, refl, sym, ap, _∙_}
 use Prim.Native.Nat.{ℕ, _+_, _-_, _*_, _/_, _≤_, _<_}
-use native.Mathlib.Nat.{mul-add, mul-le-mul-left}
+use native.Mathlib.Nat.{add-comm, mul-add, mul-le-mul-left}
 use native.Mathlib.Omega.{arith}
 use borrow.Author.Tests.{le-ltb, ltb-false, eqb-false, ne-eqb}
 use lib.Dec.{eqb}
 use lib.ListN.{length, take, drop, getD, length-take, length-drop}
 use lib.Seq.{getD-take, getD-drop}
+use denote.Ref.{RefT}
 use Rattle.answers.specs.declared.err.Answer.{Answer}
 use Rattle.answers.specs.declared.err.Refusal.{Refusal}
 use Rattle.answers.specs.declared.err.Refusal.the-variants.{Done}
@@ -17,7 +18,7 @@ use Rattle.answers.specs.Checks.{ragged}
 use Rattle.answers.proofs.Passed.{passing, through, whole}
 use Rattle.answers.proofs.Endings.{is-done, not-done}
 use Rattle.sizes.proofs.OneLevel.{whole-passes}
-use Rattle.notes.specs.Windows.{bandOf, stretchChecks, sayWindow, windowIn}
+use Rattle.notes.specs.Windows.{bandOf, stretchChecks, sayWindow, windowIn, windowAt}
 
 -- a window that fits: both lengths are whole, and it is some samples within the band
 pub record Fits (k a d band start count : ℕ) : Type 0 where
@@ -57,13 +58,16 @@ module _ (k a d band start count : ℕ) where
       pick true h = omega (arith, mul-add k start count, mul-le-mul-left k h, f .approx)
       pick false h = omega (arith, mul-add k start count, mul-le-mul-left k h, f .details)
 
--- the length of the band is the band of the lengths
-pub band-length : (band : ℕ) (a d : List ℕ) → length (bandOf band a d) ≡ bandOf band (length a) (length d)
-band-length band a d = pick (eqb band 0)
+-- what f tells of the band is the band of what it tells of both: its length is the band of the lengths
+pub band-of : {A B : Type 0} (f : A → B) (band : ℕ) (a d : A) → f (bandOf band a d) ≡ bandOf band (f a) (f d)
+band-of f band a d = pick (eqb band 0)
   where
-    pick : (b : Bool) → length (cond b a d) ≡ cond b (length a) (length d)
+    pick : (b : Bool) → f (cond b a d) ≡ cond b (f a) (f d)
     pick true = refl
     pick false = refl
+
+pub band-length : (band : ℕ) (a d : List ℕ) → length (bandOf band a d) ≡ bandOf band (length a) (length d)
+band-length band a d = band-of length band a d
 
 module _ (k : ℕ) (a d : List ℕ) (band start count : ℕ) where
   abbrev said : Refusal
@@ -103,3 +107,23 @@ module _ (k : ℕ) (a d : List ℕ) (band start count : ℕ) where
 
   pub untold : (r : Answer) → r ≡ answerOf said → (r .number ≡ 0 → ⊥) → [] ≡ windowIn k a d band start count
   untold r e z = sym (window-none (not-done said r e z))
+
+-- where the part lies, of the bands a and d themselves: s is the band that was asked for
+module _ (k : ℕ) (a d : RefT (List ℕ)) (band start count : ℕ) where
+  abbrev here : Refusal
+  here = sayWindow k (length (a .now)) (length (d .now)) band start count
+
+  at-place : (t : Bool) (s : RefT (List ℕ)) (i : ℕ) → done here ≡ t → i ≡ cond t (k * start) 0 → s ≡ bandOf band a d → (s .ptr .0, i + s .ptr .1) ≡ windowAt k a d band start count
+  unfolding windowAt
+  at-place t s i h e b =
+      ap (λ (n : ℕ). (s .ptr .0, n)) (add-comm i (s .ptr .1) ∙ ap (λ (n : ℕ). s .ptr .1 + n) (e ∙ ap (λ (x : Bool). cond x (k * start) 0) (sym h)))
+      ∙ ap (λ (x : RefT (List ℕ)). (x .ptr .0, x .ptr .1 + cond (done here) (k * start) 0)) b
+
+  pub placed : (r : Answer) (s : RefT (List ℕ)) → r ≡ answerOf here → r .number ≡ 0 → s ≡ bandOf band a d → (s .ptr .0, r .first + s .ptr .1) ≡ windowAt k a d band start count
+  placed r s e z b =
+      let h = is-done here r e z in
+      let f = done-fits k (length (a .now)) (length (d .now)) band start count h in
+      at-place true s (r .first) h (ap (λ (x : Answer). x .first) (e ∙ ap answerOf (fits-says k (length (a .now)) (length (d .now)) band start count f))) b
+
+  pub unplaced : (r : Answer) (s : RefT (List ℕ)) → r ≡ answerOf here → (r .number ≡ 0 → ⊥) → s ≡ bandOf band a d → (s .ptr .0, 0 + s .ptr .1) ≡ windowAt k a d band start count
+  unplaced r s e z b = at-place false s 0 (not-done here r e z) refl b

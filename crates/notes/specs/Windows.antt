@@ -6,6 +6,7 @@ use mathlib.Core.List.{List, [], _∷_}
 use Prim.Native.Nat.{ℕ, _+_, _*_, _/_}
 use lib.Dec.{ltb, eqb}
 use lib.ListN.{length, take, drop}
+use denote.Ref.{RefT}
 use Rattle.answers.specs.declared.err.Refusal.{Refusal}
 use Rattle.answers.specs.declared.err.Refusal.the-variants.{Done, NoSuchPlace}
 use Rattle.answers.specs.Answers.{done}
@@ -37,3 +38,9 @@ sayWindow k a d band start count =
 unfoldable pub windowIn : ℕ → List ℕ → List ℕ → ℕ → ℕ → ℕ → List ℕ
 windowIn k a d band start count =
     cond (done (sayWindow k (length a) (length d) band start count)) (take (k * count) (drop (k * start) (bandOf band a d))) []
+
+-- "a stretch of the approximations or of the details" themselves: the block and the offset where it lies are those of the band's own bytes, k * start on. An empty one lies at the band's start
+unfoldable pub windowAt : ℕ → RefT (List ℕ) → RefT (List ℕ) → ℕ → ℕ → ℕ → ℕ × ℕ
+windowAt k a d band start count =
+    let s = bandOf band a d in
+    (s .ptr .0, s .ptr .1 + cond (done (sayWindow k (length (a .now)) (length (d .now)) band start count)) (k * start) 0)

@@ -4,7 +4,7 @@ ghost use Prim.Native.Nat.{_*_, _^_, _<_};
 ghost use lib.ListN.{length};
 ghost use Rattle.answers.specs.Answers.{answerOf};
 ghost use Rattle.answers.specs.Checks.{firstOf};
-ghost use Rattle.notes.specs.Windows.{bytesOf, bandOf, stretchChecks, sayWindow, windowIn};
+ghost use Rattle.notes.specs.Windows.{bytesOf, bandOf, stretchChecks, sayWindow, windowIn, windowAt};
 use answers::err::Answer;
 use answers::err::Refusal;
 use answers::err::numbers;
@@ -36,7 +36,7 @@ fn asked_length(band: u32, a: usize, d: usize) -> usize
 }
 
 fn asked<'a>(band: u32, approx: &'a [u8], details: &'a [u8]) -> &'a [u8]
-    ensures { λ r. ⌜ now r ≡ bandOf band (now (approx .entry)) (now (details .entry)) ⌝ }
+    ensures { λ r. ⌜ r ≡ bandOf band (approx .entry) (details .entry) ⌝ }
 {
     if band == 0 { approx } else { details }
 }
@@ -96,6 +96,7 @@ pub fn band_window<'a>(
     count: usize,
 ) -> &'a [u8]
     ensures { λ r. ⌜ now r ≡ windowIn (bytesOf w) (now (approx .entry)) (now (details .entry)) band start count ⌝ }
+    ensures { λ r. ⌜ r .ptr ≡ windowAt (bytesOf w) (approx .entry) (details .entry) band start count ⌝ }
 {
     let r = band_window_answer(w, approx, details, band, start, count);
     let s = asked(band, approx, details);

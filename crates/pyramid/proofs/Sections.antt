@@ -3,10 +3,11 @@ use mathlib.Core.Bool.{Bool, true, false, cond}
 use mathlib.Core.List.{List, [], _∷_, _++_}
 use mathlib.Core.Path.{_≡_, refl, sym, ap, _∙_}
 use Prim.Native.Nat.{ℕ, _+_, _-_, _*_, _≤_, _<_}
-use native.Mathlib.Nat.{mul-le-mul-left}
+use native.Mathlib.Nat.{add-comm, mul-le-mul-left}
 use native.Mathlib.Omega.{arith}
 use lib.Dec.{eqb}
 use lib.ListN.{length, take, drop}
+use denote.Ref.{RefT}
 use Rattle.answers.specs.declared.err.Refusal.{Refusal}
 use Rattle.answers.specs.declared.err.Refusal.the-variants.{Done}
 use Rattle.answers.specs.Answers.{done}
@@ -18,7 +19,7 @@ use Rattle.pyramid.specs.declared.walk.Way.{Way}
 use Rattle.pyramid.specs.declared.walk.Way.the-variants.{Went, Short, Wrong}
 use Rattle.pyramid.specs.Files.{headSize, bodySize}
 use Rattle.pyramid.specs.Walks.{walkOf, lastCount}
-use Rattle.pyramid.specs.Opens.{headIn, headChecks, wayTo, sectionChecks, numberChecks, lengthOf, startOf, endBy, saySection, sectionIn}
+use Rattle.pyramid.specs.Opens.{headIn, headChecks, wayTo, sectionChecks, numberChecks, lengthOf, startOf, endBy, saySection, sectionIn, sectionAt}
 use Rattle.pyramid.proofs.Ways.{walk-size}
 use Rattle.pyramid.proofs.Opening.{head-refuses, head-passes}
 
@@ -71,3 +72,9 @@ section-part s w p j a n h ea en =
 pub section-none : (s : List ℕ) (w p j : ℕ) → done (saySection s w p j) ≡ false → [] ≡ sectionIn s w p j
 unfolding sectionIn
 section-none s w p j h = rw h
+
+-- where the part lies in the file, by its start
+pub section-place : (s : RefT (List ℕ)) (w p j a : ℕ) (t : Bool) → done (saySection (s .now) w p j) ≡ t → a ≡ cond t (startOf (s .now) j) 0 → (s .ptr .0, a + s .ptr .1) ≡ sectionAt s w p j
+unfolding sectionAt
+section-place s w p j a t h e =
+    ap (λ (n : ℕ). (s .ptr .0, n)) (add-comm a (s .ptr .1) ∙ ap (λ (n : ℕ). s .ptr .1 + n) (e ∙ ap (λ (x : Bool). cond x (startOf (s .now) j) 0) (sym h)))

@@ -6,6 +6,7 @@ use mathlib.Core.Path.{_≡_}
 use Prim.Native.Nat.{ℕ, _+_, _-_, _*_, _/_}
 use lib.Dec.{ltb, eqb}
 use lib.ListN.{length, take, drop}
+use denote.Ref.{RefT}
 use Rattle.answers.specs.declared.err.Answer.{Answer}
 use Rattle.answers.specs.declared.err.Refusal.{Refusal}
 use Rattle.answers.specs.declared.err.Refusal.the-variants.{Done, MinFilterSize, BufferWasTooSmallForLevel, TooLong, OtherWidth, BadCount, CutShort, OtherPoint, Trailing, NoSuchPlace}
@@ -132,6 +133,10 @@ unfoldable pub saySection : List ℕ → ℕ → ℕ → ℕ → Refusal
 saySection s w p j =
     firstOf (headChecks s w p ++ (numberChecks j (headIn s .levels) ++ sectionChecks (wayTo s j) (length s))) (Done (startOf s j) (lengthOf s j))
 
--- "the call hands back that stretch of the caller's file itself"; "when refused, .. an empty stretch"
+-- what the call hands back; "when refused, .. an empty stretch"
 unfoldable pub sectionIn : List ℕ → ℕ → ℕ → ℕ → List ℕ
 sectionIn s w p j = cond (done (saySection s w p j)) (take (lengthOf s j) (drop (startOf s j) s)) []
+
+-- "that stretch of the caller's file itself, never a copy": the block and the offset where it lies are those of the file's own bytes, startOf on. An empty one lies at the file's start
+unfoldable pub sectionAt : RefT (List ℕ) → ℕ → ℕ → ℕ → ℕ × ℕ
+sectionAt s w p j = (s .ptr .0, s .ptr .1 + cond (done (saySection (s .now) w p j)) (startOf (s .now) j) 0)

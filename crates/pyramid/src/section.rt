@@ -7,7 +7,7 @@ ghost use Rattle.answers.specs.Checks.{firstOf};
 ghost use Rattle.pyramid.specs.Files.{headSize};
 ghost use Rattle.sizes.specs.Levels.{places};
 ghost use Rattle.pyramid.specs.Walks.{lastCount};
-ghost use Rattle.pyramid.specs.Opens.{headIn, wayTo, sectionChecks, numberChecks, lengthOf, startOf, saySection, sectionIn};
+ghost use Rattle.pyramid.specs.Opens.{headIn, wayTo, sectionChecks, numberChecks, lengthOf, startOf, saySection, sectionIn, sectionAt};
 use crate::open::check_head;
 use crate::open::levels_in;
 use crate::open::samples_in;
@@ -108,6 +108,7 @@ pub fn section_answer(s: &[u8], w: usize, p: usize, j: usize) -> Answer
 // Section j itself, without its count: a part of the file, or an empty part.
 pub fn section(s: &[u8], w: usize, p: usize, j: usize) -> &[u8]
     ensures { λ r. ⌜ now r ≡ sectionIn (now (s .entry)) w p j ⌝ }
+    ensures { λ r. ⌜ r .ptr ≡ sectionAt (s .entry) w p j ⌝ }
 {
     let r = section_answer(s, w, p, j);
     if r.number == 0 {

@@ -1,14 +1,14 @@
 -- `section` meets its contract: the part that the answer tells. Assumes nothing.
 use borrow.Author.Tests.{eq-eqb, ne-eqb}
 use mathlib.Core.Bool.{true, false}
-use mathlib.Core.Path.{_≡_, sym, ap, _∙_}
+use mathlib.Core.Path.{_≡_, refl, sym, ap, _∙_}
 use Prim.Native.Nat.{ℕ, _+_, _≤_}
 use native.Mathlib.Omega.{arith}
 use lib.Dec.{eqb}
 use lib.ListN.{length}
 use Rattle.answers.specs.Answers.{answerOf, done}
 use Rattle.pyramid.specs.Opens.{saySection, startOf, lengthOf}
-use Rattle.pyramid.proofs.Sections.{section-is, section-part, section-none}
+use Rattle.pyramid.proofs.Sections.{section-is, section-part, section-none, section-place}
 use borrow.Author.Needs.{needs}
 use Rattle.pyramid.proofs.section.section.Statement.{statement}
 use Rattle.pyramid.proofs.section.section.Tie as tie
@@ -33,12 +33,14 @@ returns : tie.Need-returns
 returns c =
     let a = c .before .before .before .before .before .args in
     let n = numbers (c .before) in
-    section-part (a .s .now) (a .w) (a .p) (a .j) _ _ (isDone (c .before)) (n .0) (n .1)
+    let h = isDone (c .before) in
+    (section-part (a .s .now) (a .w) (a .p) (a .j) _ _ h (n .0) (n .1), section-place (a .s) (a .w) (a .p) (a .j) _ true h (n .0))
 
 returns-2 : tie.Need-returns-2
 returns-2 c =
     let a = c .before .before .before .before .before .args in
-    section-none (a .s .now) (a .w) (a .p) (a .j) (sym (ap (λ r. eqb (r .number) 0) (c .before .before .before .section-answer .ensures)) ∙ ne-eqb _ 0 (c .before .if1 .left))
+    let h = sym (ap (λ r. eqb (r .number) 0) (c .before .before .before .section-answer .ensures)) ∙ ne-eqb _ 0 (c .before .if1 .left) in
+    (section-none (a .s .now) (a .w) (a .p) (a .j) h, section-place (a .s) (a .w) (a .p) (a .j) 0 false h refl)
 
 pub section-spec : {M : Type 1} → statement M
 section-spec =
