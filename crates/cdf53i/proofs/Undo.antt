@@ -85,6 +85,19 @@ module _ {k : ℕ} (w : Width k) where
     sub = λ z t. ap (val (256 ^ k)) (kept (z -ℤ t) t ∙ ap (residue (256 ^ k)) (-ℤ-+ℤ-cancel z t));
   }
 
+module _ (keep : ℤ → ℤ) (x : List ℤ) where
+  approxs-length : length (approxs keep x) ≡ evens x
+  unfolding approxs
+  approxs-length = length-tabulate (evens x) (approx keep x (details keep x))
+
+  pub details-length : length (details keep x) ≡ odds x
+  unfolding details
+  details-length = length-tabulate (odds x) (detail keep x)
+
+  pub at-details : (i : ℕ) → i < odds x → at (details keep x) i ≡ detail keep x i
+  unfolding details
+  at-details i h = getD-tabulate (odds x) (detail keep x) i (pos 0) h
+
 -- ---- the inverse of the transform of x is x, where x is of numbers that are kept as they are
 module _ (keep : ℤ → ℤ) (u : Undoes keep) (x : List ℤ) (long : 2 ≤ length x) (fits : (i : ℕ) → i < length x → keep (at x i) ≡ at x i) where
   even-back : (i : ℕ) → i < evens x → even keep (approxs keep x) (details keep x) i ≡ at x (2 * i)
@@ -93,22 +106,10 @@ module _ (keep : ℤ → ℤ) (u : Undoes keep) (x : List ℤ) (long : 2 ≤ len
       rw (getD-tabulate (evens x) (approx keep x (details keep x)) i (pos 0) h)
       (u .add (at x (2 * i)) _ ∙ fits (2 * i) (omega arith))
 
-  approxs-length : length (approxs keep x) ≡ evens x
-  unfolding approxs
-  approxs-length = length-tabulate (evens x) (approx keep x (details keep x))
-
-  details-length : length (details keep x) ≡ odds x
-  unfolding details
-  details-length = length-tabulate (odds x) (detail keep x)
-
-  at-details : (i : ℕ) → i < odds x → at (details keep x) i ≡ detail keep x i
-  unfolding details
-  at-details i h = getD-tabulate (odds x) (detail keep x) i (pos 0) h
-
   odd-back : (i : ℕ) → i < odds x → odd keep (even keep (approxs keep x) (details keep x)) (length (approxs keep x)) (details keep x) i ≡ at x (2 * i + 1)
   unfolding odd detail
   odd-back i h =
-      rw (approxs-length, at-details i h, even-back i (omega arith), even-back (min (i + 1) (evens x - 1)) (omega arith))
+      rw (approxs-length keep x, at-details keep x i h, even-back i (omega arith), even-back (min (i + 1) (evens x - 1)) (omega arith))
       (u .sub (at x (2 * i + 1)) (floorDiv (at x (2 * i) +ℤ at x (2 * min (i + 1) (evens x - 1))) 2) ∙ fits (2 * i + 1) (omega arith))
 
   sample-back : (j : ℕ) → j < length x → sample keep (approxs keep x) (details keep x) j ≡ at x j
@@ -120,7 +121,7 @@ module _ (keep : ℤ → ℤ) (u : Undoes keep) (x : List ℤ) (long : 2 ≤ len
       (lt-or-le (j % 2) 1)
 
   restored-length : length (approxs keep x) + length (details keep x) ≡ length x
-  restored-length = omega (arith, approxs-length, details-length)
+  restored-length = omega (arith, approxs-length keep x, details-length keep x)
 
   pub undone : restored keep (approxs keep x) (details keep x) ≡ x
   unfolding restored

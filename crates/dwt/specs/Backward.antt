@@ -17,7 +17,7 @@ use Rattle.sizes.specs.Calls.{inverseBands}
 use Rattle.samples.specs.Words.{wordsOf}
 use Rattle.dwt.specs.declared.filter.Filter.{Filter}
 use Rattle.dwt.specs.Filters.{widthOf, waveletOf}
-use Rattle.dwt.specs.Pyramids.{samplesOf}
+use Rattle.dwt.specs.Pyramids.{samplesOf, lengthsOf}
 
 -- "more than 23 lengths"
 abbrev pub mostLevels : ℕ
@@ -87,3 +87,13 @@ pub record Rising (f : Filter) (a : ℕ) (ms : List ℕ) (d u v o : ℕ) : Type 
   pub first : widthOf f * (a + total ms) ≤ u
   pub second : widthOf f * (a + total ms) ≤ v
   pub output : o ≡ widthOf f * (a + total ms)
+
+-- a work area of k bytes a sample that has room for b bytes
+pub record Area (k b : ℕ) (s : List ℕ) : Type 0 where
+  pub samples : length s ≡ k * (length s / k)
+  pub room : b ≤ length s
+
+-- ls are the lengths of l levels of n samples, each a u32
+pub record LengthsIn (l n : ℕ) (ls : List ℕ) : Type 0 where
+  pub lengths : wordsOf 4 ls ≡ lengthsOf l n
+  pub size : length ls ≡ 4 * l

@@ -57,3 +57,13 @@ backOf Cdf53F32 = float.back binary32 Cdf53
 backOf Cdf53F64 = float.back binary64 Cdf53
 backOf Cdf97F32 = float.back binary32 Cdf97
 backOf Cdf97F64 = float.back binary64 Cdf97
+
+-- f is a filter of integers
+abbrev pub Integers : Filter → Type 0
+Integers Cdf53I8 = Unit {0}
+Integers Cdf53I16 = Unit {0}
+Integers Cdf53I32 = Unit {0}
+Integers Cdf53F32 = ⊥
+Integers Cdf53F64 = ⊥
+Integers Cdf97F32 = ⊥
+Integers Cdf97F64 = ⊥

@@ -20,11 +20,11 @@ use Rattle.dwt.specs.declared.filter.Filter.the-variants.{Cdf53F32, Cdf53F64}
 use Rattle.dwt.specs.Filters.{widthOf, waveletOf}
 use Rattle.dwt.specs.Pyramids.{approxAt, roundTrip}
 use Rattle.dwt.specs.Calls.{sayMulti, Multi}
-use Rattle.dwt.specs.Backward.{MultiBack}
+use Rattle.dwt.specs.Backward.{MultiBack, Area, LengthsIn}
 use Rattle.dwt.proofs.Multi.{levels-pos}
 use Rattle.dwt.proofs.Lasts.{dwt-gives}
 use Rattle.trips.proofs.Lengths.{length-trip}
-use Rattle.trips.proofs.ThereAndBack.{Area, LengthsIn, some-levels, call-depth, call-approx, call-level, trip-call}
+use Rattle.trips.proofs.ThereAndBack.{some-levels, call-depth, call-approx, call-level, trip-call}
 use Rattle.exact.specs.Exact.{Are, Inputs, number}
 use Rattle.exact.specs.Levels.{filter53, most, after8, Exact, samplesIn, numbersIn, deepest, allDetails, ExactBytes}
 use Rattle.exact.proofs.Inputs.{inputs-exact}

@@ -23,9 +23,8 @@ use Rattle.samples.specs.Integers.{isWidth}
 use Rattle.samples.proofs.LeLaws.{leAt-take}
 use Rattle.dwt.specs.declared.filter.Filter.{Filter}
 use Rattle.dwt.specs.declared.filter.Filter.the-variants.{Cdf53I8, Cdf53I16, Cdf53I32, Cdf53F32, Cdf53F64, Cdf97F32, Cdf97F64}
-use Rattle.dwt.specs.Filters.{widthOf, waveletOf}
+use Rattle.dwt.specs.Filters.{widthOf, waveletOf, Integers}
 use Rattle.dwt.specs.Calls.{short}
-use Rattle.trips.proofs.Undone.{Integers}
 use Rattle.pyramid.specs.Files.{Head, headCount, headSize, bodyOf, fileOf, fileSize}
 use Rattle.pyramid.specs.Opens.{filterOf, headIn, headChecks}
 use Rattle.pyramid.proofs.Sized.{frontOf, front-length, file-parts, file-length}

@@ -24,11 +24,10 @@ use Rattle.sizes.proofs.Counts.{places-le}
 use Rattle.sizes.proofs.Depths.{step}
 use Rattle.samples.specs.Le.{Bytes}
 use Rattle.dwt.specs.declared.filter.Filter.{Filter}
-use Rattle.dwt.specs.Filters.{widthOf, waveletOf}
+use Rattle.dwt.specs.Filters.{widthOf, waveletOf, Integers}
 use Rattle.dwt.specs.Pyramids.{approxAt}
 use Rattle.dwt.specs.Calls.{short}
 use Rattle.dwt.proofs.Multi.{levels-pos}
-use Rattle.trips.proofs.Undone.{Integers}
 use Rattle.pyramid.specs.Files.{fileOf, fileSize}
 use Rattle.pyramid.specs.Opens.{samplesIn, countIn, sayOpen, Open}
 use Rattle.pyramid.specs.Writes.{writeChecks, sayWrite, Write}

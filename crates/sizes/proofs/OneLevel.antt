@@ -63,11 +63,10 @@ whole-passes k n b e = same (b % k) 0 (rw e (mul-mod-right k n))
 pub count-is : (k n b : ℕ) → 0 < k → b ≡ k * n → b / k ≡ n
 count-is k n b p e = rw e (mul-div-right n p)
 
-pub forward-fits : (w : Wavelet) (k n x a d : ℕ) → 0 < k → Level w k n x a d → done (sayForward w k x a d) ≡ true
+pub forward-fits : (w : Wavelet) (k n x a d : ℕ) → 0 < k → Level w k n x a d → sayForward w k x a d ≡ Done 0 0
 unfolding sayForward
 forward-fits w k n x a d p l =
-    ap done
-    (through (ragged k x ∷ ragged k a ∷ ragged k d ∷ forwardChecks w (x / k) (a / k) (d / k)) (Done 0 0)
+    through (ragged k x ∷ ragged k a ∷ ragged k d ∷ forwardChecks w (x / k) (a / k) (d / k)) (Done 0 0)
     (rw (count-is k n x p (l .samples), count-is k (ups n) a p (l .approx), count-is k (downs n) d p (l .details)) (
       whole-passes k n x (l .samples),
       (
@@ -77,19 +76,18 @@ forward-fits w k n x a d p l =
           (le-ltb mostSamples n (l .short), (le-ltb n (smallestOf w) (l .long), (same (ups n) (ups n) refl, (same (downs n) (downs n) refl, tt)))),
         ),
       ),
-    )))
+    ))
 
 -- and the other way
 pub expects : (w : Wavelet) (n : ℕ) → smallestOf w ≤ n → (n ≡ ups n + downs n) × (ups n ≡ expectedApprox n) × (downs n ≡ expectedDetails w n)
 expects Cdf53 n h = (omega arith, omega arith, omega arith)
 expects Cdf97 n h = (omega arith, omega arith, omega arith)
 
-pub inverse-fits : (w : Wavelet) (k n x a d : ℕ) → 0 < k → Level w k n x a d → done (sayInverse w k a d x) ≡ true
+pub inverse-fits : (w : Wavelet) (k n x a d : ℕ) → 0 < k → Level w k n x a d → sayInverse w k a d x ≡ Done 0 0
 unfolding sayInverse
 inverse-fits w k n x a d p l =
     let e = expects w n (l .long) in
-    ap done
-    (through (ragged k a ∷ ragged k d ∷ ragged k x ∷ inverseChecks w (a / k) (d / k) (x / k)) (Done 0 0)
+    through (ragged k a ∷ ragged k d ∷ ragged k x ∷ inverseChecks w (a / k) (d / k) (x / k)) (Done 0 0)
     (rw (count-is k n x p (l .samples), count-is k (ups n) a p (l .approx), count-is k (downs n) d p (l .details)) (
       whole-passes k (ups n) a (l .approx),
       (
@@ -108,7 +106,7 @@ inverse-fits w k n x a d p l =
           ),
         ),
       ),
-    )))
+    ))
 
 module _ (w : Wavelet) (k : ℕ) (low high : List ℕ → List ℕ) (x a d : List ℕ) where
   abbrev said : Refusal
@@ -128,7 +126,7 @@ module _ (w : Wavelet) (k : ℕ) (low high : List ℕ → List ℕ) (x a d : Lis
   -- what a call on lengths that fit leaves
   pub forward-ran : (n : ℕ) (r : Answer) (a′ d′ : List ℕ) → 0 < k → Level w k n (length x) (length a) (length d) → Forward w k low high x a d r a′ d′ → (a′ ≡ low x) × (d′ ≡ high x)
   forward-ran n r a′ d′ p l h =
-      let t = forward-fits w k n (length x) (length a) (length d) p l in
+      let t = ap done (forward-fits w k n (length x) (length a) (length d) p l) in
       (h .approx ∙ left-done said (low x) a t, h .details ∙ left-done said (high x) d t)
 
   -- two results that the statement allows are equal
@@ -146,7 +144,7 @@ module _ (w : Wavelet) (k : ℕ) (back : List ℕ → List ℕ → List ℕ) (a 
   inverse-refused s r es er z = let t : done saidBack ≡ false = rw es at z in record { answer = er ∙ ap answerOf es; output = sym (left-refused saidBack (back a d) o t) }
 
   pub inverse-ran : (n : ℕ) (r : Answer) (o′ : List ℕ) → 0 < k → Level w k n (length o) (length a) (length d) → Inverse w k back a d o r o′ → o′ ≡ back a d
-  inverse-ran n r o′ p l h = h .output ∙ left-done saidBack (back a d) o (inverse-fits w k n (length o) (length a) (length d) p l)
+  inverse-ran n r o′ p l h = h .output ∙ left-done saidBack (back a d) o (ap done (inverse-fits w k n (length o) (length a) (length d) p l))
 
   pub inverse-decides : (r s : Answer) (o₁ o₂ : List ℕ) → Inverse w k back a d o r o₁ → Inverse w k back a d o s o₂ → (r ≡ s) × (o₁ ≡ o₂)
   inverse-decides r s o₁ o₂ p q = (p .answer ∙ sym (q .answer), p .output ∙ sym (q .output))

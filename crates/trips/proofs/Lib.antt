@@ -3,3 +3,4 @@ pub mod Trips
 pub mod Undone
 pub mod Fitting
 pub mod ThereAndBack
+pub mod OneLevel

@@ -21,29 +21,19 @@ use Rattle.samples.specs.Le.{Bytes}
 use Rattle.samples.specs.Words.{tabulate, wordsOf, bytesOf}
 use Rattle.samples.proofs.Words.{tabulate-same, tabulate-getD, length-words, length-bytes, words-bytes}
 use Rattle.dwt.specs.declared.filter.Filter.{Filter}
-use Rattle.dwt.specs.Filters.{widthOf, waveletOf, lowOf, highOf}
+use Rattle.dwt.specs.Filters.{widthOf, waveletOf, lowOf, highOf, Integers}
 use Rattle.dwt.specs.Pyramids.{approxAt, pyramid, samplesOf, detailsAt, lengthsOf, roundTrip}
 use Rattle.dwt.specs.Calls.{sayMulti, Multi, sayDwt, Dwt, Ready}
-use Rattle.dwt.specs.Backward.{total, sayBack, MultiBack}
+use Rattle.dwt.specs.Backward.{total, sayBack, MultiBack, Area, LengthsIn}
 use Rattle.dwt.proofs.Multi.{multi-ready}
 use Rattle.dwt.proofs.Backs.{back-ready}
 use Rattle.dwt.proofs.Lasts.{dwt-gives}
 use Rattle.trips.proofs.Lengths.{length-approx, length-details, length-lengths, places-total, at-most-total}
 use Rattle.trips.proofs.Trips.{approx-part, details-part, level-part, samples-trip, length-samples}
-use Rattle.trips.proofs.Undone.{Integers, undoes, trip-is, pyramid-again}
+use Rattle.trips.proofs.Undone.{undoes, trip-is, pyramid-again}
 use Rattle.trips.proofs.Fitting.{lengths-fit, fits-depth, back-fits, multi-fits}
 
--- a work area of k bytes a sample that has room for b bytes
-pub record Area (k b : ℕ) (s : List ℕ) : Type 0 where
-  pub samples : length s ≡ k * (length s / k)
-  pub room : b ≤ length s
-
--- ls are the lengths of l levels of n samples, each a u32
-pub record LengthsIn (l n : ℕ) (ls : List ℕ) : Type 0 where
-  pub lengths : wordsOf 4 ls ≡ lengthsOf l n
-  pub size : length ls ≡ 4 * l
-
--- there are such: the bytes of the lengths
+-- the bytes of the lengths are such
 pub lengths-in : (l n : ℕ) → n ≤ mostSamples → LengthsIn l n (bytesOf 4 (lengthsOf l n))
 lengths-in l n h =
     record {

@@ -22,7 +22,7 @@ use Rattle.cdf53i.proofs.Round.{there-and-back, back-and-low, back-and-high}
 use Rattle.cdf53i.proofs.Lengths.{bytes-low, bytes-back}
 use Rattle.dwt.specs.declared.filter.Filter.{Filter}
 use Rattle.dwt.specs.declared.filter.Filter.the-variants.{Cdf53I8, Cdf53I16, Cdf53I32, Cdf53F32, Cdf53F64, Cdf97F32, Cdf97F64}
-use Rattle.dwt.specs.Filters.{widthOf, waveletOf, lowOf, highOf, backOf}
+use Rattle.dwt.specs.Filters.{widthOf, waveletOf, lowOf, highOf, backOf, Integers}
 use Rattle.dwt.specs.Pyramids.{approxAt, pyramid, samplesOf, detailsAt, roundTrip}
 use Rattle.dwt.specs.Backward.{total, Fits}
 use Rattle.dwt.proofs.PyramidLaws.{approx-after}
@@ -46,8 +46,19 @@ Undoes f = Undoing (widthOf f) (lowOf f) (highOf f) (backOf f)
 
 -- ---- the integer filters
 
-undoes-width : {k : ℕ} → Width k → Undoing k (integer.low k) (integer.high k) (integer.back k)
-undoes-width {k} w = record {
+-- what the integer 5/3 of every width is, each of the three is
+pub each-width : (P : ℕ → (List ℕ → List ℕ) → (List ℕ → List ℕ) → (List ℕ → List ℕ → List ℕ) → Type 0) → ((k : ℕ) → Width k → P k (integer.low k) (integer.high k) (integer.back k))
+    → (f : Filter) → Integers f → P (widthOf f) (lowOf f) (highOf f) (backOf f)
+each-width P h Cdf53I8 i = h 1 width-1
+each-width P h Cdf53I16 i = h 2 width-2
+each-width P h Cdf53I32 i = h 4 width-4
+each-width P h Cdf53F32 i = absurd i
+each-width P h Cdf53F64 i = absurd i
+each-width P h Cdf97F32 i = absurd i
+each-width P h Cdf97F64 i = absurd i
+
+undoes-width : (k : ℕ) → Width k → Undoing k (integer.low k) (integer.high k) (integer.back k)
+undoes-width k w = record {
   there = λ x n b e two. there-and-back w x b n (holds (w .some) x n e) two;
   again-low = λ a d n p q ea ed two. back-and-low w a d p q n (holds (w .some) a (ups n) ea) (holds (w .some) d (downs n) ed) two;
   again-high = λ a d n p q ea ed two. back-and-high w a d p q n (holds (w .some) a (ups n) ea) (holds (w .some) d (downs n) ed) two;
@@ -55,25 +66,9 @@ undoes-width {k} w = record {
   back-bytes = bytes-back k;
 }
 
--- f is a filter of integers
-abbrev pub Integers : Filter → Type 0
-Integers Cdf53I8 = Unit {0}
-Integers Cdf53I16 = Unit {0}
-Integers Cdf53I32 = Unit {0}
-Integers Cdf53F32 = ⊥
-Integers Cdf53F64 = ⊥
-Integers Cdf97F32 = ⊥
-Integers Cdf97F64 = ⊥
-
 -- each of them undoes itself
 pub undoes : (f : Filter) → Integers f → Undoes f
-undoes Cdf53I8 i = undoes-width width-1
-undoes Cdf53I16 i = undoes-width width-2
-undoes Cdf53I32 i = undoes-width width-4
-undoes Cdf53F32 i = absurd i
-undoes Cdf53F64 i = absurd i
-undoes Cdf97F32 i = absurd i
-undoes Cdf97F64 i = absurd i
+undoes = each-width Undoing undoes-width
 
 -- ---- parts of bytes are bytes
 
