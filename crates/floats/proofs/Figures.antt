@@ -7,7 +7,7 @@ use Rattle.sizes.specs.declared.Wavelet.the-variants.{Cdf53}
 use Rattle.samples.specs.Words.{tabulate}
 use Rattle.samples.specs.Halves.{evenOf, oddOf, joined}
 use Rattle.floats.specs.Steps.{oddAt, evenAt, odds, evens, lift}
-use Rattle.floats.specs.Filters.{decimal, rounded, factors32, factors64, steps53, back53}
+use Rattle.floats.specs.Filters.{decimal, steps53, back53}
 use Rattle.floats.specs.Bands.{approxs, details, restored}
 
 abbrev samples : List Float
@@ -23,7 +23,7 @@ pub figure : (approxs binary32 Cdf53 samples ≡ low) × (details binary32 Cdf53
 unfolding approxs details restored steps53 back53 decimal tabulate evenOf oddOf joined odds evens oddAt evenAt lift add mul round
 figure = (refl, refl, refl)
 
--- ---- what two other roundings would give
+-- ---- what another rounding would give
 
 -- 1 + 2^-12 squared, less 1: the product, rounded, loses its last bit, which a fused step would keep
 abbrev near : Float
@@ -33,9 +33,3 @@ pub fused-differs : (add binary32 (mul binary32 near near) (decimal binary32 tru
     × (add binary32 (mul binary64 near near) (decimal binary32 true 1 0) ≡ decimal binary32 false 488340854644775390625 24)
 unfolding decimal add mul round
 fused-differs = (refl, refl)
-
--- DELTA rounded to eight decimals first is the f32 before
-pub rounded-twice-differs : (factors32 .delta ≡ decimal binary32 false 4435068666934967041015625 25)
-    × (rounded binary32 (decimal binary64 false 44350685 8) ≡ decimal binary32 false 44350683689117431640625 23)
-unfolding decimal rounded factors32 factors64 round
-rounded-twice-differs = (refl, refl)
