@@ -2,9 +2,10 @@
  * Beksanour: the numeric core of the review desk.
  *
  * Every call takes numbers and byte slices that the caller lends, each slice as a pointer and its length in bytes. It keeps
- * no pointer, needs no heap, holds no state, and ends for every input with an answer: done, or one refusal. A refusal changes
- * no lent byte. The slices of one call must not overlap where one of them is written. An empty slice still has a pointer that
- * is not null.
+ * no pointer, needs no heap, holds no state, may be called from any thread, and ends for every input with an answer: done, or
+ * one refusal. A refusal changes no lent byte. The slices of one call must not overlap where one of them is written. An empty
+ * slice still has a pointer that is not null. Samples are little-endian and need no alignment: on a little-endian machine an
+ * array `int16_t x[n]` is lent as `(const uint8_t *)x, sizeof x`.
  *
  * Link with libdesk.a (`rt staticlib desk` writes target/staticlib/libdesk.a, for x86-64).
  *
@@ -191,13 +192,14 @@ bk_answer bk_cdf97_dwt_f64(const uint8_t *signal, size_t signal_bytes, uint32_t 
 /*
  * Many levels of the samples in `signal`: the next level's input is this level's approximations. Into `output`, as many samples
  * as there are in `signal`: the deepest approximations, then the details, deepest first. 0 levels means 1. `work1` and `work2`
- * are room; what their first n samples hold after a done call is not said, and what is beyond them is as it was.
+ * are room for the n samples of `signal` each; what their first n samples hold after a done call is not said, and what is beyond
+ * them is as it was.
  *
  * Refused, in this order:
  *   9 (0, length)   a slice's byte length is no multiple of the width: the first of signal, output, work1, work2
  *   6               over 16,777,216 samples
  *   1 (n, 3)        integers, 0 or 1 levels: fewer than 3 samples
- *   4               else: fewer levels in the recording than asked
+ *   4               else: fewer levels in the recording than asked, where 0 asks for 1
  *   3 (got, n)      output does not hold n samples
  *   7 (have, n)     work1 holds fewer than n samples, then work2
  */
@@ -227,8 +229,9 @@ bk_answer bk_cdf97_multi_dwt_f64(const uint8_t *signal, size_t signal_bytes, uin
  * The samples of a recording back from its many levels: the deepest approximations in `approx`, the details of all levels in
  * `details`, deepest first, and in `lengths` how many details each level has, in that order, each a u32, little-endian. Into
  * `output` n samples, as many as there are in `approx` and `details` together. Integers come back as they went into multi_dwt,
- * floats come back near. `work1` and `work2` are room; what their first n samples hold after a done call is not said, and what
- * is beyond them is as it was.
+ * floats come back near; in 5/3 of L levels they come back equal for whole numbers of size at most 2^(24-4L), L to 6 (f32), or
+ * 2^(53-4L), L to 13 (f64), except that a zero may change sign. `work1` and `work2` are room for n samples each; what their
+ * first n samples hold after a done call is not said, and what is beyond them is as it was.
  *
  * Refused, in this order:
  *   9 (0, length)        a slice's byte length is no multiple of the width, or that of lengths of 4: the first of approx,
@@ -302,7 +305,8 @@ bk_answer bk_pyramid_write_i32(const uint8_t *signal, size_t signal_bytes, uint3
  * The samples of the finest level that a pyramid file, or the front of one that was cut, has whole, into `output`: its
  * approximations at that level, or at level 0 the recording itself. `width`, in bytes, and `point` are those that the file
  * must have. A file cut in section 1 is refused; one cut later ends there, and the broken section is ignored.
- * Done: first is the level, second the count of samples, n halved, rounded up, so many times as the level says. Samples in
+ * Done: first is the level, second the count of samples, n halved, rounded up, so many times as the level says. Room for
+ * file_bytes / width samples is always enough; with empty areas a file that opens is refused with 7 (0, count). Samples in
  * `output` past the count are as they were. `work1` and `work2` are room; what their first count samples hold after a done call
  * is not said, and what is beyond them is as it was.
  *
@@ -367,6 +371,9 @@ bk_answer bk_note_column(uint64_t n, uint32_t level, uint64_t sample);
  */
 bk_answer bk_note_span(uint64_t n, uint32_t level, uint64_t place);
 
+/* The bands, as a window asks for them. */
+enum { BK_APPROXIMATIONS = 0, BK_DETAILS = 1 };
+
 /*
  * A window on a band, to draw a part of it: `count` samples from `start`, of `approx` where `band` is 0, of `details` where it
  * is any other number. Nothing is copied, the caller reads its own band there.
@@ -374,7 +381,7 @@ bk_answer bk_note_span(uint64_t n, uint32_t level, uint64_t place);
  *
  * Refused, in this order:
  *   9 (0, length)        a slice's byte length is no multiple of the width: the first of approx, details, whichever was asked
- *   13 (start, length)   count is 0, or the window runs past the end of the band, which has length samples
+ *   13 (start, samples)  count is 0, or the window runs past the end of the band, which has so many samples
  */
 bk_answer bk_band_window_i8(const uint8_t *approx, size_t approx_bytes, const uint8_t *details, size_t details_bytes,
                             uint32_t band, uint64_t start, uint64_t count);

@@ -1,7 +1,7 @@
 #!/usr/bin/env python3
 # A reader and a writer of the pyramid file, made from docs/FORMAT.md, and the desk's calls compared with them on whole,
 # cut and damaged files. Call: tests/reader.py [--seed N]
-# The first version was made from that page alone; where it had to guess, it was mended together with the page.
+# It knows of the file what that page says.
 # First tests/desk/build. The first answer that differs ends the run. Lent slices are looked at by tests/pyramid.py, of
 # which only the talking to the server is used here.
 import argparse

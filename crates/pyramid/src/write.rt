@@ -7,7 +7,7 @@ ghost use Rattle.answers.specs.Checks.{firstOf};
 ghost use Rattle.samples.specs.Le.{leBytes};
 ghost use Rattle.sizes.specs.Bands.{mostSamples, ups, downs, smallestOf};
 ghost use Rattle.sizes.specs.Levels.{depthOf};
-ghost use Rattle.dwt.specs.Filters.{widthOf, waveletOf, lowOf, highOf};
+ghost use Rattle.dwt.specs.Filters.{Integers, widthOf, waveletOf, lowOf, highOf};
 ghost use Rattle.dwt.specs.Calls.{Ready};
 ghost use Rattle.pyramid.specs.Files.{sectionOf, headCount, headSize, bodyOf, bodySize, fileSize, fileOf};
 ghost use Rattle.pyramid.specs.Writes.{writeChecks, sayWrite, Write};
@@ -177,6 +177,7 @@ pub fn write(
     one: &mut [u8],
     two: &mut [u8],
 ) -> Answer
+    requires { ⌜ Integers f ⌝ }
     ensures { λ r. ⌜ Write f levels point (now (signal .entry)) (now (file .entry)) (now (one .entry)) (now (two .entry)) r (now (file .exit)) (now (one .exit)) (now (two .exit)) ⌝ }
 {
     let said = check_write(f, levels, signal.len(), file.len(), one.len(), two.len());
