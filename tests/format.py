@@ -1,0 +1,204 @@
+#!/usr/bin/env python3
+# The desk's calls compared with tests/reader.py, a reader and a writer made from docs/FORMAT.md, on whole, cut and damaged
+# files. Call: tests/format.py [--seed N]
+# First tests/desk/build. The first answer that differs ends the run. Lent slices are looked at by tests/pyramid.py, of
+# which only the talking to the server is used here.
+import argparse
+import os
+import random
+import re
+import sys
+from typing import NamedTuple
+
+import reader
+from pyramid import compare, request
+from reader import MOST_SAMPLES, counts_of, depth
+
+
+def bytes_of(values, width):
+    return b"".join(value.to_bytes(width, "little", signed=True) for value in values)
+
+
+def write(samples, width, levels, point):
+    return reader.write(samples, width, levels, point)[3]
+
+
+# ---- asking the desk
+
+# A request, and the words its answer starts with: the three numbers and the first lent slice, where it has one.
+class Ask(NamedTuple):
+    request: str
+    wanted: list
+
+
+class Tally:
+    def __init__(self):
+        self.done = {"write": 0, "open": 0, "section": 0}
+        self.refused = dict(self.done)
+
+    def count(self, ask, answer):
+        if answer.split(" ")[:len(ask.wanted)] != ask.wanted:
+            print("the desk differs from docs/FORMAT.md", ask.request, sep="\n  ")
+            print("  wanted", *ask.wanted)
+            sys.exit(f"  got    {answer}")
+        verb = ask.request.split(" ")[0].split("_")[1]
+        (self.done if ask.wanted[0] == "0" else self.refused)[verb] += 1
+
+    def told(self, verb):
+        return f"{self.done[verb] + self.refused[verb]} {verb}s ({self.refused[verb]} refused)"
+
+
+def words(said, *slices):
+    return [*map(str, said), *("x" + data.hex() for data in slices)]
+
+
+# Lent slices are as long as they must be; every byte of the first starts as another than is wanted.
+def ask_write(samples, width, levels, point):
+    *said, file = reader.write(samples, width, levels, point)
+    file = file or b""
+    signal = bytes_of(samples, width)
+    lent = [bytes(byte ^ 255 for byte in file), signal, signal]
+    return Ask(request(f"pyramid_write_i{8 * width}", [signal, *lent], levels, point), words(said, file))
+
+
+def ask_open(data, width, point):
+    *said, samples = reader.open_file(data, width, point)
+    output = bytes_of(samples or [], width)
+    lent = [bytes(byte ^ 255 for byte in output)] * 3
+    return Ask(request("pyramid_open", [data, *lent], width, point), words(said, output))
+
+
+def ask_section(data, width, point, number):
+    *said, _ = reader.section(data, width, point, number)
+    return Ask(request("pyramid_section", [data], width, point, number), words(said))
+
+
+# The file opened, and every section that it could have and one beside on either end.
+def ask_all(data, width, point, levels):
+    yield ask_open(data, width, point)
+    for number in range(levels + 3):
+        yield ask_section(data, width, point, number)
+
+
+# ---- the files
+
+WIDTHS = 1, 2, 4
+LAST_U32 = 2**32 - 1
+SMALL = 200
+
+
+def any_samples(random, width, n):
+    most = (1 << (8 * width - 1)) - 1
+    some = random.choice(([-most - 1, most], [-most - 1, -1, 0, 1, most], range(-9, 10), range(-most - 1, most + 1)))
+    return [random.choice(some) for _ in range(n)]
+
+
+def any_point(random):
+    return random.choice((0, 14, 255, 256, 2**31, LAST_U32, random.randint(0, LAST_U32)))
+
+
+class File(NamedTuple):
+    data: bytes
+    width: int
+    point: int
+    levels: int
+
+
+def any_file(random, width, n, levels):
+    point = any_point(random)
+    return File(write(any_samples(random, width, n), width, levels, point), width, point, levels)
+
+
+def small_files(random):
+    for width in WIDTHS:
+        for n in (3, 4, 5, 6, 9, 17):
+            yield any_file(random, width, n, random.randint(1, depth(n)))
+
+
+# ---- the parts of the test
+
+# The example of docs/FORMAT.md, as it stands there.
+def example(random):
+    with open("docs/FORMAT.md") as document:
+        rows = re.findall(r"^\| (`[^|]*)\|", document.read(), re.MULTILINE)
+    data = bytes.fromhex("".join(rows).replace("`", ""))
+    samples = [0, 3, -4, 1, 7]
+    assert data == write(samples, 1, 2, 14) and reader.open_file(data, 1, 14) == (0, 0, 5, samples)
+    yield ask_write(samples, 1, 2, 14)
+    yield from ask_all(data, 1, 14, 2)
+
+
+# Files of every width, and each prefix of those that are small.
+def written(random):
+    for width in WIDTHS:
+        for n in [*range(3, 40), *(random.randint(40, 1500) for _ in range(40))]:
+            for levels in {1, depth(n), random.randint(1, depth(n))}:
+                samples, point = any_samples(random, width, n), any_point(random)
+                yield ask_write(samples, width, levels, point)
+                data = write(samples, width, levels, point)
+                for cut in range(len(data) + 1) if len(data) <= SMALL else [len(data), random.randint(14, len(data))]:
+                    yield from ask_all(data[:cut], width, point, levels)
+
+
+def too_deep(random):
+    for width in WIDTHS:
+        for n in range(20):
+            for levels in (0, 1, depth(n), depth(n) + 1, 23, 24, 256, 257, LAST_U32):
+                yield ask_write(any_samples(random, width, n), width, levels, any_point(random))
+
+
+# Each byte changed, in the whole file and in one that is cut.
+def damaged(random):
+    for data, width, point, levels in small_files(random):
+        for place, byte in enumerate(data):
+            for other in {(byte + 1) % 256, (byte - 1) % 256, byte ^ 128, 0, 255, random.randrange(256)} - {byte}:
+                changed = data[:place] + bytes([other]) + data[place + 1:]
+                yield from ask_all(changed, width, point, levels)
+                yield from ask_all(changed[:random.randint(place, len(data))], width, point, levels)
+
+
+def trailing(random):
+    for data, width, point, levels in small_files(random):
+        for more in (1, 2, 3, 4, 5, 8, 100, len(data)):
+            yield from ask_all(data + random.randbytes(more), width, point, levels)
+
+
+def other_asked(random):
+    for data, width, point, levels in small_files(random):
+        for asked in (0, 1, 2, 3, 4, 5, 8, 256 + width, LAST_U32):
+            for other in (point, point ^ 1, point ^ 2**31, any_point(random)):
+                yield from ask_all(data, asked, other, levels)
+        for own in (0, 3, 5, 8, 255):
+            yield from ask_all(data[:4] + bytes([own]) + data[5:], own, point, levels)
+
+
+# Random bytes alone, and after a section 0 of a recording of any length.
+def noise(random):
+    lengths = [0, 2, 3, 4, 5, 8, 9, MOST_SAMPLES // 2 + 1, MOST_SAMPLES, MOST_SAMPLES + 1, 2**31, LAST_U32]
+    for _ in range(500):
+        yield from ask_all(random.randbytes(random.randint(0, 60)), random.choice(WIDTHS), 0, 1)
+    for n in lengths:
+        for levels in {0, 1, depth(n) - 1, depth(n), depth(n) + 1, 23, 24, 255} & {*range(256)}:
+            for width in WIDTHS:
+                front = bytes([10, 0, 0, 0, width, levels]) + n.to_bytes(4, "little") + bytes([7, 0, 0, 0])
+                count = counts_of(n, levels)[0].to_bytes(4, "little")
+                for data in (front, front + random.randbytes(40), front + count + random.randbytes(40)):
+                    yield from ask_all(data, width, 7, 2)
+                    yield ask_section(data, width, 7, levels + 1)
+
+
+PARTS = [example, written, too_deep, damaged, trailing, other_asked, noise]
+
+
+def main():
+    parser = argparse.ArgumentParser()
+    parser.add_argument("--seed", type=int, default=53)
+    asked = parser.parse_args()
+    os.chdir(os.path.join(os.path.dirname(os.path.abspath(__file__)), ".."))
+    source, tally = random.Random(asked.seed), Tally()
+    compare((ask for part in PARTS for ask in part(source)), tally)
+    print(f"ok format: {tally.done['write']} files, {tally.told('open')}, {tally.told('section')}")
+
+
+if __name__ == "__main__":
+    main()
