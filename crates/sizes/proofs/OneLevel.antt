@@ -84,12 +84,11 @@ pub expects : (w : Wavelet) (n : ℕ) → smallestOf w ≤ n → (n ≡ ups n + 
 expects Cdf53 n h = (omega arith, omega arith, omega arith)
 expects Cdf97 n h = (omega arith, omega arith, omega arith)
 
-pub inverse-fits : (w : Wavelet) (k n x a d : ℕ) → 0 < k → Level w k n x a d → done (sayInverse w k a d x) ≡ true
+pub inverse-says : (w : Wavelet) (k n x a d : ℕ) → 0 < k → Level w k n x a d → sayInverse w k a d x ≡ Done 0 0
 unfolding sayInverse
-inverse-fits w k n x a d p l =
+inverse-says w k n x a d p l =
     let e = expects w n (l .long) in
-    ap done
-    (through (ragged k a ∷ ragged k d ∷ ragged k x ∷ inverseChecks w (a / k) (d / k) (x / k)) (Done 0 0)
+    through (ragged k a ∷ ragged k d ∷ ragged k x ∷ inverseChecks w (a / k) (d / k) (x / k)) (Done 0 0)
     (rw (count-is k n x p (l .samples), count-is k (ups n) a p (l .approx), count-is k (downs n) d p (l .details)) (
       whole-passes k (ups n) a (l .approx),
       (
@@ -108,7 +107,10 @@ inverse-fits w k n x a d p l =
           ),
         ),
       ),
-    )))
+    ))
+
+pub inverse-fits : (w : Wavelet) (k n x a d : ℕ) → 0 < k → Level w k n x a d → done (sayInverse w k a d x) ≡ true
+inverse-fits w k n x a d p l = ap done (inverse-says w k n x a d p l)
 
 module _ (w : Wavelet) (k : ℕ) (low high : List ℕ → List ℕ) (x a d : List ℕ) where
   abbrev said : Refusal
