@@ -1,5 +1,5 @@
--- The exact case of document 01 about the bytes of the calls: `multi_dwt` of the float 5/3 filter, and `multi_idwt` on what it gave. Over the format, and the
--- two formats at the end.
+-- The exact case of document 01 about the bytes of the calls: `dwt` and `multi_dwt` of the float 5/3 filter, and `multi_idwt` on what that gave. Over the
+-- format, and the two formats at the end.
 -- Assumes nothing.
 use mathlib.Core.Bool.{true}
 use mathlib.Core.List.{List}
@@ -16,14 +16,27 @@ use Rattle.samples.specs.Floats.{decodeFloats}
 use Rattle.dwt.specs.declared.filter.Filter.the-variants.{Cdf53F32, Cdf53F64}
 use Rattle.dwt.specs.Filters.{widthOf, waveletOf}
 use Rattle.dwt.specs.Pyramids.{roundTrip}
-use Rattle.dwt.specs.Calls.{sayMulti, Multi}
+use Rattle.dwt.specs.Calls.{sayMulti, Multi, sayDwt, Dwt}
 use Rattle.dwt.specs.Backward.{MultiBack}
 use Rattle.dwt.proofs.Multi.{levels-pos}
-use Rattle.dwt.proofs.Lasts.{dwt-gives}
+use Rattle.dwt.proofs.Lasts.{dwt-ready, dwt-gives}
 use Rattle.trips.proofs.ThereAndBack.{Area, LengthsIn, call-depth, call-approx, call-level, trip-call}
 use Rattle.exact.specs.Exact.{Are, Inputs, details2}
-use Rattle.exact.specs.Levels.{filter53, most, after8, times, Exact, samplesIn, numbersIn, deepest, allDetails, SameNumbers, ExactBytes}
+use Rattle.exact.specs.Levels.{filter53, most, after8, times, Exact, samplesIn, numbersIn, deepest, allDetails, ExactLevel, SameNumbers, ExactBytes}
 use Rattle.exact.proofs.Bytes.{highs-are, samples-exact, level-exact, trip-same}
+
+-- `dwt` is done with x
+module _ (f : Format) (j : ℕ) (x : List ℕ) {a d u v : List ℕ} {r : Answer} {a′ d′ u′ v′ : List ℕ} (call : Dwt (filter53 f) j x a d u v r a′ d′ u′ v′)
+    (isDone : done (sayDwt (filter53 f) j (length x) (length a) (length d) (length u) (length v)) ≡ true) where
+  -- where x is the exact case for so many levels or more, both bands are the whole numbers
+  dwt-level : (levels : ℕ) → Exact f levels (decodeFloats f x) (numbersIn f x) → levelsOf j ≤ levels → ExactLevel f (levelsOf j) x a′ d′
+  dwt-level levels e h = let gives = dwt-gives (filter53 f) j x a d u v call isDone in rw (gives .0, gives .1) (level-exact f levels x e (levelsOf j) (levels-pos j) h)
+
+  -- which it is for inputs that are whole and small enough, whether or not `multi_dwt` is called
+  pub exact-dwt : 4 * levelsOf j ≤ prec f → Inputs (most f (levelsOf j)) (decodeFloats f x) → ExactLevel f (levelsOf j) x a′ d′
+  exact-dwt few inputs =
+      let ready = dwt-ready (filter53 f) j (length x) (length a) (length d) (length u) (length v) isDone .0 in
+      dwt-level (levelsOf j) (samples-exact f (levelsOf j) x (ready .deep) few inputs) (omega arith)
 
 -- `multi_dwt` is done with inputs that are whole and small enough, and `multi_idwt` is called on what it gave
 module _ (f : Format) (l : ℕ) (x : List ℕ) {o u v : List ℕ} {r : Answer} {o′ u′ v′ : List ℕ} (call : Multi (filter53 f) l x o u v r o′ u′ v′)
@@ -36,7 +49,7 @@ module _ (f : Format) (l : ℕ) (x : List ℕ) {o u v : List ℕ} {r : Answer} {
     exact-call few inputs = (
       trip .0,
       record {
-        levels-are = λ j h m z. let gives = dwt-gives (filter53 f) j x _ _ _ _ m z in rw (gives .0, gives .1) (level-exact f (levelsOf l) x isExact (levelsOf j) (levels-pos j) h);
+        levels-are = λ j h m z. dwt-level f j x m z (levelsOf l) isExact h;
         deepest-are = rw (call-approx l x call isDone) (level-exact f (levelsOf l) x isExact (levelsOf l) (levels-pos l) (omega arith) .approximations-are);
         details-are = λ i h.
             subst (λ (s : List ℕ). Are (3 * suc i) (2 ^ prec f) (decodeFloats f s) (times 4 (details2 (after8 i (numbersIn f x))))) (sym (call-level l x call isDone i h))
