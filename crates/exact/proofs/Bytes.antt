@@ -1,26 +1,32 @@
 -- From floats to bytes: what the transforms' bytes decode to, for any wavelet and for many levels of 5/3, since every float that a step gives fits the format;
--- and the exact case said of bytes. Over the format.
+-- and the exact case said of bytes, whatever call made them. Over the format.
 -- Assumes nothing.
 use mathlib.Core.List.{List}
-use mathlib.Core.Path.{_≡_, refl, ap, _∙_}
-use Prim.Native.Nat.{ℕ, zero, suc, _+_, _*_, _^_, _≤_, _<_}
+use mathlib.Core.Path.{_≡_, refl, sym, ap, _∙_}
+use Prim.Native.Nat.{ℕ, zero, suc, _+_, _-_, _*_, _/_, _^_, _≤_, _<_}
+use native.Mathlib.Omega.{arith}
 use lib.Dec.{T}
 use lib.Ieee.{nan, Format, binary32, binary64, prec, eq}
 use lib.IntN.{ℤ, pos}
-use lib.ListN.{length, getD}
+use lib.ListN.{length, getD, length-map}
 use Rattle.sizes.specs.declared.Wavelet.{Wavelet}
 use Rattle.sizes.specs.declared.Wavelet.the-variants.{Cdf53}
-use Rattle.samples.specs.Floats.{decodeFloats}
+use Rattle.sizes.specs.Levels.{Runs, depthOf}
+use Rattle.sizes.proofs.Depths.{depth-runs}
+use Rattle.samples.specs.Floats.{width, decodeFloats}
+use Rattle.samples.proofs.FloatLaws.{length-decodeFloats}
 use Rattle.floats.specs.Filters.{stepsOf, backOf}
 use Rattle.floats.specs.Bands.{approxs, details, restored, low, high, back}
 use Rattle.floats.proofs.Fits.{fit-decode, fit-even, fit-odd, fit-joined, fit-runA, fit-runD}
 use Rattle.dwt.specs.Filters as filter
-use Rattle.dwt.specs.Filters.{lowOf, highOf}
+use Rattle.dwt.specs.Filters.{widthOf, waveletOf, lowOf, highOf}
 use Rattle.dwt.specs.Pyramids.{approxAt, roundTrip}
-use Rattle.exact.specs.Exact.{Are, Room, details2, approximations8}
-use Rattle.exact.specs.Levels.{filter53, after, backAfter, after8, times, Exact}
+use Rattle.trips.proofs.Lengths.{length-trip}
+use Rattle.exact.specs.Exact.{Are, Room, Inputs, number, details2, approximations8}
+use Rattle.exact.specs.Levels.{filter53, most, after, backAfter, after8, times, Exact, samplesIn, numbersIn, ExactLevel, SameNumbers}
 use Rattle.exact.proofs.Whole.{is-eq}
 use Rattle.exact.proofs.Level.{details-exact, approximations-exact, inverse-exact}
+use Rattle.exact.proofs.Inputs.{inputs-exact}
 
 module _ (f : Format) where
   -- ---- one level, any wavelet
@@ -107,3 +113,39 @@ module _ (f : Format) (levels : ℕ) (s : List ℕ) (z : List ℤ) (e : Exact f 
 
   pub bytes-equal : (i : ℕ) → i < length z → T (eq (getD (decodeFloats f (roundTrip (filter53 f) levels s)) i nan) (getD (decodeFloats f s) i nan))
   bytes-equal i h = rw (decode-trip f levels s) (e .inputs-back i h)
+
+-- ---- and of samples x, so many levels of which are within the depth
+
+width-53 : (f : Format) → widthOf (filter53 f) ≡ width f
+width-53 binary32 = refl
+width-53 binary64 = refl
+
+wavelet-53 : (f : Format) → waveletOf (filter53 f) ≡ Cdf53
+wavelet-53 binary32 = refl
+wavelet-53 binary64 = refl
+
+-- how many floats the bytes of samples are
+floats-in : (f : Format) (s : List ℕ) → length (decodeFloats f s) ≡ samplesIn f s
+floats-in f s = length-decodeFloats f s ∙ ap (λ (k : ℕ). length s / k) (sym (width-53 f))
+
+-- inputs that are whole and small enough are the exact case
+pub samples-exact : (f : Format) (levels : ℕ) (x : List ℕ) → levels ≤ depthOf (waveletOf (filter53 f)) (samplesIn f x) → 4 * levels ≤ prec f → Inputs (most f levels) (decodeFloats f x)
+    → Exact f levels (decodeFloats f x) (numbersIn f x)
+samples-exact f levels x deep few inputs =
+    let runs : Runs 3 levels (length (decodeFloats f x)) = rw (floats-in f x) (depth-runs 3 (omega arith) levels (samplesIn f x) (rw (wavelet-53 f) at deep)) in
+    inputs-exact f levels few (decodeFloats f x) runs inputs
+
+module _ (f : Format) (levels : ℕ) (x : List ℕ) (e : Exact f levels (decodeFloats f x) (numbersIn f x)) where
+  -- both bands of each level
+  pub level-exact : (l : ℕ) → 0 < l → l ≤ levels → ExactLevel f l x (approxAt (filter53 f) l x) (highOf (filter53 f) (approxAt (filter53 f) (l - 1) x))
+  level-exact zero h g = absurd (omega arith)
+  level-exact (suc l) h g =
+      let below : suc l - 1 ≡ l = omega arith in
+      record { approximations-are = lows-are f levels x (numbersIn f x) e l g; details-are = rw below (highs-are f levels x (numbersIn f x) e l g) }
+
+  -- all levels forward and back
+  pub trip-same : length x ≡ widthOf (filter53 f) * samplesIn f x → SameNumbers f x (roundTrip (filter53 f) levels x)
+  trip-same whole = record {
+    inputs-back = λ i h. bytes-equal f levels x (numbersIn f x) e i (rw (length-map (decodeFloats f x) number, floats-in f x) h);
+    lengths-back = length-trip (filter53 f) levels x (samplesIn f x) whole;
+  }

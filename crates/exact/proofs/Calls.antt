@@ -1,52 +1,42 @@
--- The exact case of document 01 about the bytes of the calls: `multi_dwt` of the float 5/3 filter, and `multi_idwt` on what it gave. Over the format, and the
--- two formats at the end.
+-- The exact case of document 01 about the bytes of the calls: `dwt` and `multi_dwt` of the float 5/3 filter, and `multi_idwt` on what that gave. Over the
+-- format, and the two formats at the end.
 -- Assumes nothing.
 use mathlib.Core.Bool.{true}
 use mathlib.Core.List.{List}
-use mathlib.Core.Path.{_≡_, refl, sym, ap, _∙_}
-use Prim.Native.Nat.{ℕ, zero, suc, _-_, _*_, _/_, _^_, _≤_, _<_}
+use mathlib.Core.Path.{_≡_, sym, subst}
+use Prim.Native.Nat.{ℕ, suc, _-_, _*_, _/_, _^_, _≤_}
 use native.Mathlib.Omega.{arith}
 use lib.Ieee.{Format, binary32, binary64, prec}
-use lib.ListN.{length, length-map}
+use lib.ListN.{length}
 use Rattle.answers.specs.declared.err.Answer.{Answer}
 use Rattle.answers.specs.declared.err.Refusal.the-variants.{Done}
 use Rattle.answers.specs.Answers.{answerOf, done}
-use Rattle.sizes.specs.declared.Wavelet.the-variants.{Cdf53}
-use Rattle.sizes.specs.Levels.{Runs, depthOf, levelsOf}
-use Rattle.sizes.proofs.Depths.{depth-runs}
-use Rattle.samples.specs.Floats.{width, decodeFloats}
-use Rattle.samples.proofs.FloatLaws.{length-decodeFloats}
+use Rattle.sizes.specs.Levels.{depthOf, levelsOf}
+use Rattle.samples.specs.Floats.{decodeFloats}
 use Rattle.dwt.specs.declared.filter.Filter.the-variants.{Cdf53F32, Cdf53F64}
 use Rattle.dwt.specs.Filters.{widthOf, waveletOf}
-use Rattle.dwt.specs.Pyramids.{approxAt, roundTrip}
-use Rattle.dwt.specs.Calls.{sayMulti, Multi}
+use Rattle.dwt.specs.Pyramids.{roundTrip}
+use Rattle.dwt.specs.Calls.{sayMulti, Multi, sayDwt, Dwt}
 use Rattle.dwt.specs.Backward.{MultiBack, Area, LengthsIn}
 use Rattle.dwt.proofs.Multi.{levels-pos}
-use Rattle.dwt.proofs.Lasts.{dwt-gives}
-use Rattle.trips.proofs.Lengths.{length-trip}
-use Rattle.trips.proofs.ThereAndBack.{some-levels, call-depth, call-approx, call-level, trip-call}
-use Rattle.exact.specs.Exact.{Are, Inputs, number}
-use Rattle.exact.specs.Levels.{filter53, most, after8, Exact, samplesIn, numbersIn, deepest, allDetails, ExactBytes}
-use Rattle.exact.proofs.Inputs.{inputs-exact}
-use Rattle.exact.proofs.Bytes.{lows-are, highs-are, bytes-equal}
+use Rattle.dwt.proofs.Lasts.{dwt-ready, dwt-gives}
+use Rattle.trips.proofs.ThereAndBack.{call-depth, call-approx, call-level, trip-call}
+use Rattle.exact.specs.Exact.{Are, Inputs, details2}
+use Rattle.exact.specs.Levels.{filter53, most, after8, times, Exact, samplesIn, numbersIn, deepest, allDetails, ExactLevel, SameNumbers, ExactBytes}
+use Rattle.exact.proofs.Bytes.{highs-are, samples-exact, level-exact, trip-same}
 
-width-53 : (f : Format) → widthOf (filter53 f) ≡ width f
-width-53 binary32 = refl
-width-53 binary64 = refl
+-- `dwt` is done with x
+module _ (f : Format) (j : ℕ) (x : List ℕ) {a d u v : List ℕ} {r : Answer} {a′ d′ u′ v′ : List ℕ} (call : Dwt (filter53 f) j x a d u v r a′ d′ u′ v′)
+    (isDone : done (sayDwt (filter53 f) j (length x) (length a) (length d) (length u) (length v)) ≡ true) where
+  -- where x is the exact case for so many levels or more, both bands are the whole numbers
+  dwt-level : (levels : ℕ) → Exact f levels (decodeFloats f x) (numbersIn f x) → levelsOf j ≤ levels → ExactLevel f (levelsOf j) x a′ d′
+  dwt-level levels e h = let gives = dwt-gives (filter53 f) j x a d u v call isDone in rw (gives .0, gives .1) (level-exact f levels x e (levelsOf j) (levels-pos j) h)
 
-wavelet-53 : (f : Format) → waveletOf (filter53 f) ≡ Cdf53
-wavelet-53 binary32 = refl
-wavelet-53 binary64 = refl
-
--- how many floats the bytes of samples are
-floats-in : (f : Format) (s : List ℕ) → length (decodeFloats f s) ≡ samplesIn f s
-floats-in f s = length-decodeFloats f s ∙ ap (λ (k : ℕ). length s / k) (sym (width-53 f))
-
--- the last level's approximations
-last-are : (f : Format) (levels : ℕ) (x : List ℕ) → 0 < levels → Exact f levels (decodeFloats f x) (numbersIn f x)
-    → Are (3 * levels) (2 ^ prec f) (decodeFloats f (approxAt (filter53 f) levels x)) (after8 levels (numbersIn f x))
-last-are f zero x h e = absurd (omega arith)
-last-are f (suc l) x h e = lows-are f (suc l) x (numbersIn f x) e l (omega arith)
+  -- which it is for inputs that are whole and small enough, whether or not `multi_dwt` is called
+  pub exact-dwt : 4 * levelsOf j ≤ prec f → Inputs (most f (levelsOf j)) (decodeFloats f x) → ExactLevel f (levelsOf j) x a′ d′
+  exact-dwt few inputs =
+      let ready = dwt-ready (filter53 f) j (length x) (length a) (length d) (length u) (length v) isDone .0 in
+      dwt-level (levelsOf j) (samples-exact f (levelsOf j) x (ready .deep) few inputs) (omega arith)
 
 -- `multi_dwt` is done with inputs that are whole and small enough, and `multi_idwt` is called on what it gave
 module _ (f : Format) (l : ℕ) (x : List ℕ) {o u v : List ℕ} {r : Answer} {o′ u′ v′ : List ℕ} (call : Multi (filter53 f) l x o u v r o′ u′ v′)
@@ -59,22 +49,20 @@ module _ (f : Format) (l : ℕ) (x : List ℕ) {o u v : List ℕ} {r : Answer} {
     exact-call few inputs = (
       trip .0,
       record {
-        approximations-are = λ i h m z. rw (dwt-gives (filter53 f) (suc i) x _ _ _ _ m z .0, some-levels (suc i) (omega arith)) (lows-are f (levelsOf l) x (numbersIn f x) isExact i h);
-        deepest-are = rw (call-approx l x call isDone) (last-are f (levelsOf l) x (levels-pos l) isExact);
-        details-are = λ i h. rw (call-level l x call isDone i h) (highs-are f (levelsOf l) x (numbersIn f x) isExact i h);
-        inputs-back = λ i h. rw (trip .1) (bytes-equal f (levelsOf l) x (numbersIn f x) isExact i (rw (length-map (decodeFloats f x) number, floats-in f x) h));
-        lengths-back = ap length (trip .1) ∙ length-trip (filter53 f) (levelsOf l) x (samplesIn f x) (deep .1);
+        levels-are = λ j h m z. dwt-level f j x m z (levelsOf l) isExact h;
+        deepest-are = rw (call-approx l x call isDone) (level-exact f (levelsOf l) x isExact (levelsOf l) (levels-pos l) (omega arith) .approximations-are);
+        details-are = λ i h.
+            subst (λ (s : List ℕ). Are (3 * suc i) (2 ^ prec f) (decodeFloats f s) (times 4 (details2 (after8 i (numbersIn f x))))) (sym (call-level l x call isDone i h))
+            (highs-are f (levelsOf l) x (numbersIn f x) isExact i h);
+        back = subst (SameNumbers f x) (sym (trip .1)) (trip-same f (levelsOf l) x isExact (deep .1));
       },
     )
       where
         deep : (levelsOf l ≤ depthOf (waveletOf (filter53 f)) (samplesIn f x)) × (length x ≡ widthOf (filter53 f) * samplesIn f x)
         deep = call-depth l x call isDone
 
-        runs : Runs 3 (levelsOf l) (length (decodeFloats f x))
-        runs = rw (floats-in f x) (depth-runs 3 (omega arith) (levelsOf l) (samplesIn f x) (rw (wavelet-53 f) at (deep .0)))
-
         isExact : Exact f (levelsOf l) (decodeFloats f x) (numbersIn f x)
-        isExact = inputs-exact f (levelsOf l) few (decodeFloats f x) runs inputs
+        isExact = samples-exact f (levelsOf l) x (deep .0) few inputs
 
         trip : (q ≡ answerOf (Done 0 0)) × (p′ ≡ roundTrip (filter53 f) (levelsOf l) x)
         trip = trip-call l x call isDone lengths output first second back

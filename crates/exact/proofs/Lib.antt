@@ -5,4 +5,5 @@ pub mod Level
 pub mod Many
 pub mod Inputs
 pub mod Bytes
+pub mod OneLevel
 pub mod Calls

@@ -4,23 +4,24 @@
 use mathlib.Core.Bool.{true}
 use mathlib.Core.List.{List, map}
 use mathlib.Core.Path.{_≡_}
-use Prim.Native.Nat.{ℕ, zero, suc, _-_, _*_, _/_, _^_, _<_}
+use Prim.Native.Nat.{ℕ, zero, suc, _-_, _*_, _/_, _^_, _≤_, _<_}
 use lib.Dec.{T}
 use lib.Ieee.{Float, nan, Format, binary32, binary64, prec, eq}
 use lib.IntN.{ℤ, pos, _*ℤ_}
 use lib.ListN.{length, getD, take, drop}
 use Rattle.answers.specs.declared.err.Answer.{Answer}
-use Rattle.answers.specs.Answers.{done}
+use Rattle.answers.specs.declared.err.Refusal.the-variants.{Done}
+use Rattle.answers.specs.Answers.{answerOf, done}
 use Rattle.sizes.specs.declared.Wavelet.the-variants.{Cdf53}
 use Rattle.sizes.specs.Bands.{downs}
-use Rattle.sizes.specs.Levels.{places}
+use Rattle.sizes.specs.Levels.{places, levelsOf}
 use Rattle.samples.specs.Words.{tabulate}
 use Rattle.samples.specs.Floats.{decodeFloats}
 use Rattle.floats.specs.Bands.{approxs, details, restored}
 use Rattle.dwt.specs.declared.filter.Filter.{Filter}
 use Rattle.dwt.specs.declared.filter.Filter.the-variants.{Cdf53F32, Cdf53F64}
 use Rattle.dwt.specs.Filters.{widthOf}
-use Rattle.dwt.specs.Calls.{sayDwt, Dwt}
+use Rattle.dwt.specs.Calls.{OneInverse, sayDwt, Dwt}
 use Rattle.exact.specs.Exact.{Are, number, details2, approximations8}
 
 -- the 5/3 filter of the format
@@ -66,7 +67,7 @@ pub record Exact (f : Format) (levels : ℕ) (x : List Float) (z : List ℤ) : T
   pub inputs-back : (i : ℕ) → i < length z → T (eq (getD (backAfter f levels x) i nan) (getD x i nan))
   pub lengths-back : length (backAfter f levels x) ≡ length x
 
--- ---- the same about the bytes of the calls: x are the samples, y is what `multi_dwt` gave of them, and p what `multi_idwt` gave of y
+-- ---- the same about the bytes of the calls, of samples x
 
 -- how many samples s holds
 abbrev pub samplesIn : Format → List ℕ → ℕ
@@ -76,7 +77,7 @@ samplesIn f s = length s / widthOf (filter53 f)
 abbrev pub numbersIn : Format → List ℕ → List ℤ
 numbersIn f s = map number (decodeFloats f s)
 
--- the deepest approximations in y, which come first, all details, and those of level i + 1
+-- the deepest approximations in what `multi_dwt` gave, y, which come first, all details, and those of level i + 1
 abbrev pub deepest : Format → ℕ → List ℕ → List ℕ → List ℕ
 deepest f levels x y = take (widthOf (filter53 f) * places levels (samplesIn f x)) y
 
@@ -86,15 +87,31 @@ allDetails f levels x y = drop (widthOf (filter53 f) * places levels (samplesIn 
 abbrev pub detailsOf : Format → ℕ → List ℕ → List ℕ → List ℕ
 detailsOf f i x y = take (widthOf (filter53 f) * downs (places i (samplesIn f x))) (drop (widthOf (filter53 f) * places (suc i) (samplesIn f x)) y)
 
-pub record ExactBytes (f : Format) (levels : ℕ) (x y p : List ℕ) : Type 0 where
-  -- each approximation of level i + 1, times 8 ^ (i + 1), is the whole number that the integer steps give: `dwt` of so many levels gives them
-  pub approximations-are : (i : ℕ) → i < levels → {a d u v : List ℕ} {r : Answer} {a′ d′ u′ v′ : List ℕ} → Dwt (filter53 f) (suc i) x a d u v r a′ d′ u′ v′
-      → done (sayDwt (filter53 f) (suc i) (length x) (length a) (length d) (length u) (length v)) ≡ true
-      → Are (3 * suc i) (2 ^ prec f) (decodeFloats f a′) (after8 (suc i) (numbersIn f x))
-  -- those of the last level stand in y
-  pub deepest-are : Are (3 * levels) (2 ^ prec f) (decodeFloats f (deepest f levels x y)) (after8 levels (numbersIn f x))
-  -- and so is each detail in y
-  pub details-are : (i : ℕ) → i < levels → Are (3 * suc i) (2 ^ prec f) (decodeFloats f (detailsOf f i x y)) (times 4 (details2 (after8 i (numbersIn f x))))
-  -- the inverse gives the inputs back, numerically
+-- a and d are the approximations and the details of level l of the samples x, l being 1 or more: each, times 8 ^ l, is the whole number that the integer steps
+-- give, a detail as four times what is twice the detail of inputs that are times 8 ^ (l - 1)
+pub record ExactLevel (f : Format) (l : ℕ) (x a d : List ℕ) : Type 0 where
+  pub approximations-are : Are (3 * l) (2 ^ prec f) (decodeFloats f a) (after8 l (numbersIn f x))
+  pub details-are : Are (3 * l) (2 ^ prec f) (decodeFloats f d) (times 4 (details2 (after8 (l - 1) (numbersIn f x))))
+
+-- p are the samples x, numerically
+pub record SameNumbers (f : Format) (x p : List ℕ) : Type 0 where
   pub inputs-back : (i : ℕ) → i < samplesIn f x → T (eq (getD (decodeFloats f p) i nan) (getD (decodeFloats f x) i nan))
   pub lengths-back : length p ≡ length x
+
+-- one level: a and d are what the forward call gave of x
+pub record ExactOne (f : Format) (x a d : List ℕ) : Type 0 where
+  pub bands-are : ExactLevel f 1 x a d
+  -- the inverse on them, into an output as long as x, is done and gives the inputs back
+  pub back : {o : List ℕ} {q : Answer} {o′ : List ℕ} → length o ≡ length x → OneInverse (filter53 f) a d o q o′ → (q ≡ answerOf (Done 0 0)) × SameNumbers f x o′
+
+-- many levels: y is what `multi_dwt` gave of x, and p what `multi_idwt` gave of y
+pub record ExactBytes (f : Format) (levels : ℕ) (x y p : List ℕ) : Type 0 where
+  -- of each level `dwt` gives both bands; 0 levels are one
+  pub levels-are : (j : ℕ) → levelsOf j ≤ levels → {a d u v : List ℕ} {r : Answer} {a′ d′ u′ v′ : List ℕ} → Dwt (filter53 f) j x a d u v r a′ d′ u′ v′
+      → done (sayDwt (filter53 f) j (length x) (length a) (length d) (length u) (length v)) ≡ true → ExactLevel f (levelsOf j) x a′ d′
+  -- the approximations of the last level stand in y
+  pub deepest-are : Are (3 * levels) (2 ^ prec f) (decodeFloats f (deepest f levels x y)) (after8 levels (numbersIn f x))
+  -- and the details of each
+  pub details-are : (i : ℕ) → i < levels → Are (3 * suc i) (2 ^ prec f) (decodeFloats f (detailsOf f i x y)) (times 4 (details2 (after8 i (numbersIn f x))))
+  -- the inverse gives the inputs back
+  pub back : SameNumbers f x p

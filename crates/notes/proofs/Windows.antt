@@ -5,7 +5,7 @@ use mathlib.Core.Path.{_≡_, refl, sym, ap, _∙_}
 use Prim.Native.Nat.{ℕ, _+_, _-_, _*_, _/_, _≤_, _<_}
 use native.Mathlib.Nat.{add-comm, mul-add, mul-le-mul-left}
 use native.Mathlib.Omega.{arith}
-use borrow.Author.Tests.{le-ltb, ltb-false, eqb-false, ne-eqb}
+use borrow.Author.Tests.{le-ltb, ltb-false, eqb-false, eq-eqb, ne-eqb}
 use lib.Dec.{eqb}
 use lib.ListN.{length, take, drop, getD, length-take, length-drop}
 use lib.Seq.{getD-take, getD-drop}
@@ -16,9 +16,17 @@ use Rattle.answers.specs.declared.err.Refusal.the-variants.{Done}
 use Rattle.answers.specs.Answers.{answerOf, done}
 use Rattle.answers.specs.Checks.{ragged}
 use Rattle.answers.proofs.Passed.{passing, through, whole}
+use Rattle.answers.proofs.Chain.{by, stop}
 use Rattle.answers.proofs.Endings.{is-done, not-done}
 use Rattle.sizes.proofs.OneLevel.{whole-passes}
 use Rattle.notes.specs.Windows.{bandOf, stretchChecks, sayWindow, windowIn, windowAt}
+
+-- which of the two was asked for: the approximations by 0, the details by any other number
+pub asked-approx : {A : Type 0} (band : ℕ) (a d : A) → band ≡ 0 → a ≡ bandOf band a d
+asked-approx band a d h = stop d (eq-eqb band 0 h) refl
+
+pub asked-details : {A : Type 0} (band : ℕ) (a d : A) → (band ≡ 0 → ⊥) → d ≡ bandOf band a d
+asked-details band a d h = by a (ne-eqb band 0 h) refl
 
 -- a window that fits: both lengths are whole, and it is some samples within the band
 pub record Fits (k a d band start count : ℕ) : Type 0 where

@@ -148,7 +148,7 @@ module _ {f : Filter} (l : ℕ) (x : List ℕ) {o u v : List ℕ} {r : Answer} {
 -- ---- `multi_idwt` is done with the bands a and d
 
 -- one level or more is as many levels
-pub some-levels : (c : ℕ) → 0 < c → levelsOf c ≡ c
+some-levels : (c : ℕ) → 0 < c → levelsOf c ≡ c
 some-levels c h = rw (ne-eqb c 0 (λ z. omega arith))
 
 module _ {f : Filter} (a d ls : List ℕ) {o u v : List ℕ} {r : Answer} {o′ u′ v′ : List ℕ} (call : MultiBack f a d ls o u v r o′ u′ v′)

@@ -1,9 +1,7 @@
 -- `asked_length` meets its contract. Assumes nothing.
-use borrow.Author.Tests.{eq-eqb, ne-eqb}
-use mathlib.Core.Path.{refl}
-use Rattle.answers.proofs.Chain.{by, stop}
+use Rattle.notes.proofs.Windows.{asked-approx, asked-details}
 use Rattle.notes.proofs.window.asked_length.Statement.{statement}
 use Rattle.notes.proofs.window.asked_length.Tie as tie
 
 pub asked-length-spec : {M : Type 1} → statement M
-asked-length-spec = tie.close (tie.spec (λ c. stop _ (eq-eqb _ 0 (c .if1 .taken)) refl) (λ c. by _ (ne-eqb _ 0 (c .if1 .left)) refl))
+asked-length-spec = tie.close (tie.spec (λ c. asked-approx _ _ _ (c .if1 .taken)) (λ c. asked-details _ _ _ (c .if1 .left)))
