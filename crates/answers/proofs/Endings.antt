@@ -38,8 +38,3 @@ untouched s k a = refl
 pub spared-refused : (s : Refusal) (k : ℕ) (before after : List ℕ) → done s ≡ false → Spared s k before after → after ≡ before
 unfolding Spared
 spared-refused s k before after e h = rw e at h
-
--- after a done call it is what it was from k on
-pub spared-done : (s : Refusal) (k : ℕ) (before after : List ℕ) → done s ≡ true → Spared s k before after → drop k after ≡ drop k before
-unfolding Spared
-spared-done s k before after e h = rw e at h

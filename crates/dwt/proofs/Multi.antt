@@ -14,7 +14,7 @@ use Rattle.answers.specs.declared.err.Refusal.the-variants.{Done, BufferWasTooS
 use Rattle.answers.specs.Answers.{answerOf, done}
 use Rattle.answers.specs.Checks.{ragged, Spared}
 use Rattle.answers.proofs.Passed.{passing, whole, roomy, right}
-use Rattle.answers.proofs.Endings.{left-done, left-refused, spared, untouched, spared-done}
+use Rattle.answers.proofs.Endings.{left-done, left-refused, spared, untouched}
 use Rattle.sizes.specs.Bands.{mostSamples}
 use Rattle.sizes.specs.Levels.{depthOf, levelsOf}
 use Rattle.dwt.specs.declared.filter.Filter.{Filter}

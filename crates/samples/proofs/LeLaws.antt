@@ -37,9 +37,6 @@ leAt-same (suc k) s t p q h =
 pub leAt-skip : (k : ℕ) (xs ys : List ℕ) (p : ℕ) → leAt k (xs ++ ys) (length xs + p) ≡ leAt k ys p
 leAt-skip k xs ys p = leAt-same k (xs ++ ys) ys (length xs + p) p (λ i l. rw add-assoc (getD-append-add xs ys (p + i) 0))
 
-pub leAt-front : (k : ℕ) (xs ys : List ℕ) (p : ℕ) → p + k ≤ length xs → leAt k (xs ++ ys) p ≡ leAt k xs p
-leAt-front k xs ys p h = leAt-same k (xs ++ ys) xs p p (λ i l. List·getD-append xs ys 0 (p + i) (omega arith))
-
 pub leAt-drop : (k : ℕ) (q : ℕ) (s : List ℕ) (p : ℕ) → leAt k (drop q s) p ≡ leAt k s (q + p)
 leAt-drop k q s p = leAt-same k (drop q s) s p (q + p) (λ i l. rw add-assoc (getD-drop q s (p + i) 0))
 
