@@ -7,7 +7,7 @@ use native.Mathlib.Nat.{add-assoc, add-zero, zero-add, suc-add, mul-assoc, pow-s
 use native.Mathlib.Numerals.{add-one}
 use native.Mathlib.Omega.{arith}
 use lib.Arith.{mod-mul}
-use lib.ListN.{length, getD, take, drop, set, List·getD-append}
+use lib.ListN.{length, getD, take, drop, set}
 use lib.Seq.{sets, sets-eq, length-sets, getD-append-add, getD-drop, getD-take, getD-set-other, drop-cons, length-take-le}
 use Rattle.samples.specs.Le.{leAt, leBytes, stored, Bytes}
 
