@@ -85,6 +85,13 @@ pub record Dwt (f : Filter) (l : ℕ) (x a d u v : List ℕ) (r : Answer) (a′ 
   pub first : Spared (sayDwt f l (length x) (length a) (length d) (length u) (length v)) (length x) u u′
   pub second : Spared (sayDwt f l (length x) (length a) (length d) (length u) (length v)) (length x) v v′
 
+-- two areas of u and v bytes have room for n samples, of which l levels run
+pub record Room (f : Filter) (l n u v : ℕ) : Type 0 where
+  pub deep : l ≤ depthOf (waveletOf f) n
+  pub short : n ≤ mostSamples
+  pub first : widthOf f * n ≤ u
+  pub second : widthOf f * n ≤ v
+
 -- what the checks leave for the levels: n samples, l levels within the depth, and byte lengths of the signal and of two work areas
 pub record Ready (f : Filter) (l n x u v : ℕ) : Type 0 where
   pub some : 0 < l

@@ -4,10 +4,10 @@ ghost use Prim.Native.Nat.{_-_, _*_, _≤_};
 ghost use lib.ListN.{length, take, drop};
 ghost use Rattle.answers.specs.Checks.{firstOf};
 ghost use Rattle.sizes.specs.Bands.{mostSamples, ups, smallestOf};
-ghost use Rattle.sizes.specs.Levels.{places, depthOf};
+ghost use Rattle.sizes.specs.Levels.{places};
 ghost use Rattle.dwt.specs.Filters.{widthOf, waveletOf, lowOf};
 ghost use Rattle.dwt.specs.Pyramids.{approxAt};
-ghost use Rattle.dwt.specs.Calls.{dwtChecks, sayDwt, Dwt};
+ghost use Rattle.dwt.specs.Calls.{Room, dwtChecks, sayDwt, Dwt};
 use crate::filter::Filter;
 use crate::filter::bytes_of;
 use crate::filter::execute_forward;
@@ -43,10 +43,7 @@ fn level_within(f: Filter, n: usize, one: &mut [u8], two: &mut [u8])
 
 // So many levels of the n samples in front of `one`.
 fn descend(f: Filter, levels: usize, n: usize, one: &mut [u8], two: &mut [u8])
-    requires { ⌜ levels ≤ depthOf (waveletOf f) n ⌝ }
-    requires { ⌜ n ≤ mostSamples ⌝ }
-    requires { ⌜ widthOf f * n ≤ length (now one) ⌝ }
-    requires { ⌜ widthOf f * n ≤ length (now two) ⌝ }
+    requires { ⌜ Room f levels n (length (now one)) (length (now two)) ⌝ }
     ensures { λ _. ⌜ take (widthOf f * places levels n) (now (one .exit)) ≡ approxAt f levels (take (widthOf f * n) (now (one .entry))) ⌝ }
     ensures { λ _. ⌜ drop (widthOf f * n) (now (one .exit)) ≡ drop (widthOf f * n) (now (one .entry)) ⌝ }
     ensures { λ _. ⌜ drop (widthOf f * n) (now (two .exit)) ≡ drop (widthOf f * n) (now (two .entry)) ⌝ }

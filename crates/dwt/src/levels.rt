@@ -5,10 +5,9 @@ ghost use Prim.Native.Nat.{_*_, _<_, _≤_, _^_};
 ghost use lib.ListN.{length, take, drop};
 ghost use Rattle.answers.specs.Checks.{firstOf};
 ghost use Rattle.sizes.specs.Bands.{mostSamples, ups, downs, smallestOf};
-ghost use Rattle.sizes.specs.Levels.{depthOf};
 ghost use Rattle.dwt.specs.Filters.{widthOf, waveletOf, lowOf, highOf};
 ghost use Rattle.dwt.specs.Pyramids.{pyramid};
-ghost use Rattle.dwt.specs.Calls.{short, multiChecks, sayMulti, Multi, Ready, Cut};
+ghost use Rattle.dwt.specs.Calls.{short, multiChecks, sayMulti, Multi, Room, Ready, Cut};
 use crate::filter::Filter;
 use crate::filter::execute_forward;
 use crate::filter::wavelet;
@@ -49,10 +48,7 @@ fn level(f: Filter, n: usize, x: &[u8], to: &mut [u8], out: &mut [u8])
 
 // The levels below one: `from` holds n samples in front, `to` is room, and the two change roles at each level. Details go straight to their place.
 fn down(f: Filter, levels: usize, n: usize, from: &mut [u8], to: &mut [u8], out: &mut [u8])
-    requires { ⌜ levels ≤ depthOf (waveletOf f) n ⌝ }
-    requires { ⌜ n ≤ mostSamples ⌝ }
-    requires { ⌜ widthOf f * n ≤ length (now from) ⌝ }
-    requires { ⌜ widthOf f * n ≤ length (now to) ⌝ }
+    requires { ⌜ Room f levels n (length (now from)) (length (now to)) ⌝ }
     requires { ⌜ length (now out) ≡ widthOf f * n ⌝ }
     ensures { λ _. ⌜ now (out .exit) ≡ pyramid f levels (take (widthOf f * n) (now (from .entry))) ⌝ }
     ensures { λ _. ⌜ drop (widthOf f * n) (now (from .exit)) ≡ drop (widthOf f * n) (now (from .entry)) ⌝ }

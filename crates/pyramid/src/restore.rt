@@ -4,8 +4,8 @@ ghost use mathlib.Core.Path.{_≡_};
 ghost use Prim.Native.Nat.{_+_, _*_, _≤_};
 ghost use lib.ListN.{length, take, drop};
 ghost use Rattle.sizes.specs.Bands.{mostSamples, ups, downs, smallestOf};
-ghost use Rattle.sizes.specs.Levels.{depthOf};
 ghost use Rattle.dwt.specs.Filters.{widthOf, waveletOf, backOf};
+ghost use Rattle.dwt.specs.Calls.{Room};
 ghost use Rattle.pyramid.specs.Files.{bodySize};
 ghost use Rattle.pyramid.specs.Walks.{bytesAt, restoredOf};
 use dwt::back;
@@ -52,11 +52,8 @@ pub fn restore(
     to: &mut [u8],
     other: &mut [u8],
 )
-    requires { ⌜ levels ≤ depthOf (waveletOf f) n ⌝ }
-    requires { ⌜ n ≤ mostSamples ⌝ }
+    requires { ⌜ Room f levels n (length (now to)) (length (now other)) ⌝ }
     requires { ⌜ at + bodySize (widthOf f) levels n ≤ length (now s) ⌝ }
-    requires { ⌜ widthOf f * n ≤ length (now to) ⌝ }
-    requires { ⌜ widthOf f * n ≤ length (now other) ⌝ }
     ensures { λ _. ⌜ now (to .exit) ≡ restoredOf f (now (s .entry)) levels n at ++ drop (widthOf f * n) (now (to .entry)) ⌝ }
     ensures { λ _. ⌜ drop (widthOf f * n) (now (other .exit)) ≡ drop (widthOf f * n) (now (other .entry)) ⌝ }
     ensures { λ _. ⌜ length (restoredOf f (now (s .entry)) levels n at) ≡ widthOf f * n ⌝ }

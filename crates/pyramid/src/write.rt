@@ -6,9 +6,8 @@ ghost use lib.ListN.{length, take, drop};
 ghost use Rattle.answers.specs.Checks.{firstOf};
 ghost use Rattle.samples.specs.Le.{leBytes};
 ghost use Rattle.sizes.specs.Bands.{mostSamples, ups, downs, smallestOf};
-ghost use Rattle.sizes.specs.Levels.{depthOf};
 ghost use Rattle.dwt.specs.Filters.{Integers, widthOf, waveletOf, lowOf, highOf};
-ghost use Rattle.dwt.specs.Calls.{Ready};
+ghost use Rattle.dwt.specs.Calls.{Room, Ready};
 ghost use Rattle.pyramid.specs.Files.{sectionOf, headCount, headSize, bodyOf, bodySize, fileSize, fileOf};
 ghost use Rattle.pyramid.specs.Writes.{writeChecks, sayWrite, Write};
 use answers::err::Answer;
@@ -77,10 +76,7 @@ fn lay_level(f: Filter, n: usize, at: usize, x: &[u8], to: &mut [u8], out: &mut 
 
 // The sections after the head: `from` holds n samples in front, `to` is room, and the two change roles at each level.
 fn lay(f: Filter, levels: usize, n: usize, from: &mut [u8], to: &mut [u8], out: &mut [u8])
-    requires { ⌜ levels ≤ depthOf (waveletOf f) n ⌝ }
-    requires { ⌜ n ≤ mostSamples ⌝ }
-    requires { ⌜ widthOf f * n ≤ length (now from) ⌝ }
-    requires { ⌜ widthOf f * n ≤ length (now to) ⌝ }
+    requires { ⌜ Room f levels n (length (now from)) (length (now to)) ⌝ }
     requires { ⌜ length (now out) ≡ bodySize (widthOf f) levels n ⌝ }
     ensures { λ _. ⌜ now (out .exit) ≡ bodyOf f levels n (take (widthOf f * n) (now (from .entry))) ⌝ }
     ensures { λ _. ⌜ drop (widthOf f * n) (now (from .exit)) ≡ drop (widthOf f * n) (now (from .entry)) ⌝ }

@@ -45,7 +45,7 @@ level-within-requires c κs =
     let l = c .before .before .before .loop in
     let w = waveletOf (st .args .f) in
     let b = below (c .before .before) in
-    let h = long-enough (smallestOf w) (two-below w) (st .args .levels) (l .i) (st .args .n) (st .pre .0) (omega (arith, c .before .before .loop-test)) in
+    let h = long-enough (smallestOf w) (two-below w) (st .args .levels) (l .i) (st .args .n) (st .pre .deep) (omega (arith, c .before .before .loop-test)) in
     (omega (arith, h, l .inv .1), (omega (arith, b, st .pre), (omega (arith, b, st .pre, l .inv .5), omega (arith, b, st .pre, l .inv .6))))
 
 loop-again : tie.Need-loop-again Inv-loop μ-loop

@@ -45,7 +45,7 @@ above c = ap (λ l. l - 1) (c .at-least-one .ensures)
 descend-requires : tie.Need-descend-requires
 descend-requires c κs =
     let r = ready (c .before .before .before .before .before .before .before .before) .0 in
-    rw (samples (c .before .before .before .before .before .before .before), above (c .before .before .before .before .before .before)) (omega (arith, r .deep), (r .short, (omega (arith, r .first, c .before .before .before .before .copy .kept .1 .0), r .second)))
+    rw (samples (c .before .before .before .before .before .before .before), above (c .before .before .before .before .before .before)) (record { deep = omega (arith, r .deep); short = r .short; first = omega (arith, r .first, c .before .before .before .before .copy .kept .1 .0); second = r .second })
 
 -- the last level's input, its number and its bytes
 input : (c : tie.After-places-of) → let a = c .before .before .before .before .before .before .before .before .before .before .before .before .before .before .before .before .before .before .before .before .before .before .before .args in c .places-of .result ≡ places (levelsOf (a .levels) - 1) (length (a .signal .now) / widthOf (a .f))

@@ -92,7 +92,7 @@ down-down-requires t c κs =
     let cut = c .before .before .before .cut-of .ensures in
     let out : length (take (c .before .before .before .cut-of .result) (c .before .before .before .before .before .before .before .before .level .last .1 .1 .1 .1 .0)) ≡ widthOf (a .f) * ups (a .n) =
     length-take-le (c .before .before .before .cut-of .result) (c .before .before .before .before .before .before .before .before .level .last .1 .1 .1 .1 .0) (omega (arith, cut, st .pre, c .before .before .before .before .before .before .before .before .level .kept)) ∙ cut .place in
-    (omega arith, (s .1, (omega arith, (omega (arith, cut, st .pre, c .before .before .before .before .before .before .before .before .level .kept), (omega (arith, cut, st .pre), out)))))
+    (omega arith, (record { deep = s .1; short = omega arith; first = omega (arith, cut, st .pre, c .before .before .before .before .before .before .before .before .level .kept); second = omega (arith, cut, st .pre) }, out))
 
 down-same-length : (t : ℕ) → down-lts.Need-same-length (claims t) (down-at t) down.Post
 down-same-length t c = search needs
@@ -108,7 +108,7 @@ down-returns t c =
       c .before .before .copy .ensures .1
           ∙ copied s (a .out .now) (length-take-le (length (a .out .now)) (a .from .now) (omega arith))
           ∙ sym (pyramid-none (a .f) (a .levels) s (c .before .before .before .before .before .if1 .taken))
-          ∙ ap (λ (k : ℕ). pyramid (a .f) (a .levels) (take k (a .from .now))) (st .pre .1 .1 .1 .1 .1),
+          ∙ ap (λ (k : ℕ). pyramid (a .f) (a .levels) (take k (a .from .now))) (st .pre .1 .1),
       (refl, refl),
     )
 
@@ -138,7 +138,7 @@ down-returns-2 t c =
           ∙ ap (λ (k : ℕ). r ++ drop k (take w (a .out .now) ++ highOf (a .f) x)) (cu .ensures .place)
           ∙ pyramid-more (a .f) (a .levels) x (a .out .now) (drop w (a .to .now)) r w (c .before .before .before .before .before .before .before .before .before .before .before .before .before .before .before .before .before .before .before .if1 .left) inside long
           (dn .ensures .0 ∙ ap (λ (l : List ℕ). pyramid (a .f) (a .levels - 1) (take w l)) (lv .ensures .0))
-          ∙ ap (λ (k : ℕ). pyramid (a .f) (a .levels) (take k (a .from .now))) (st .pre .1 .1 .1 .1 .1),
+          ∙ ap (λ (k : ℕ). pyramid (a .f) (a .levels) (take k (a .from .now))) (st .pre .1 .1),
       (
         later w (widthOf (a .f) * a .n) _ _ below (dn .ensures .1 .1),
         later w (widthOf (a .f) * a .n) _ _ below

@@ -52,7 +52,7 @@ down-requires c κs =
     let cut = c .before .before .before .cut-of .ensures in
     let out : length (take (c .before .before .before .cut-of .result) (c .before .before .before .before .before .before .before .before .level .last .1 .1 .1 .1 .0)) ≡ widthOf (a .f) * ups (a .n) =
     length-take-le (c .before .before .before .cut-of .result) (c .before .before .before .before .before .before .before .before .level .last .1 .1 .1 .1 .0) (omega (arith, cut, st .pre, c .before .before .before .before .before .before .before .before .level .kept)) ∙ cut .place in
-    (s .1, (omega (arith, st .pre .0 .short), (omega (arith, cut, st .pre .0, c .before .before .before .before .before .before .before .before .level .kept), (omega (arith, cut, st .pre .0), out))))
+    (record { deep = s .1; short = omega (arith, st .pre .0 .short); first = omega (arith, cut, st .pre .0, c .before .before .before .before .before .before .before .before .level .kept); second = omega (arith, cut, st .pre .0) }, out)
 
 same-length : tie.Need-same-length
 same-length c = search needs

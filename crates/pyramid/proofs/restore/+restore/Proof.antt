@@ -54,7 +54,7 @@ level : (t : ℕ) (st : restore-lts.Start (claims t) (restore-at t) restore.Post
     → let a = st .args in (smallestOf (waveletOf (a .f)) ≤ a .n) × (a .levels - 1 ≤ depthOf (waveletOf (a .f)) (ups (a .n)))
 level t st h =
     let a = st .args in
-    let e : suc (a .levels - 1) ≤ depthOf (waveletOf (a .f)) (a .n) = omega (arith, st .pre .1 .0, h) in
+    let e : suc (a .levels - 1) ≤ depthOf (waveletOf (a .f)) (a .n) = omega (arith, st .pre .1 .0 .deep, h) in
     step (smallestOf (waveletOf (a .f))) (two-below (waveletOf (a .f))) (a .levels - 1) (a .n) e
 
 restore-fetch-requires : (t : ℕ) → restore-lts.Need-fetch-requires (claims t) (restore-at t) restore.Post
@@ -72,7 +72,7 @@ restore-restore-requires t c κs =
     let a = st .args in
     let w = split-width (widthOf (a .f)) (a .n) in
     let s = level t st (c .before .before .if1 .left) in
-    (omega arith, (s .1, (omega arith, (omega arith, (omega arith, omega arith)))))
+    (omega arith, (record { deep = s .1; short = omega arith; first = omega arith; second = omega arith }, omega arith))
 
 restore-cut-of-requires : (t : ℕ) → restore-lts.Need-cut-of-requires (claims t) (restore-at t) restore.Post
 restore-cut-of-requires t c κs = omega arith

@@ -53,7 +53,7 @@ lay-bytes-of-requires : (t : ℕ) → lay-lts.Need-bytes-of-requires (claims t) 
 lay-bytes-of-requires t c κs =
     let st = c .before .before .before in
     let a = st .args in
-    width-room (a .f) (a .n) (st .pre .1 .1 .0)
+    width-room (a .f) (a .n) (st .pre .1 .0 .short)
 
 lay-slice-reshare-prefix-lay-deepest : (t : ℕ) → lay-lts.Need-slice-reshare-prefix-lay-deepest (claims t) (lay-at t) lay.Post
 lay-slice-reshare-prefix-lay-deepest t c = omega (arith, c .before .bytes-of .ensures)
@@ -67,7 +67,7 @@ lay-lay-deepest-requires t c κs =
     let a = st .args in
     let all = c .before .before .before .bytes-of in
     let none = c .before .before .if1 .taken in
-    (st .pre .1 .1 .0, omega (arith, st .pre, none, all .ensures, length-take-le (all .result) (a .from .now) (omega (arith, st .pre, all .ensures))))
+    (st .pre .1 .0 .short, omega (arith, st .pre, none, all .ensures, length-take-le (all .result) (a .from .now) (omega (arith, st .pre, all .ensures))))
 
 lay-add-half : (t : ℕ) → lay-lts.Need-add-half (claims t) (lay-at t) lay.Post
 lay-add-half t c = search needs
@@ -79,7 +79,7 @@ lay-body-size-requires : (t : ℕ) → lay-lts.Need-body-size-requires (claims t
 lay-body-size-requires t c κs =
     let st = c .before .before .before .before .before in
     let a = st .args in
-    (omega (arith, few-levels (waveletOf (a .f)) (a .levels) (a .n) (st .pre .1 .0) (st .pre .1 .1 .0)), omega (arith, st .pre .1 .1 .0))
+    (omega (arith, few-levels (waveletOf (a .f)) (a .levels) (a .n) (st .pre .1 .0 .deep) (st .pre .1 .0 .short)), omega (arith, st .pre .1 .0 .short))
 
 lay-slice-reshare-prefix-lay-level : (t : ℕ) → lay-lts.Need-slice-reshare-prefix-lay-level (claims t) (lay-at t) lay.Post
 lay-slice-reshare-prefix-lay-level t c = omega (arith, c .before .before .bytes-of .ensures)
@@ -97,7 +97,7 @@ lay-lay-level-requires t c κs =
     let h : suc (a .levels - 1) ≤ depthOf (waveletOf (a .f)) (a .n) = omega (arith, st .pre, none) in
     let s = step (smallestOf (waveletOf (a .f))) (two-below (waveletOf (a .f))) (a .levels - 1) (a .n) h in
     let long : length (take (all .result) (a .from .now)) ≡ widthOf (a .f) * a .n = length-take-le (all .result) (a .from .now) (omega (arith, st .pre, all .ensures)) ∙ all .ensures in
-    (s .0, (st .pre .1 .1 .0, (long, (st .pre .1 .1 .1 .1 .0, st .pre .1 .1 .1 .1 .1 ∙ size-more (widthOf (a .f)) (a .levels) (a .n) none ∙ omega (arith, at)))))
+    (s .0, (st .pre .1 .0 .short, (long, (st .pre .1 .0 .second, st .pre .1 .1 ∙ size-more (widthOf (a .f)) (a .levels) (a .n) none ∙ omega (arith, at)))))
 
 lay-sub-lay : (t : ℕ) → lay-lts.Need-sub-lay (claims t) (lay-at t) lay.Post
 lay-sub-lay t c = search needs
@@ -128,7 +128,7 @@ lay-lay-requires t c κs =
     let split = split-width (widthOf (a .f)) (a .n) in
     let out : length (take (at .result) (lv .last .1 .1 .1 .1 .1 .0)) ≡ bodySize (widthOf (a .f)) (a .levels - 1) (ups (a .n)) =
     length-take-le (at .result) (lv .last .1 .1 .1 .1 .1 .0) (omega (arith, st .pre, at .ensures, lv .kept, size-more (widthOf (a .f)) (a .levels) (a .n) none)) ∙ at .ensures in
-    (omega (arith, st .pre .0, none), (s .1, (omega (arith, st .pre .1 .1 .0), (omega (arith, split, st .pre, lv .kept), (omega (arith, split, st .pre), out)))))
+    (omega (arith, st .pre .0, none), (record { deep = s .1; short = omega (arith, st .pre .1 .0 .short); first = omega (arith, split, st .pre, lv .kept); second = omega (arith, split, st .pre) }, out))
 
 lay-same-length : (t : ℕ) → lay-lts.Need-same-length (claims t) (lay-at t) lay.Post
 lay-same-length t c = search needs
