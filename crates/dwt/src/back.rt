@@ -195,7 +195,7 @@ fn check_back(
     back_lengths(f, a / k, d / k, lengths, out / k, one / k, two / k)
 }
 
-// One level back to n samples, into the whole of `to`.
+// One level back to n samples, into the whole of `to`. It cannot refuse: these lengths are a level's.
 pub fn restore(f: Filter, n: usize, a: &[u8], d: &[u8], to: &mut [u8])
     requires { ⌜ Level (waveletOf f) (widthOf f) n (length (now to)) (length (now a)) (length (now d)) ⌝ }
     ensures { λ _. ⌜ now (to .exit) ≡ backOf f (now (a .entry)) (now (d .entry)) ⌝ }

@@ -30,7 +30,7 @@ pub fn cut_of(f: Filter, n: usize) -> usize
     width(f) * approx_length(n)
 }
 
-// One level: the approximations to the front of `to`, the details to the end of `out`.
+// One level: the approximations to the front of `to`, the details to the end of `out`. It cannot refuse: these lengths are a level's.
 fn level(f: Filter, n: usize, x: &[u8], to: &mut [u8], out: &mut [u8])
     requires { ⌜ smallestOf (waveletOf f) ≤ n ⌝ }
     requires { ⌜ length (now x) ≡ widthOf f * n ⌝ }

@@ -40,7 +40,9 @@ restore-requires : tie.Need-restore-requires
 restore-requires c κs =
     let a = c .before .before .before .before .before .before .before .before .before .before .before .before .before .before .before .before .args in
     let r = ready (c .before .before .before .before .before .before .before .before) in
-    rw (c .before .before .filter-of .ensures, filter-wavelet (a .w), filter-width (a .w) (r .head .known), details (c .before .before .before .before .before), count (c .before .before .before)) (record { deep = r .deep; short = r .short; first = r .output; second = r .first }, r .held)
+    let w = filter-width (a .w) (r .head .known) in
+    rw (c .before .before .filter-of .ensures, details (c .before .before .before .before .before), count (c .before .before .before))
+    (record { deep = rw (filter-wavelet (a .w)) (r .deep); short = r .short; first = rw w (r .output); second = rw w (r .first) }, rw w (r .held))
 
 returns : tie.Need-returns
 unfolding samplesIn
