@@ -2,7 +2,6 @@ pub mod Extension
 pub mod T800
 pub mod StepLaws
 pub mod Turns
-pub mod Insides
 pub mod Undo
 pub mod Round
 pub mod Ready

@@ -6,10 +6,15 @@ use Prim.Native.Nat.{ℕ, _+_, _-_, _*_, _/_, _%_, _^_, _<_}
 use native.Mathlib.Nat.{mod-lt, mod-add-mod}
 use native.Mathlib.Omega.{arith}
 use lib.IntN.{pos, _+ℤ_, _-ℤ_}
+use lib.Bits.{bitAnd, bitXor, xor-add-and}
 use lib.Signed.{shrZ}
 use Rattle.samples.specs.Integers.{Width, quarter, val, residue}
 use Rattle.samples.proofs.Diff.{sub-same, pos-sub, sub-add, sub-sub, floor-half, floor-quarter, residue-sub}
 use Rattle.samples.proofs.IntegerLaws.{bias, val-sub}
+
+-- half a sum, rounded down, is what both have and half of what one has
+pub half-law : (p q : ℕ) → bitAnd p q + bitXor p q / 2 ≡ (p + q) / 2
+half-law p q = omega (arith, xor-add-and p q)
 
 -- a word that half of all words was added to
 pub biased : (x : ℕ) {k q p : ℕ} → Width k → q ≡ quarter k → p ≡ (x + 2 * q) % 256 ^ k → p ≡ bias (quarter k) x

@@ -1,19 +1,39 @@
 -- What a turn of each loop stores, once over the width: the word of a coefficient from the words that the code reads.
 -- Assumes nothing.
-use mathlib.Core.Path.{_≡_, refl, ap, subst, _∙_}
+use mathlib.Core.Path.{_≡_, refl, sym, ap, subst, _∙_}
 use mathlib.Core.List.{List}
-use Prim.Native.Nat.{ℕ, _+_, _-_, _*_, _/_, _%_, _^_, _<_, min}
+use mathlib.Core.Logic.{⊎-elim}
+use Prim.Native.Nat.{ℕ, _+_, _-_, _*_, _/_, _%_, _^_, _≤_, _<_, min}
+use native.Mathlib.Nat.{mul-suc, mul-le-mul-left, mod-eq-of-lt}
 use native.Mathlib.Omega.{arith}
 use borrow.Author.Tests.{eq-eqb, ne-eqb}
 use lib.IntN.{ℤ, pos, _+ℤ_, _-ℤ_}
 use lib.Signed.{shrZ}
 use lib.ListN.{length}
-use Rattle.samples.specs.Words.{wordAt, putAt, Holds, Front}
+use Rattle.sizes.specs.Bands.{ups, downs}
+use Rattle.samples.specs.Words.{tabulate, wordAt, putAt, Holds, Front}
+use Rattle.samples.specs.Le.{leAt}
 use Rattle.samples.specs.Integers.{val, residue, wrap, decode, Width}
+use Rattle.samples.proofs.LeLaws.{top-pos, leAt-take}
+use Rattle.samples.proofs.Words.{word-bytes, length-tabulate, getD-tabulate, holds, holds-on}
 use Rattle.samples.proofs.Fronts.{front-more, front-all}
-use Rattle.samples.proofs.IntegerLaws.{length-decode, at-decode, encode-tabulate, word-wrap}
-use Rattle.cdf53i.specs.Lift.{detail, approx, even, odd, sample, restored}
-use Rattle.cdf53i.specs.Bands.{back, sampleWord, evenWord, Bands, Restoring}
+use Rattle.samples.proofs.IntegerLaws.{length-decode, at-decode, encode-tabulate, word-wrap, residue-lt}
+use Rattle.cdf53i.specs.Lift.{detail, details, approx, approxs, even, odd, sample, restored}
+use Rattle.cdf53i.specs.Bands.{low, back, detailWord, approxWord, sampleWord, evenWord, detailsFrom, evensFrom, oddsFrom, Bands, Restoring, Room}
+
+-- a word of the front is read
+pub front-read : {k n i : ℕ} {g : ℕ → ℕ} {s : List ℕ} (j : ℕ) → Front k n i g s → j < i → g j < 256 ^ k → wordAt k s j ≡ g j
+unfolding wordAt
+front-read {k} {n} {i} {g} {s} j h l b =
+    let le : k * j + k ≤ k * i = rw (← mul-suc k j) (mul-le-mul-left k l) in
+    sym (leAt-take k (k * i) s (k * j) le)
+    ∙ ap (λ (w : List ℕ). leAt k w (k * j)) (h .front)
+    ∙ word-bytes k (tabulate i g) j (rw (length-tabulate i g) l)
+    ∙ rw (getD-tabulate i g j 0 l) (mod-eq-of-lt b)
+
+-- the words are as many as the list holds now
+pub front-now : {k n i : ℕ} {g : ℕ → ℕ} {s : List ℕ} → Front k n i g s → Front k (length s / k) i g s
+front-now h = rw (h .holds .count) h
 
 -- the number that sample i of s stands for
 abbrev pub sampleAt : ℕ → List ℕ → ℕ → ℤ
@@ -38,10 +58,18 @@ module _ {k : ℕ} (w : Width k) where
   even-at a d i l r h el er hl hr =
       rw (word-wrap w, length-decode, ← el, ← er, at-decode k a i h, at-decode k d l hl, at-decode k d r hr)
 
-  -- the word of an even sample stands for that sample
+  -- the word of what is stored stands for it: of a detail, of an even sample
+  kept-val : (z : ℤ) (u : ℕ) → u ≡ residue (256 ^ k) (wrap k z) → val (256 ^ k) u ≡ wrap k z
+  unfolding wrap
+  kept-val z u h = ap (val (256 ^ k)) (h ∙ word-wrap w z)
+
+  detail-val : (x : List ℤ) (i u : ℕ) → u ≡ residue (256 ^ k) (detail (wrap k) x i) → val (256 ^ k) u ≡ detail (wrap k) x i
+  unfolding detail
+  detail-val x i u h = kept-val _ u h
+
   even-val : (a d : List ℤ) (i u : ℕ) → u ≡ residue (256 ^ k) (even (wrap k) a d i) → val (256 ^ k) u ≡ even (wrap k) a d i
-  unfolding even wrap
-  even-val a d i u h = ap (val (256 ^ k)) (h ∙ word-wrap w _)
+  unfolding even
+  even-val a d i u h = kept-val _ u h
 
   pub sample-even : (a d : List ℤ) (i u : ℕ) → u ≡ residue (256 ^ k) (even (wrap k) a d i) → u ≡ residue (256 ^ k) (sample (wrap k) a d (2 * i))
   unfolding sample
@@ -77,12 +105,75 @@ module _ {k : ℕ} (w : Width k) where
   unfolding sampleWord evenWord
   front-last a d {u = u} i h hn eu pt = front-more h refl hn (sample-even (decode k a) (decode k d) i u eu) pt
 
+  -- the word of a number is read from the front
+  word-read : (z : ℕ → ℤ) {n m : ℕ} {t : List ℕ} (j : ℕ) → Front k n m (λ i. residue (256 ^ k) (z i)) t → j < m → wordAt k t j ≡ residue (256 ^ k) (z j)
+  word-read z j h l = front-read j h l (residue-lt (256 ^ k) (z j) (top-pos k))
+
+  -- an even sample, and an odd one, of a block from even sample i on
+  pub evens-read : (a d : List ℕ) (i : ℕ) {n m : ℕ} {t : List ℕ} (j : ℕ) → Front k n m (evensFrom k a d i) t → j < m → wordAt k t j ≡ evenWord k a d (i + j)
+  unfolding evensFrom evenWord
+  evens-read a d i j h l = word-read _ j h l
+
+  pub odds-read : (a d : List ℕ) (i : ℕ) {n m : ℕ} {t : List ℕ} (j : ℕ) → Front k n m (oddsFrom k a d i) t → j < m → wordAt k t j ≡ sampleWord k a d (2 * (i + j) + 1)
+  unfolding oddsFrom sampleWord
+  odds-read a d i j h l = word-read _ j h l
+
+  -- one more of its odd samples
+  pub odds-more : (a d : List ℕ) (i j : ℕ) {n u v z g : ℕ} {s t : List ℕ} → Front k n j (oddsFrom k a d i) s → j < n
+      → i + j < length d / k → i + j + 1 ≡ min (i + j + 1) (length a / k - 1)
+      → u ≡ evenWord k a d (i + j) → z ≡ evenWord k a d (i + j + 1) → v ≡ wordAt k d (i + j)
+      → g ≡ residue (256 ^ k) (val (256 ^ k) v +ℤ shrZ (val (256 ^ k) u +ℤ val (256 ^ k) z) 2) → t ≡ putAt k s j g → Front k n (j + 1) (oddsFrom k a d i) t
+  unfolding oddsFrom sampleWord evenWord
+  odds-more a d i j {n} {u} {v} {z} h l hi ej eu ez ev eg put =
+      front-more h refl l (eg ∙ rw ev (sample-odd a d (i + j) (i + j + 1) u z hi ej eu ez)) put
+
+  -- a pair of the block, at its place
+  pub pair-more : (a d : List ℕ) (i j : ℕ) {n u v : ℕ} {s t r : List ℕ} → Front k n (2 * (i + j)) (sampleWord k a d) s → 2 * (i + j) + 1 < n
+      → u ≡ evenWord k a d (i + j) → v ≡ sampleWord k a d (2 * (i + j) + 1) → t ≡ putAt k s (2 * (i + j)) u → r ≡ putAt k t (2 * (i + j) + 1) v
+      → Front k n (2 * (i + j) + 1 + 1) (sampleWord k a d) r
+  pair-more a d i j h hn eu ev pt pr = front-more (front-last a d (i + j) h (omega arith) eu pt) refl hn ev pr
+
   -- all samples
   pub restored-all : (a d x : List ℕ) (n i : ℕ) → Front k n i (sampleWord k a d) x → i ≡ n → n ≡ length a / k + length d / k → x ≡ back k a d
   unfolding sampleWord back restored
   restored-all a d x n i h e en =
       rw (length-decode k a, length-decode k d, encode-tabulate k (length a / k + length d / k) (sample (wrap k) (decode k a) (decode k d)))
       (front-all (length a / k + length d / k) h e en)
+
+  -- ---- the approximations alone
+
+  -- a detail of a block whose first is the one before detail i
+  pub details-read : (x : List ℕ) (i : ℕ) {n m : ℕ} {t : List ℕ} (j : ℕ) → Front k n m (detailsFrom k x i) t → j < m → wordAt k t j ≡ detailWord k x (i + j - 1)
+  unfolding detailsFrom detailWord
+  details-read x i j h l = word-read _ j h l
+
+  -- one approximation more, from the details i - 1 and r, of the words v and z
+  pub approx-more : (x : List ℕ) (i r : ℕ) {u v z g : ℕ} {s t : List ℕ} → Front k (ups (length x / k)) i (approxWord k x) s → i < ups (length x / k) → 2 ≤ length x / k → r ≡ min i (downs (length x / k) - 1)
+      → u ≡ wordAt k x (2 * i) → v ≡ detailWord k x (i - 1) → z ≡ detailWord k x r
+      → g ≡ residue (256 ^ k) (val (256 ^ k) u +ℤ shrZ (val (256 ^ k) v +ℤ val (256 ^ k) z +ℤ pos 2) 4) → t ≡ putAt k s i g → Front k (ups (length x / k)) (i + 1) (approxWord k x) t
+  unfolding approxWord detailWord approx details
+  approx-more x i r {u} {v} {z} h l two er eu ev ez eg put =
+      let y = decode k x in
+      front-more h refl l
+      (eg
+      ∙ rw (
+        word-wrap w,
+        length-tabulate (downs (length y)) (detail (wrap k) y),
+        length-decode k x,
+        ← er,
+        at-decode k x (2 * i) (omega arith),
+        ← eu,
+        detail-val y (i - 1) v ev,
+        detail-val y r z ez,
+        getD-tabulate (downs (length x / k)) (detail (wrap k) y) (i - 1) (pos 0) (omega arith),
+        getD-tabulate (downs (length x / k)) (detail (wrap k) y) r (pos 0) (omega arith),
+      ))
+      put
+
+  -- all approximations
+  pub approximated : (x a : List ℕ) (i : ℕ) → Front k (ups (length x / k)) i (approxWord k x) a → i ≡ ups (length x / k) → a ≡ low k x
+  unfolding approxWord low approxs
+  approximated x a i h e = rw (length-decode k x, encode-tabulate k (ups (length x / k)) (approx (wrap k) (decode k x) (details (wrap k) (decode k x)))) (front-all _ h e refl)
 
 -- another list of as many samples has the same bands
 pub bands-on : {k : ℕ} {x a d : List ℕ} (t : List ℕ) → Bands k x a d → Holds k (length x / k) t → Bands k t a d
@@ -98,3 +189,20 @@ restoring-now r = rw (r .front .holds .count) r
 
 pub restoring-at : {k n : ℕ} {a d x : List ℕ} {i e : ℕ} (j : ℕ) → Restoring k n a d x i e → i ≡ j → Restoring k n a d x j e
 restoring-at {k} {n} {a} {d} {x} {e = e} j r q = subst (λ m. Restoring k n a d x m e) q r
+
+-- ---- the two areas of a block
+
+pub room-of : {k : ℕ} → 0 < k → (s : List ℕ) (m n : ℕ) → length s ≡ k * m → n ≤ m → Room k n s
+room-of p s m n e l = let h = holds p s m e in record { holds = rw (h .count) h; most = rw (h .count) l }
+
+-- another list as long has the same room
+pub room-on : {k n : ℕ} {s : List ℕ} (t : List ℕ) → Room k n s → length t ≡ length s → Room k n t
+room-on {k} t r e = let h = holds-on t (r .holds) e in record { holds = rw (h .count) h; most = rw (h .count) (r .most) }
+
+-- 1024 bytes are whole words, and 1028 are a word more or several
+pub whole-words : {k : ℕ} → Width k → (1024 ≡ k * (1024 / k)) × (1028 ≡ k * (1028 / k)) × (1024 / k + 1 ≤ 1028 / k) × (0 < 1024 / k)
+whole-words w =
+    ⊎-elim
+    (λ e. rw e (refl, refl, omega arith, omega arith))
+    (λ r. ⊎-elim (λ e. rw e (refl, refl, omega arith, omega arith)) (λ e. rw e (refl, refl, omega arith, omega arith)) r)
+    (w .which)

@@ -1,14 +1,14 @@
 // Integer 5/3, one level, once over the width. Ported from osclet's src/cdf53i.rs; execute_forward and execute_inverse with their checks are in dwt/src/filter.rt.
-ghost use mathlib.Core.List.{_++_};
 ghost use mathlib.Core.Path.{_≡_};
-ghost use Prim.Native.Nat.{_+_, _-_, _*_, _/_, _<_};
-ghost use lib.ListN.{length, drop};
+ghost use Prim.Native.Nat.{_+_, _-_, _*_, _/_, _^_, _≤_, _<_, min};
+ghost use lib.ListN.{length};
 ghost use Rattle.sizes.specs.Bands.{ups, downs};
-ghost use Rattle.samples.specs.Words.{tabulate, Holds};
+ghost use Rattle.samples.specs.Words.{tabulate, Holds, Front};
 ghost use Rattle.samples.specs.Integers.{wrap, decode, encode};
 ghost use Rattle.cdf53i.specs.Lift.{approx, evens};
-ghost use Rattle.cdf53i.specs.Bands.{low, high, back, Input, Bands, Restoring};
+ghost use Rattle.cdf53i.specs.Bands.{low, high, back, detailWord, approxWord, evenWord, sampleWord, detailsFrom, evensFrom, oddsFrom, Input, Bands, Approximating, Restoring, Ahead, Inside, Room};
 use crate::steps::approx_at;
+use crate::steps::approx_of;
 use crate::steps::detail_at;
 use crate::steps::even_at;
 use crate::steps::odd_of;
@@ -57,49 +57,178 @@ pub fn forward(k: usize, x: &[u8], a: &mut [u8], d: &mut [u8])
     update(k, x, a, d);
 }
 
-// The approximations of the samples in x and the stored details in d, to the front of x: place i is written once place 2 i, which is not before it, was read.
-fn update_within(k: usize, x: &mut [u8], d: &[u8])
-    requires { ⌜ Input k (now x) ⌝ }
-    requires { ⌜ Holds k (downs (length (now x) / k)) (now d) ⌝ }
-    ensures { λ _. ⌜ now (x .exit) ≡ encode k (tabulate (evens (decode k (now (x .entry)))) (approx (wrap k) (decode k (now (x .entry))) (decode k (now (d .entry))))) ++ drop (k * ups (length (now (x .entry)) / k)) (now (x .entry)) ⌝ }
+fn lesser(m: usize, n: usize) -> usize
+    ensures { λ r. ⌜ r ≡ min m n ⌝ }
 {
-    let n = x.len() / k;
-    let m = n / 2;
-    let last = (n + 1) / 2 - 1;
-    let mut left = 0;
+    if m < n { m } else { n }
+}
+
+// The details i - 1 to i + n - 1 of the samples in x, of which the first has the word e, to the front of t: detail 0 stands before itself.
+fn details_from(k: usize, x: &[u8], i: usize, n: usize, e: u32, t: &mut [u8])
+    requires { ⌜ Ahead k (now x) i n ⌝ }
+    requires { ⌜ (e ≡ detailWord k (now x) (i - 1)) × (e < 256 ^ k) ⌝ }
+    requires { ⌜ Room k (n + 1) (now t) ⌝ }
+    ensures { λ _. ⌜ Front k (length (now (t .exit)) / k) (n + 1) (detailsFrom k (now (x .entry)) i) (now (t .exit)) ⌝ }
+{
+    put(k, t, 0, e);
+    let mut j = 0;
+    while j < n {
+        put(k, t, j + 1, detail_at(k, x, i + j, i + j + 1));
+        j += 1;
+    }
+}
+
+// The n approximations from i on, between the details in t, to their places in a.
+fn approxs_from(k: usize, x: &[u8], i: usize, n: usize, t: &[u8], a: &mut [u8])
+    requires { ⌜ Ahead k (now x) i n ⌝ }
+    requires { ⌜ (Front k (length (now t) / k) (n + 1) (detailsFrom k (now x) i) (now t)) × (Room k (n + 1) (now t)) ⌝ }
+    requires { ⌜ Front k (ups (length (now x) / k)) i (approxWord k (now x)) (now a) ⌝ }
+    ensures { λ _. ⌜ Front k (ups (length (now (x .entry)) / k)) (i + n) (approxWord k (now (x .entry))) (now (a .exit)) ⌝ }
+{
+    let mut j = 0;
+    while j < n {
+        put(
+            k,
+            a,
+            i + j,
+            approx_of(k, get(k, x, 2 * (i + j)), get(k, t, j), get(k, t, j + 1)),
+        );
+        j += 1;
+    }
+}
+
+// n approximations from i on, where detail i - 1 has the word e; the word of detail i + n - 1 is the result, for the next block. Details and approximations in loops of their own, as in restore_block.
+fn approximate_block(
+    k: usize,
+    x: &[u8],
+    a: &mut [u8],
+    i: usize,
+    n: usize,
+    e: u32,
+    t: &mut [u8],
+) -> u32
+    requires { ⌜ Ahead k (now x) i n ⌝ }
+    requires { ⌜ Approximating k (now x) (now a) i e ⌝ }
+    requires { ⌜ Room k (n + 1) (now t) ⌝ }
+    ensures { λ r. ⌜ Approximating k (now (x .entry)) (now (a .exit)) (i + n) r ⌝ }
+{
+    details_from(k, x, i, n, e, t);
+    approxs_from(k, x, i, n, t, a);
+    get(k, t, n)
+}
+
+// The last approximation that has a detail after it, where the detail before it has the word e, and what comes after: the ends, whose right neighbours are mirrored.
+fn approximate_end(k: usize, x: &[u8], a: &mut [u8], last: usize, e: u32)
+    requires { ⌜ Input k (now x) ⌝ }
+    requires { ⌜ Approximating k (now x) (now a) last e ⌝ }
+    requires { ⌜ last ≡ downs (length (now x) / k) - 1 ⌝ }
+    ensures { λ _. ⌜ now (a .exit) ≡ low k (now (x .entry)) ⌝ }
+{
+    let na = (x.len() / k + 1) / 2;
+    let f = detail_at(k, x, last, na - 1);
+    put(k, a, last, approx_of(k, get(k, x, 2 * last), e, f));
+    if last + 1 < na {
+        put(
+            k,
+            a,
+            last + 1,
+            approx_of(k, get(k, x, 2 * (last + 1)), f, f),
+        );
+    }
+}
+
+// The approximations of the samples in x alone, into a.
+pub fn approximate(k: usize, x: &[u8], a: &mut [u8])
+    requires { ⌜ Input k (now x) ⌝ }
+    requires { ⌜ Holds k (ups (length (now x) / k)) (now a) ⌝ }
+    ensures { λ _. ⌜ now (a .exit) ≡ low k (now (x .entry)) ⌝ }
+{
+    let last = x.len() / k / 2 - 1;
+    let most = 1024 / k;
+    let mut t: [u8; 1028] = [0; 1028];
+    let mut e = detail_at(k, x, 0, 1);
     let mut i = 0;
     while i < last {
-        let v = approx_at(k, x, d, i, left, i);
-        put(k, x, i, v);
-        left = i;
-        i += 1;
+        let n = lesser(last - i, most);
+        e = approximate_block(k, x, a, i, n, e, &mut t);
+        i += n;
     }
-    let v = approx_at(k, x, d, last, left, m - 1);
-    put(k, x, last, v);
+    approximate_end(k, x, a, last, e);
 }
 
-// One level of the samples in x, approximations to the front of x itself, for a caller that has no third place: the rest of x stays.
-pub fn forward_within(k: usize, x: &mut [u8], d: &mut [u8])
-    requires { ⌜ Input k (now x) ⌝ }
-    requires { ⌜ Holds k (downs (length (now x) / k)) (now d) ⌝ }
-    ensures { λ _. ⌜ now (x .exit) ≡ low k (now (x .entry)) ++ drop (k * ups (length (now (x .entry)) / k)) (now (x .entry)) ⌝ }
-    ensures { λ _. ⌜ now (d .exit) ≡ high k (now (x .entry)) ⌝ }
+// The even samples i to i + n, of which the first has the word e, to the front of t.
+fn evens_from(k: usize, a: &[u8], d: &[u8], i: usize, n: usize, e: u32, t: &mut [u8])
+    requires { ⌜ Inside k (now a) (now d) i n ⌝ }
+    requires { ⌜ (e ≡ evenWord k (now a) (now d) i) × (e < 256 ^ k) ⌝ }
+    requires { ⌜ Room k (n + 1) (now t) ⌝ }
+    ensures { λ _. ⌜ Front k (length (now (t .exit)) / k) (n + 1) (evensFrom k (now (a .entry)) (now (d .entry)) i) (now (t .exit)) ⌝ }
 {
-    predict(k, x, d);
-    update_within(k, x, d);
+    put(k, t, 0, e);
+    let mut j = 0;
+    while j < n {
+        put(k, t, j + 1, even_at(k, a, d, i + j + 1, i + j, i + j + 1));
+        j += 1;
+    }
 }
 
-// Even sample i, of the word e, and the odd one after it into x; the word of the next even sample is the result. Called in one place, so that it is inlined.
-fn restore_pair(k: usize, a: &[u8], d: &[u8], x: &mut [u8], i: usize, e: u32) -> u32
+// The n odd samples between those of t, to the front of u.
+fn odds_from(k: usize, a: &[u8], d: &[u8], i: usize, n: usize, t: &[u8], u: &mut [u8])
+    requires { ⌜ Inside k (now a) (now d) i n ⌝ }
+    requires { ⌜ Front k (length (now t) / k) (n + 1) (evensFrom k (now a) (now d) i) (now t) ⌝ }
+    requires { ⌜ (Room k (n + 1) (now t)) × (Room k n (now u)) ⌝ }
+    ensures { λ _. ⌜ Front k (length (now (u .entry)) / k) n (oddsFrom k (now (a .entry)) (now (d .entry)) i) (now (u .exit)) ⌝ }
+{
+    let mut j = 0;
+    while j < n {
+        put(
+            k,
+            u,
+            j,
+            odd_of(k, get(k, t, j), get(k, d, i + j), get(k, t, j + 1)),
+        );
+        j += 1;
+    }
+}
+
+// The n pairs of t and u to their places in x.
+fn pairs_from(k: usize, a: &[u8], d: &[u8], i: usize, n: usize, t: &[u8], u: &[u8], x: &mut [u8])
+    requires { ⌜ Inside k (now a) (now d) i n ⌝ }
+    requires { ⌜ Front k (length (now t) / k) (n + 1) (evensFrom k (now a) (now d) i) (now t) ⌝ }
+    requires { ⌜ Front k (length (now u) / k) n (oddsFrom k (now a) (now d) i) (now u) ⌝ }
+    requires { ⌜ (Room k (n + 1) (now t)) × (Room k n (now u)) × (2 * (i + n) ≤ length (now x) / k) ⌝ }
+    requires { ⌜ Front k (length (now x) / k) (2 * i) (sampleWord k (now a) (now d)) (now x) ⌝ }
+    ensures { λ _. ⌜ Front k (length (now (x .entry)) / k) (2 * (i + n)) (sampleWord k (now (a .entry)) (now (d .entry))) (now (x .exit)) ⌝ }
+{
+    let mut j = 0;
+    while j < n {
+        put(k, x, 2 * (i + j), get(k, t, j));
+        put(k, x, 2 * (i + j) + 1, get(k, u, j));
+        j += 1;
+    }
+}
+
+// n pairs from even sample i on, which has the word e; the word of the even sample after them is the result. Evens, odds and pairs in loops of their own, over what fits the nearest cache: LLVM takes as many words at a time as a register holds.
+fn restore_block(
+    k: usize,
+    a: &[u8],
+    d: &[u8],
+    x: &mut [u8],
+    i: usize,
+    n: usize,
+    e: u32,
+    t: &mut [u8],
+    u: &mut [u8],
+) -> u32
     requires { ⌜ Bands k (now x) (now a) (now d) ⌝ }
     requires { ⌜ Restoring k (length (now x) / k) (now a) (now d) (now x) i e ⌝ }
-    requires { ⌜ (i + 1 < length (now a) / k) × (i + 1 < length (now d) / k) ⌝ }
-    ensures { λ r. ⌜ Restoring k (length (now (x .entry)) / k) (now (a .entry)) (now (d .entry)) (now (x .exit)) (i + 1) r ⌝ }
+    requires { ⌜ Inside k (now a) (now d) i n ⌝ }
+    requires { ⌜ (Room k (n + 1) (now t)) × (Room k n (now u)) ⌝ }
+    ensures { λ r. ⌜ Restoring k (length (now (x .entry)) / k) (now (a .entry)) (now (d .entry)) (now (x .exit)) (i + n) r ⌝ }
 {
-    let next = even_at(k, a, d, i + 1, i, i + 1);
-    put(k, x, 2 * i, e);
-    put(k, x, 2 * i + 1, odd_of(k, e, get(k, d, i), next));
-    next
+    evens_from(k, a, d, i, n, e, t);
+    odds_from(k, a, d, i, n, t, u);
+    pairs_from(k, a, d, i, n, t, u, x);
+    get(k, t, n)
 }
 
 // The last even sample that has an odd one after it, of the word e, and what comes after: the ends, whose right neighbours are mirrored.
@@ -125,11 +254,15 @@ pub fn inverse(k: usize, a: &[u8], d: &[u8], x: &mut [u8])
     ensures { λ _. ⌜ now (x .exit) ≡ back k (now (a .entry)) (now (d .entry)) ⌝ }
 {
     let last = d.len() / k - 1;
+    let most = 1024 / k;
+    let mut t: [u8; 1028] = [0; 1028];
+    let mut u: [u8; 1024] = [0; 1024];
     let mut e = even_at(k, a, d, 0, 0, 0);
     let mut i = 0;
     while i < last {
-        e = restore_pair(k, a, d, x, i, e);
-        i += 1;
+        let n = lesser(last - i, most);
+        e = restore_block(k, a, d, x, i, n, e, &mut t, &mut u);
+        i += n;
     }
     restore_end(k, a, d, x, last, e);
 }

@@ -55,6 +55,40 @@ fn sub(k: usize, a: u32, b: u32) -> u32
     std::num::wrapping_sub_u32(a, b)
 }
 
+// Half the sum of two words, rounded down, in words no wider: LLVM then takes as many at a time as a register holds.
+fn mean_u8(p: u8, q: u8) -> u8
+    ensures { λ r. ⌜ r ≡ (p + q) / 2 ⌝ }
+{
+    (p & q) + (p ^ q) / 2
+}
+
+fn mean_u16(p: u16, q: u16) -> u16
+    ensures { λ r. ⌜ r ≡ (p + q) / 2 ⌝ }
+{
+    (p & q) + (p ^ q) / 2
+}
+
+fn mean_u32(p: u32, q: u32) -> u32
+    ensures { λ r. ⌜ r ≡ (p + q) / 2 ⌝ }
+{
+    (p & q) + (p ^ q) / 2
+}
+
+// The same of words of k bytes.
+fn half_sum(k: usize, p: u32, q: u32) -> u32
+    requires { ⌜ Width k ⌝ }
+    requires { ⌜ (p < 256 ^ k) × (q < 256 ^ k) ⌝ }
+    ensures { λ r. ⌜ r ≡ (p + q) / 2 ⌝ }
+{
+    if k == 1 {
+        return mean_u8(p as u8, q as u8) as u32;
+    }
+    if k == 2 {
+        return mean_u16(p as u16, q as u16) as u32;
+    }
+    mean_u32(p, q)
+}
+
 // Half the sum of the numbers of two words, rounded down, and half of all words more.
 fn mean(k: usize, x: u32, z: u32) -> u32
     requires { ⌜ Width k ⌝ }
@@ -64,7 +98,7 @@ fn mean(k: usize, x: u32, z: u32) -> u32
     let h = 2 * quarter_of(k);
     let p = add(k, x, h);
     let q = add(k, z, h);
-    ((p as u64 + q as u64) / 2) as u32
+    half_sum(k, p, q)
 }
 
 // A quarter of the sum of the numbers of two words and 2, rounded down, and a quarter of all words more.
@@ -73,10 +107,8 @@ fn mean4(k: usize, x: u32, z: u32) -> u32
     requires { ⌜ (x < 256 ^ k) × (z < 256 ^ k) ⌝ }
     ensures { λ r. ⌜ (r ≡ (bias (quarter k) x + bias (quarter k) z + 2) / 4) × (r < 256 ^ k) ⌝ }
 {
-    let h = 2 * quarter_of(k);
-    let p = add(k, x, h);
-    let q = add(k, z, h);
-    ((p as u64 + q as u64 + 2) / 4) as u32
+    let m = mean(k, x, z);
+    m / 2 + m % 2
 }
 
 // y - floor((x + z) / 2)
@@ -89,7 +121,7 @@ fn detail_of(k: usize, x: u32, y: u32, z: u32) -> u32
 }
 
 // x + floor((d + e + 2) / 4)
-fn approx_of(k: usize, x: u32, d: u32, e: u32) -> u32
+pub fn approx_of(k: usize, x: u32, d: u32, e: u32) -> u32
     requires { ⌜ Width k ⌝ }
     requires { ⌜ (x < 256 ^ k) × (d < 256 ^ k) × (e < 256 ^ k) ⌝ }
     ensures { λ r. ⌜ (r ≡ residue (256 ^ k) (val (256 ^ k) x +ℤ shrZ (val (256 ^ k) d +ℤ val (256 ^ k) e +ℤ pos 2) 4)) × (r < 256 ^ k) ⌝ }
