@@ -18,23 +18,21 @@ use Rattle.samples.proofs.FloatLaws.{width-pos, length-decodeFloats}
 use Rattle.floats.specs.Steps.{Step}
 use Rattle.floats.specs.Filters.{stepsOf, backOf}
 use Rattle.floats.specs.Bands.{approxs, details, restored, low, high, back}
-use Rattle.floats.specs.Loops.{Lent, LentWithin, Bands, Ran}
+use Rattle.floats.specs.Loops.{LentLow, Lent, Bands, Ran}
 use Rattle.floats.specs.Lanes.{runOn, Lanes, RanOn}
 use Rattle.floats.proofs.Fits.{Fit, stored-encode, fit-decode, fit-even, fit-odd, fit-joined}
 use Rattle.floats.proofs.Splits.{Split}
 
--- what the checks leave is what the steps ask: of the samples and the details, whatever a bytes the approximations have
-pub ready-within : (w : Wavelet) (f : Format) {n a : ℕ} {x d : List ℕ} → Level w (width f) n (length x) a (length d) → LentWithin f x d
-ready-within w f {n} {x = x} {d = d} l =
-    let s = holds (width-pos f) x n (l .samples) in
-    record { long = rw (s .count) (three w (l .long)); samples = rw (s .count) s; details = rw (s .count) (holds (width-pos f) d _ (l .details)) }
+-- what the checks leave is what the steps ask: of the samples and the approximations, whatever d bytes the details have
+pub ready-low : (w : Wavelet) (f : Format) {d : ℕ} {x a : List ℕ} → Level w (width f) (length x / width f) (length x) (length a) d → LentLow f x a
+ready-low w f {x = x} {a = a} l = record { long = three w (l .long); samples = holds (width-pos f) x _ (l .samples); approx = holds (width-pos f) a _ (l .approx) }
   where
     three : (w : Wavelet) {n : ℕ} → smallestOf w ≤ n → 3 ≤ n
     three Cdf53 h = h
     three Cdf97 h = omega arith
 
 pub ready : (w : Wavelet) (f : Format) {x a d : List ℕ} → Level w (width f) (length x / width f) (length x) (length a) (length d) → Lent f x a d
-ready w f {a = a} l = let p = ready-within w f l in record { long = p .long; samples = p .samples; approx = holds (width-pos f) a _ (l .approx); details = p .details }
+ready w f {d = d} l = let p = ready-low w f l in record { long = p .long; samples = p .samples; approx = p .approx; details = holds (width-pos f) d _ (l .details) }
 
 module _ {f : Format} (x : List ℕ) {a d : List ℕ} (e : Split f x a d) where
   -- the evens and the odds of three samples or more are bands

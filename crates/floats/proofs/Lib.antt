@@ -4,7 +4,6 @@ pub mod Turns
 pub mod Runs
 pub mod Splits
 pub mod Levels
-pub mod Insides
 pub mod Lanes
 pub mod RunsOn
 pub mod Figures

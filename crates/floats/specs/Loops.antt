@@ -10,17 +10,17 @@ use Rattle.samples.specs.Words.{Holds}
 use Rattle.samples.specs.Floats.{width, decodeFloats, encodeFloats}
 use Rattle.floats.specs.Steps.{Step, runA, runD}
 
--- x holds 3 samples or more, a as many as they have approximations, d as many as they have details
+-- x holds 3 samples or more, and a as many as they have approximations
+pub record LentLow (f : Format) (x a : List ℕ) : Type 0 where
+  pub long : 3 ≤ length x / width f
+  pub samples : Holds (width f) (length x / width f) x
+  pub approx : Holds (width f) (ups (length x / width f)) a
+
+-- and d as many as they have details
 pub record Lent (f : Format) (x a d : List ℕ) : Type 0 where
   pub long : 3 ≤ length x / width f
   pub samples : Holds (width f) (length x / width f) x
   pub approx : Holds (width f) (ups (length x / width f)) a
-  pub details : Holds (width f) (downs (length x / width f)) d
-
--- the same where the approximations are to go to the front of x itself
-pub record LentWithin (f : Format) (x d : List ℕ) : Type 0 where
-  pub long : 3 ≤ length x / width f
-  pub samples : Holds (width f) (length x / width f) x
   pub details : Holds (width f) (downs (length x / width f)) d
 
 -- s is n floats, each by the pattern that it is written by: a NaN by its one pattern

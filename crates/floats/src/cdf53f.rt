@@ -1,13 +1,10 @@
 // Float 5/3, one level. Ported from osclet's src/cdf53f.rs: its steps are in single.rt and double.rt, execute_forward and execute_inverse with their checks in dwt/src/filter.rt.
 ghost use mathlib.Core.Path.{_≡_};
-ghost use mathlib.Core.List.{_++_, map};
-ghost use Prim.Native.Nat.{_*_, _/_};
+ghost use mathlib.Core.List.{map};
 ghost use lib.Ieee.{binary32, binary64};
-ghost use lib.ListN.{length, drop};
-ghost use Rattle.sizes.specs.Bands.{ups};
 ghost use Rattle.floats.specs.Filters.{steps53, back53};
 ghost use Rattle.floats.specs.Bands.{low, high, back};
-ghost use Rattle.floats.specs.Loops.{Lent, LentWithin};
+ghost use Rattle.floats.specs.Loops.{Lent};
 ghost use Rattle.floats.specs.Kinds.{kind32, kind64};
 use crate::double::Step64;
 use crate::double::back2_f64;
@@ -19,8 +16,6 @@ use crate::single::back2_f32;
 use crate::single::join_f32;
 use crate::single::run2_f32;
 use crate::single::split_f32;
-use crate::within::split_within_f32;
-use crate::within::split_within_f64;
 use sizes::Wavelet;
 
 // "Odds -0.5, evens 0.25."
@@ -64,29 +59,6 @@ pub fn forward_f64(input: &[u8], approx: &mut [u8], details: &mut [u8])
 {
     split_f64(input, approx, details);
     run2_f64(schedule53_f64(), approx, details);
-}
-
-// One level of the samples in x, approximations to the front of x itself, for a caller that has no third place: the rest of x stays.
-pub fn forward_within_f32(x: &mut [u8], d: &mut [u8])
-    requires { ⌜ LentWithin binary32 (now x) (now d) ⌝ }
-    ensures { λ _. ⌜ now (x .exit) ≡ low binary32 Wavelet.Cdf53 (now (x .entry)) ++ drop (4 * ups (length (now (x .entry)) / 4)) (now (x .entry)) ⌝ }
-    ensures { λ _. ⌜ now (d .exit) ≡ high binary32 Wavelet.Cdf53 (now (x .entry)) ⌝ }
-{
-    let n = x.len() / 4;
-    let cut = 4 * ((n + 1) / 2);
-    split_within_f32(x, d);
-    run2_f32(schedule53_f32(), &mut x[..cut], d);
-}
-
-pub fn forward_within_f64(x: &mut [u8], d: &mut [u8])
-    requires { ⌜ LentWithin binary64 (now x) (now d) ⌝ }
-    ensures { λ _. ⌜ now (x .exit) ≡ low binary64 Wavelet.Cdf53 (now (x .entry)) ++ drop (8 * ups (length (now (x .entry)) / 8)) (now (x .entry)) ⌝ }
-    ensures { λ _. ⌜ now (d .exit) ≡ high binary64 Wavelet.Cdf53 (now (x .entry)) ⌝ }
-{
-    let n = x.len() / 8;
-    let cut = 8 * ((n + 1) / 2);
-    split_within_f64(x, d);
-    run2_f64(schedule53_f64(), &mut x[..cut], d);
 }
 
 // The samples whose approximations are in approx and details in details, into output.

@@ -4,4 +4,3 @@ pub mod cdf97f;
 mod double;
 mod mla;
 mod single;
-mod within;

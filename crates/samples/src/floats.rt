@@ -79,14 +79,14 @@ pub fn put_f64(s: &mut [u8], i: usize, x: f64)
 }
 
 // Word i of a slice. A function of its own, or LLVM leaves the halves of the read apart in copy_f32.
-fn word_u32(s: &[u8], i: usize) -> u32
+pub fn word_u32(s: &[u8], i: usize) -> u32
     requires { ⌜ i < length (now s) / 4 ⌝ }
     ensures { λ r. ⌜ r ≡ wordAt 4 (now (s .entry)) i ⌝ }
 {
     read_u32(s, 4 * i)
 }
 
-fn word_u64(s: &[u8], i: usize) -> u64
+pub fn word_u64(s: &[u8], i: usize) -> u64
     requires { ⌜ i < length (now s) / 8 ⌝ }
     ensures { λ r. ⌜ r ≡ wordAt 8 (now (s .entry)) i ⌝ }
 {

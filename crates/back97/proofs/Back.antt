@@ -1,0 +1,226 @@
+-- What a turn of the loop of the inverse of 9/7 makes and stores, and that it is no NaN where the floats around are small. Once over the format. Assumes nothing.
+use mathlib.Core.Bool.{Bool, true, false, not}
+use mathlib.Core.List.{List}
+use mathlib.Core.Path.{_≡_, refl, sym, subst, _∙_}
+use Prim.Native.Nat.{ℕ, _+_, _-_, _*_, _/_, _≤_, _<_, min}
+use native.Mathlib.Omega.{arith}
+use lib.Dec.{T}
+use lib.Ieee.{Float, nan, Format, binary32, binary64, add, mul, neg, isNan, round}
+use lib.ListN.{length, getD}
+use Rattle.sizes.specs.declared.Wavelet.the-variants.{Cdf97}
+use Rattle.samples.specs.Words.{Front}
+use Rattle.samples.specs.Floats.{width, floatAt, putFloat, decodeFloats}
+use Rattle.samples.proofs.Fronts.{front-none}
+use Rattle.samples.proofs.FloatLaws.{length-decodeFloats, at-decodeFloats}
+use Rattle.floats.specs.Steps.{lift, evens, odds}
+use Rattle.floats.specs.Filters.{Set, decimal, rounded, factors32, factors64, factorsOf, turned, back97}
+use Rattle.floats.specs.Bands.{restored, back}
+use Rattle.floats.specs.Loops.{Lent}
+use Rattle.small.specs.Small.{Small, Factor, SmallFrom, SmallIf}
+use Rattle.small.specs.Lists.{inTurn}
+use Rattle.small.proofs.Sizes as sizes
+use Rattle.small.proofs.Lifts as lifts
+use Rattle.back97.specs.Back.{timesOf, evensOne, oddsTwo, evensThree, oddsFour, Given, Near, Pair, Restored}
+
+-- ---- the factors, and how far a scaling and four steps reach
+
+abbrev Factors : Set → Type 0
+Factors t = Factor (t .alpha) × Factor (t .beta) × Factor (t .gamma) × Factor (t .delta) × Factor (t .k) × Factor (t .invk)
+
+factors : (f : Format) → Factors (turned (factorsOf f))
+unfolding turned factors32 factors64 rounded decimal round neg
+factors binary32 = (omega arith, omega arith, omega arith, omega arith, omega arith, omega arith)
+factors binary64 = (omega arith, omega arith, omega arith, omega arith, omega arith, omega arith)
+
+far : (f : Format) → sizes.reach f + 3 + 9 + 9 + 9 + 9 < sizes.ceiling f
+far binary32 = omega arith
+far binary64 = omega arith
+
+-- ---- a scaling
+
+module _ (f : Format) (k : Float) (s : List ℕ) where
+  length-times : length (timesOf f k s) ≡ length s / width f
+  unfolding timesOf
+  length-times = lifts.length-scaled f k _ ∙ length-decodeFloats f s
+
+  pub times-made : (i : ℕ) {y : Float} → i < length s / width f → y ≡ floatAt f s i → mul f y k ≡ getD (timesOf f k s) i nan
+  unfolding timesOf
+  times-made i h e = lifts.scaled-made f k (decodeFloats f s) i (rw (length-decodeFloats f s) h) (e ∙ sym (at-decodeFloats f s i h))
+
+  times-small : {i j : ℕ} (p : ℕ) → Factor k → SmallFrom f s i j → i ≤ p → p < j → p < length s / width f → Small f (sizes.reach f + 3) (getD (timesOf f k s) p nan)
+  unfolding timesOf
+  times-small p b w ip pj h = lifts.scaled-small f k (decodeFloats f s) (sizes.reach f) p b (omega (arith, far f)) (rw (length-decodeFloats f s) h) (lifts.small-in w p ip pj h)
+
+-- ---- a step
+
+-- p and q are as long as the bands a and d
+record Counted (f : Format) (a d : List ℕ) (p q : List Float) : Type 0 where
+  evens-count : length p ≡ length a / width f
+  odds-count : length q ≡ length d / width f
+
+-- entry i of e is what a step by c makes of p and q as the code makes it, at an even place and at an odd one: l and r are the places of the neighbours
+abbrev EvenMade : Format → Float → List ℕ → List ℕ → List Float → List Float → List Float → ℕ → ℕ → ℕ → Float → Float → Float → Type 0
+EvenMade f c a d p q e i l r y z w =
+    i < length a / width f → l ≡ i - 1 → r ≡ min i (length d / width f - 1) → y ≡ getD q l nan → z ≡ getD q r nan → w ≡ getD p i nan → add f (mul f (add f y z) c) w ≡ getD e i nan
+
+abbrev OddMade : Format → Float → List ℕ → List ℕ → List Float → List Float → List Float → ℕ → ℕ → Float → Float → Float → Type 0
+OddMade f c a d p q e i r y z w =
+    i < length d / width f → r ≡ min (i + 1) (length a / width f - 1) → y ≡ getD p i nan → z ≡ getD p r nan → w ≡ getD q i nan → add f (mul f (add f y z) c) w ≡ getD e i nan
+
+module _ {f : Format} {a d : List ℕ} {p q : List Float} (c : Float) (b : Counted f a d p q) where
+  by-evens : (i l r : ℕ) {y z w : Float} → EvenMade f c a d p q (evens (lift f c) nan p q) i l r y z w
+  by-evens i l r h el er = lifts.even-made f c p q i l r (rw (b .evens-count) h) el (rw (b .odds-count) er)
+
+  by-odds : (i r : ℕ) {y z w : Float} → OddMade f c a d p q (odds (lift f c) nan p q) i r y z w
+  by-odds i r h er = lifts.odd-made f c p q i r (rw (b .odds-count) h) (rw (b .evens-count) er)
+
+  after-evens : Counted f a d (evens (lift f c) nan p q) q
+  after-evens = record { evens-count = lifts.length-evens f c p q ∙ b .evens-count; odds-count = b .odds-count }
+
+  after-odds : Counted f a d p (odds (lift f c) nan p q)
+  after-odds = record { evens-count = b .evens-count; odds-count = lifts.length-odds f c p q ∙ b .odds-count }
+
+  -- small neighbours, of at most 2 ^ j units, leave an entry small; the one that is lifted may be smaller
+  module _ (j m : ℕ) (k : Factor c) (l : j + 9 < sizes.ceiling f) (mj : m ≤ j) (i : ℕ) where
+    evens-small : i < length a / width f → Small f j (getD q (i - 1) nan) → Small f j (getD q (min i (length d / width f - 1)) nan) → Small f m (getD p i nan)
+        → Small f (j + 9) (getD (evens (lift f c) nan p q) i nan)
+    evens-small h y z w =
+        lifts.even-small f c p q j k l i (i - 1) (min i (length d / width f - 1)) (rw (b .evens-count) h) refl (rw (b .odds-count) refl) y z (sizes.small-le f (getD p i nan) m j w mj)
+
+    odds-small : i < length d / width f → Small f j (getD p i nan) → Small f j (getD p (min (i + 1) (length a / width f - 1)) nan) → Small f m (getD q i nan)
+        → Small f (j + 9) (getD (odds (lift f c) nan p q) i nan)
+    odds-small h y z w =
+        lifts.odd-small f c p q j k l i (min (i + 1) (length a / width f - 1)) (rw (b .odds-count) h) (rw (b .evens-count) refl) y z (sizes.small-le f (getD q i nan) m j w mj)
+
+-- ---- the four steps
+
+module _ {f : Format} {t : Set} {a d : List ℕ} (v : Given f t a d) where
+  factored : Factors t
+  factored = subst Factors (sym (v .set)) (factors f)
+
+  scaled : Counted f a d (timesOf f (t .invk) a) (timesOf f (t .k) d)
+  scaled = record { evens-count = length-times f _ a; odds-count = length-times f _ d }
+
+  one : Counted f a d (evensOne f t a d) (timesOf f (t .k) d)
+  unfolding evensOne
+  one = after-evens (t .delta) scaled
+
+  two : Counted f a d (evensOne f t a d) (oddsTwo f t a d)
+  unfolding oddsTwo
+  two = after-odds (t .gamma) one
+
+  three : Counted f a d (evensThree f t a d) (oddsTwo f t a d)
+  unfolding evensThree
+  three = after-evens (t .beta) two
+
+  four : Counted f a d (evensThree f t a d) (oddsFour f t a d)
+  unfolding oddsFour
+  four = after-odds (t .alpha) three
+
+  pub one-made : (i l r : ℕ) {y z w : Float} → EvenMade f (t .delta) a d (timesOf f (t .invk) a) (timesOf f (t .k) d) (evensOne f t a d) i l r y z w
+  unfolding evensOne
+  one-made = by-evens (t .delta) scaled
+
+  pub two-made : (i r : ℕ) {y z w : Float} → OddMade f (t .gamma) a d (evensOne f t a d) (timesOf f (t .k) d) (oddsTwo f t a d) i r y z w
+  unfolding oddsTwo
+  two-made = by-odds (t .gamma) one
+
+  pub three-made : (i l r : ℕ) {y z w : Float} → EvenMade f (t .beta) a d (evensOne f t a d) (oddsTwo f t a d) (evensThree f t a d) i l r y z w
+  unfolding evensThree
+  three-made = by-evens (t .beta) two
+
+  -- the odd sample of pair i
+  pub pair-made : (i : ℕ) {q r n : Float} → Pair f t a d i q r n → add f (mul f (add f r n) (t .alpha)) q ≡ getD (oddsFour f t a d) i nan
+  unfolding oddsFour
+  pair-made i w = by-odds (t .alpha) three i _ (w .inside) refl (w .three) (w .next) (w .two)
+
+  -- ---- what is stored
+
+  -- an entry is small where the bands are around it
+  module _ {i j : ℕ} (wa : SmallFrom f a i j) (wd : SmallFrom f d i j) where
+    detail-small : (p : ℕ) → i ≤ p → p < j → p < length d / width f → Small f (sizes.reach f + 3) (getD (timesOf f (t .k) d) p nan)
+    detail-small p = times-small f (t .k) d p (factored .4) wd
+
+    one-small : (p : ℕ) → i ≤ p - 1 → p < j → p < length a / width f → Small f (sizes.reach f + 3 + 9) (getD (evensOne f t a d) p nan)
+    unfolding evensOne
+    one-small p ip pj h =
+        evens-small (t .delta) scaled _ _ (factored .3) (omega (arith, far f)) (omega arith) p h
+        (detail-small (p - 1) (omega arith) (omega arith) (omega arith)) (detail-small _ (omega arith) (omega arith) (omega arith))
+        (times-small f (t .invk) a p (factored .5) wa (omega arith) (omega arith) h)
+
+    two-small : (p : ℕ) → i ≤ p - 1 → p + 1 < j → p < length d / width f → Small f (sizes.reach f + 3 + 9 + 9) (getD (oddsTwo f t a d) p nan)
+    unfolding oddsTwo
+    two-small p ip pj h =
+        odds-small (t .gamma) one _ _ (factored .2) (omega (arith, far f)) (omega arith) p h
+        (one-small p (omega arith) (omega arith) (omega arith)) (one-small _ (omega arith) (omega arith) (omega arith)) (detail-small p (omega arith) (omega arith) h)
+
+    three-small : (p : ℕ) → i ≤ p - 2 → p + 1 < j → p < length a / width f → Small f (sizes.reach f + 3 + 9 + 9 + 9) (getD (evensThree f t a d) p nan)
+    unfolding evensThree
+    three-small p ip pj h =
+        evens-small (t .beta) two _ _ (factored .1) (omega (arith, far f)) (omega arith) p h
+        (two-small (p - 1) (omega arith) (omega arith) (omega arith)) (two-small _ (omega arith) (omega arith) (omega arith)) (one-small p (omega arith) (omega arith) h)
+
+    four-small : (p : ℕ) → i ≤ p - 2 → p + 2 < j → p < length d / width f → Small f (sizes.reach f + 3 + 9 + 9 + 9 + 9) (getD (oddsFour f t a d) p nan)
+    unfolding oddsFour
+    four-small p ip pj h =
+        odds-small (t .alpha) three _ _ (factored .0) (far f) (omega arith) p h
+        (three-small p (omega arith) (omega arith) (omega arith)) (three-small _ (omega arith) (omega arith) (omega arith)) (two-small p (omega arith) (omega arith) h)
+
+  -- so what pair i stores is no NaN
+  module _ {b : Bool} {i : ℕ} (w : Near b f a d i (i + 1)) where
+    pub even-no-nan : {e : Float} → i < length a / width f → e ≡ getD (evensThree f t a d) i nan → b ≡ true → T (not (isNan e))
+    even-no-nan h q y = lifts.no-nan-is f _ (getD (evensThree f t a d) i nan) (three-small (w .approx y) (w .details y) i (omega arith) (omega arith) h) q
+
+    pub odd-no-nan : {o : Float} → i < length d / width f → o ≡ getD (oddsFour f t a d) i nan → b ≡ true → T (not (isNan o))
+    odd-no-nan h q y = lifts.no-nan-is f _ (getD (oddsFour f t a d) i nan) (four-small (w .approx y) (w .details y) i (omega arith) (omega arith) h) q
+
+  all-stored : {x : List ℕ} {i : ℕ} → Front (width f) (length a / width f + length d / width f) i (inTurn f (evensThree f t a d) (oddsFour f t a d)) x
+      → i ≡ length a / width f + length d / width f → x ≡ back f Cdf97 a d
+  unfolding back restored back97
+  all-stored h e = lifts.turns-all f (evensThree f t a d) (oddsFour f t a d) h e (rw (four .evens-count, four .odds-count)) ∙ unfold evensThree oddsFour oddsTwo evensOne timesOf in rw (v .set)
+
+  -- all samples: pairs alone, or an even sample after them
+  pub restored-all : {x : List ℕ} (i : ℕ) → Restored f t a d x i → 2 * i ≡ length a / width f + length d / width f → x ≡ back f Cdf97 a d
+  restored-all i h n = all-stored h n
+
+  pub restored-last : {x y : List ℕ} {e : Float} (i : ℕ) → Restored f t a d x i → 2 * i + 1 ≡ length a / width f + length d / width f → e ≡ getD (evensThree f t a d) i nan → y ≡ putFloat f x (2 * i) e
+      → y ≡ back f Cdf97 a d
+  restored-last i h n q put = all-stored (lifts.even-more f _ _ i h (omega arith) q put) n
+
+-- ---- a pair whose right neighbour is at j
+
+pub pair-by : {f : Format} {t : Set} {a d : List ℕ} (i j : ℕ) {q r n : Float} → i < length d / width f → j ≡ min (i + 1) (length a / width f - 1)
+    → q ≡ getD (oddsTwo f t a d) i nan → r ≡ getD (evensThree f t a d) i nan → n ≡ getD (evensThree f t a d) j nan → Pair f t a d i q r n
+pair-by i j h e two three next = record { inside = h; two = two; three = three; next = rw (← e) next }
+
+pub next-at : {f : Format} {t : Set} {a d : List ℕ} {i : ℕ} {q r n : Float} (j : ℕ) → Pair f t a d i q r n → j ≡ min (i + 1) (length a / width f - 1) → n ≡ getD (evensThree f t a d) j nan
+next-at j w e = rw e (w .next)
+
+-- ---- the floats that turns depend on
+
+pub near-by : {b : Bool} {f : Format} {a d : List ℕ} {j k : ℕ} (i e : ℕ) → SmallIf b f a j k → SmallIf b f d j k → j ≤ i - 2 → e + 2 ≤ k → Near b f a d i e
+near-by i e p q h l = record { approx = sizes.part-if _ _ p h l; details = sizes.part-if _ _ q h l }
+
+-- those of one turn
+pub near-at : {b : Bool} {f : Format} {a d : List ℕ} {i e : ℕ} (p : ℕ) → Near b f a d i e → i ≤ p → p < e → Near b f a d p (p + 1)
+near-at p w h l = near-by p (p + 1) (w .approx) (w .details) (omega arith) (omega arith)
+
+-- nothing is asked where the flag is not set
+pub near-never : {f : Format} {a d : List ℕ} {i e : ℕ} → Near false f a d i e
+near-never = record { approx = lifts.never; details = lifts.never }
+
+-- ---- from what the inverse is lent
+
+module _ {f : Format} {x a d : List ℕ} (l : Lent f x a d) where
+  pub given-by : {t : Set} → 4 ≤ length x / width f → t ≡ turned (factorsOf f) → Given f t a d
+  given-by h e = record {
+    long = omega (arith, l .details .count);
+    fewer = omega (arith, l .details .count, l .approx .count);
+    near = omega (arith, l .details .count, l .approx .count);
+    set = e;
+  }
+
+  pub none-restored : (t : Set) → Restored f t a d x 0
+  none-restored t =
+      let n : length x / width f ≡ length a / width f + length d / width f = omega (arith, l .details .count, l .approx .count) in
+      front-none _ (rw (← n) (l .samples))

@@ -1,0 +1,184 @@
+-- 9/7 forward: the lists after each step entry by entry as code makes them, what a turn stores, and that it is no NaN where the samples are small. Once over the format.
+-- Assumes nothing.
+use mathlib.Core.Bool.{Bool, true, not}
+use mathlib.Core.List.{List}
+use mathlib.Core.Logic.{⊎-elim}
+use mathlib.Core.Path.{_≡_, refl, sym, ap, subst, _∙_}
+use Prim.Native.Nat.{ℕ, _+_, _-_, _*_, _/_, _%_, _≤_, _<_, min}
+use native.Mathlib.Omega.{arith}
+use lib.Dec.{T}
+use lib.Ieee.{Float, nan, Format, binary32, binary64, add, mul, isNan, round}
+use lib.ListN.{length, getD}
+use Rattle.answers.proofs.Order.{lt-or-le}
+use Rattle.sizes.specs.declared.Wavelet.the-variants.{Cdf97}
+use Rattle.sizes.specs.Bands.{ups, downs}
+use Rattle.samples.specs.Words.{Front}
+use Rattle.samples.specs.Floats.{width, encodeFloats}
+use Rattle.floats.specs.Filters.{Set, decimal, rounded, factors32, factors64, factorsOf, steps97}
+use Rattle.floats.specs.Bands.{approxs, details, low, high}
+use Rattle.small.specs.Small.{Small, Factor, SmallFrom, SmallIf}
+use Rattle.small.specs.Lists.{evenIn, oddIn, oddsTo, evensTo, patternOf}
+use Rattle.small.proofs.Sizes.{reach, ceiling, small-le, small-part}
+use Rattle.small.proofs.Lifts as lifts
+use Rattle.small.proofs.Firsts as firsts
+use Rattle.lift97.specs.Ahead.{oddsOne, evensTwo, oddsThree, evensFour, highs, lows, Near, Samples, Ahead, Carried, Splitting, Split}
+
+-- ---- the factors are at most 2, and four steps and a scaling stay far below the largest float
+
+record Factors (t : Set) : Type 0 where
+  alpha : Factor (t .alpha)
+  beta : Factor (t .beta)
+  gamma : Factor (t .gamma)
+  delta : Factor (t .delta)
+  k : Factor (t .k)
+  invk : Factor (t .invk)
+
+factors : (f : Format) → Factors (factorsOf f)
+unfolding factors32 factors64 rounded decimal round
+factors binary32 = record { alpha = omega arith; beta = omega arith; gamma = omega arith; delta = omega arith; k = omega arith; invk = omega arith }
+factors binary64 = record { alpha = omega arith; beta = omega arith; gamma = omega arith; delta = omega arith; k = omega arith; invk = omega arith }
+
+far : (f : Format) → reach f + 9 + 9 + 9 + 9 + 3 < ceiling f
+far binary32 = omega arith
+far binary64 = omega arith
+
+module _ {f : Format} {t : Set} {x : List ℕ} (v : Samples f t x) where
+  pub long : 3 ≤ length x / width f
+  long = omega (arith, v)
+
+  given : Factors t
+  given = subst Factors (sym (v .set)) (factors f)
+
+  pub length-one : length (oddsOne f t x) ≡ length x / width f / 2
+  length-one = firsts.length-oddsTo f x long (t .alpha)
+
+  pub length-two : length (evensTwo f t x) ≡ (length x / width f + 1) / 2
+  length-two = firsts.length-evensTo f x long (t .alpha) (t .beta)
+
+  length-three : length (oddsThree f t x) ≡ length x / width f / 2
+  unfolding oddsThree
+  length-three = lifts.length-odds f (t .gamma) (evensTwo f t x) (oddsOne f t x) ∙ length-one
+
+  length-four : length (evensFour f t x) ≡ (length x / width f + 1) / 2
+  unfolding evensFour
+  length-four = lifts.length-evens f (t .delta) (evensTwo f t x) (oddsThree f t x) ∙ length-two
+
+  length-highs : length (highs f t x) ≡ length x / width f / 2
+  unfolding highs
+  length-highs = lifts.length-scaled f (t .invk) (oddsThree f t x) ∙ length-three
+
+  length-lows : length (lows f t x) ≡ (length x / width f + 1) / 2
+  unfolding lows
+  length-lows = lifts.length-scaled f (t .k) (evensFour f t x) ∙ length-four
+
+  -- ---- as the code makes them: r is the place of the right neighbour
+
+  pub three-made : (i r : ℕ) {y z u : Float} → i < length x / width f / 2 → r ≡ min (i + 1) ((length x / width f + 1) / 2 - 1) → y ≡ getD (evensTwo f t x) i nan → z ≡ getD (evensTwo f t x) r nan
+      → u ≡ getD (oddsOne f t x) i nan → add f (mul f (add f y z) (t .gamma)) u ≡ getD (oddsThree f t x) i nan
+  unfolding oddsThree
+  three-made i r h er ey ez eu = lifts.odd-made f (t .gamma) (evensTwo f t x) (oddsOne f t x) i r (rw length-one h) (rw length-two er) ey ez eu
+
+  pub low-made : (i l r : ℕ) {y z u : Float} → i < (length x / width f + 1) / 2 → l ≡ i - 1 → r ≡ min i (length x / width f / 2 - 1) → y ≡ getD (oddsThree f t x) l nan → z ≡ getD (oddsThree f t x) r nan
+      → u ≡ getD (evensTwo f t x) i nan → mul f (add f (mul f (add f y z) (t .delta)) u) (t .k) ≡ getD (lows f t x) i nan
+  unfolding lows evensFour
+  low-made i l r h el er ey ez eu =
+      lifts.scaled-made f (t .k) _ i (rw (lifts.length-evens f (t .delta) (evensTwo f t x) (oddsThree f t x), length-two) h)
+      (lifts.even-made f (t .delta) (evensTwo f t x) (oddsThree f t x) i l r (rw length-two h) el (rw length-three er) ey ez eu)
+
+  pub high-made : (i : ℕ) {y : Float} → i < length x / width f / 2 → y ≡ getD (oddsThree f t x) i nan → mul f y (t .invk) ≡ getD (highs f t x) i nan
+  unfolding highs
+  high-made i h ey = lifts.scaled-made f (t .invk) (oddsThree f t x) i (rw length-three h) ey
+
+  -- ---- small samples leave no NaN
+
+  -- each step reaches a sample further on either side
+  one-small : (i : ℕ) → i < length x / width f / 2 → SmallFrom f x (2 * i) (2 * i + 3) → Small f (reach f + 9 + 9) (getD (oddsOne f t x) i nan)
+  one-small i h w = small-le f (getD (oddsOne f t x) i nan) (reach f + 9) (reach f + 9 + 9) (firsts.odd-small f x long (t .alpha) i h (given .alpha) w) (omega arith)
+
+  two-small : (i : ℕ) → i < (length x / width f + 1) / 2 → SmallFrom f x (2 * i - 2) (2 * i + 3) → Small f (reach f + 9 + 9) (getD (evensTwo f t x) i nan)
+  two-small i h w = firsts.even-small f x long (t .alpha) (t .beta) i h (given .alpha) (given .beta) w
+
+  three-small : (i : ℕ) → i < length x / width f / 2 → SmallFrom f x (2 * i - 2) (2 * i + 5) → Small f (reach f + 9 + 9 + 9) (getD (oddsThree f t x) i nan)
+  unfolding oddsThree
+  three-small i h w =
+      let r = min (i + 1) ((length x / width f + 1) / 2 - 1) in
+      lifts.odd-small f (t .gamma) (evensTwo f t x) (oddsOne f t x) (reach f + 9 + 9) (given .gamma) (omega (arith, far f)) i r (rw length-one h) (rw length-two refl)
+      (two-small i (omega arith) (small-part _ _ w (omega arith) (omega arith)))
+      (two-small r (omega arith) (small-part _ _ w (omega arith) (omega arith)))
+      (one-small i h (small-part _ _ w (omega arith) (omega arith)))
+
+  four-small : (i : ℕ) → i < (length x / width f + 1) / 2 → SmallFrom f x (2 * i - 4) (2 * i + 5) → Small f (reach f + 9 + 9 + 9 + 9) (getD (evensFour f t x) i nan)
+  unfolding evensFour
+  four-small i h w =
+      let r = min i (length x / width f / 2 - 1) in
+      lifts.even-small f (t .delta) (evensTwo f t x) (oddsThree f t x) (reach f + 9 + 9 + 9) (given .delta) (omega (arith, far f)) i (i - 1) r (rw length-two h) refl (rw length-three refl)
+      (three-small (i - 1) (omega (arith, long)) (small-part _ _ w (omega arith) (omega arith)))
+      (three-small r (omega (arith, long)) (small-part _ _ w (omega arith) (omega arith)))
+      (small-le f (getD (evensTwo f t x) i nan) (reach f + 9 + 9) (reach f + 9 + 9 + 9) (two-small i h (small-part _ _ w (omega arith) (omega arith))) (omega arith))
+
+  module _ {b : Bool} {e : Float} (i : ℕ) (w : Near b f x i) where
+    pub high-no-nan : i < length x / width f / 2 → e ≡ getD (highs f t x) i nan → b ≡ true → T (not (isNan e))
+    unfolding highs
+    high-no-nan h q s =
+        lifts.no-nan-is f (reach f + 9 + 9 + 9 + 3) (getD (highs f t x) i nan)
+        (lifts.scaled-small f (t .invk) (oddsThree f t x) (reach f + 9 + 9 + 9) i (given .invk) (omega (arith, far f)) (rw length-three h) (three-small i h (small-part _ _ (w s) (omega arith) (omega arith)))) q
+
+    pub low-no-nan : i < (length x / width f + 1) / 2 → e ≡ getD (lows f t x) i nan → b ≡ true → T (not (isNan e))
+    unfolding lows
+    low-no-nan h q s =
+        lifts.no-nan-is f (reach f + 9 + 9 + 9 + 9 + 3) (getD (lows f t x) i nan)
+        (lifts.scaled-small f (t .k) (evensFour f t x) (reach f + 9 + 9 + 9 + 9) i (given .k) (far f) (rw length-four h) (four-small i h (w s))) q
+
+  -- all of the bands
+  pub split-all : {both : Bool} {y z : List ℕ} {i : ℕ} → Front (width f) (ups (length x / width f)) i (patternOf f (lows f t x)) y → i ≡ ups (length x / width f)
+      → (both ≡ true → Front (width f) (downs (length x / width f)) (downs (length x / width f)) (patternOf f (highs f t x)) z) → Split both f t x y z
+  split-all h e k = record { approx = lifts.stored-all f (lows f t x) h e (sym length-lows); details = λ w. lifts.stored-all f (highs f t x) (k w) refl (sym length-highs) }
+
+-- ---- what the loop keeps
+
+-- a block that ends before the last turn brings the end nearer
+pub nearer : (n i e : ℕ) → (i < e) × (e ≤ n - 1) → n - e < n - i
+nearer n i e h = omega arith
+
+pub ahead-on : {both : Bool} {f : Format} {t : Set} {x a d s u : List ℕ} {i : ℕ} → Ahead both f t x a d → Splitting both f t x s u i → Ahead both f t x s u
+ahead-on v r = record { samples = v .samples; approx = r .approx .holds; details = λ b. r .details b .holds }
+
+-- the bands' lengths, what of them is stored, and what the turns so far hand on
+pub record Turned (both : Bool) (f : Format) (t : Set) (x a₀ d₀ a d : List ℕ) (i : ℕ) (p q r : Float) : Type 0 where
+  pub approx : length a ≡ length a₀
+  pub details : length d ≡ length d₀
+  pub stored : Splitting both f t x a d i
+  pub carried : Carried f t x i p q r
+
+-- what the next turn requires, and R besides
+pub turned-on : {both : Bool} {f : Format} {t : Set} {x a₀ d₀ a d : List ℕ} {i : ℕ} {p q r : Float} {R : Type 0} → Ahead both f t x a₀ d₀ → Turned both f t x a₀ d₀ a d i p q r → R
+    → Ahead both f t x a d × (Splitting both f t x a d i × (Carried f t x i p q r × R))
+turned-on v w h = (ahead-on v (w .stored), (w .stored, (w .carried, h)))
+
+pub splitting-at : {both : Bool} {f : Format} {t : Set} {x a d : List ℕ} {i : ℕ} (k : ℕ) → Splitting both f t x a d i → i ≡ k → Splitting both f t x a d k
+splitting-at {both} {f} {t} {x} {a} {d} k r w = subst (λ m. Splitting both f t x a d m) w r
+
+pub carried-at : {f : Format} {t : Set} {x : List ℕ} {i : ℕ} {p q r : Float} (k : ℕ) → Carried f t x i p q r → i ≡ k → Carried f t x k p q r
+carried-at {f} {t} {x} {p = p} {q = q} {r = r} k c w = subst (λ m. Carried f t x m p q r) w c
+
+-- ---- by the set of the forward filter they are its bands
+
+pub high-97 : (f : Format) (x : List ℕ) {t : Set} {y : List ℕ} → t ≡ factorsOf f → y ≡ encodeFloats f (highs f t x) → y ≡ high f Cdf97 x
+unfolding high details steps97
+high-97 f x et e = e ∙ unfold highs oddsThree evensTo oddsTo evenIn oddIn in rw et
+
+pub low-97 : (f : Format) (x : List ℕ) {t : Set} {y : List ℕ} → t ≡ factorsOf f → y ≡ encodeFloats f (lows f t x) → y ≡ low f Cdf97 x
+unfolding low approxs steps97
+low-97 f x et e = e ∙ unfold lows evensFour oddsThree evensTo oddsTo evenIn oddIn in rw et
+
+-- a number that is not even is one more than twice its half
+pub odd-count : (n : ℕ) → (n % 2 ≡ 0 → ⊥) → n ≡ 2 * (n / 2) + 1
+odd-count n ne = ⊎-elim (λ (z : n % 2 < 1). absurd (ne (omega arith))) (λ (z : 1 ≤ n % 2). omega arith) (lt-or-le (n % 2) 1)
+
+-- the odd sample after the third step that a turn hands on is of the place before
+pub carried-three : {f : Format} {t : Set} {x : List ℕ} {p q r : Float} (i : ℕ) → Carried f t x (i + 1) p q r → r ≡ getD (oddsThree f t x) i nan
+carried-three {f} {t} {x} i c = c .three ∙ ap (λ (k : ℕ). getD (oddsThree f t x) k nan) (omega arith)
+
+-- and one that is not odd has as many approximations as details
+pub even-ups : (n : ℕ) → (n % 2 ≡ 1 → ⊥) → n / 2 ≡ (n + 1) / 2
+even-ups n ne = ⊎-elim (λ (z : n % 2 < 1). omega arith) (λ (z : 1 ≤ n % 2). absurd (ne (omega arith))) (lt-or-le (n % 2) 1)

@@ -1,0 +1,68 @@
+-- 9/7 forward as one loop makes it, by the set t: after the two steps that `oddsTo` and `evensTo` are, two more and the scaling. Over the format.
+-- Assumes nothing: these are definitions.
+use mathlib.Core.Bool.{Bool, true}
+use mathlib.Core.List.{List}
+use mathlib.Core.Path.{_≡_}
+use Prim.Native.Nat.{ℕ, _+_, _-_, _*_, _/_, _≤_}
+use lib.Ieee.{Float, nan, Format}
+use lib.ListN.{length, getD}
+use Rattle.sizes.specs.Bands.{ups, downs}
+use Rattle.samples.specs.Words.{Holds, Front}
+use Rattle.samples.specs.Floats.{width, encodeFloats}
+use Rattle.floats.specs.Steps.{lift, evens, odds, scaled}
+use Rattle.floats.specs.Filters.{Set, factorsOf}
+use Rattle.small.specs.Small.{SmallIf}
+use Rattle.small.specs.Lists.{oddsTo, evensTo, patternOf}
+
+-- the odds and the evens after the first two steps
+abbrev pub oddsOne : Format → Set → List ℕ → List Float
+oddsOne f t x = oddsTo f (t .alpha) x
+
+abbrev pub evensTwo : Format → Set → List ℕ → List Float
+evensTwo f t x = evensTo f (t .alpha) (t .beta) x
+
+-- the odds after the third step, and the evens after the fourth
+unfoldable pub oddsThree : Format → Set → List ℕ → List Float
+oddsThree f t x = odds (lift f (t .gamma)) nan (evensTwo f t x) (oddsOne f t x)
+
+unfoldable pub evensFour : Format → Set → List ℕ → List Float
+evensFour f t x = evens (lift f (t .delta)) nan (evensTwo f t x) (oddsThree f t x)
+
+-- and scaled: the details and the approximations
+unfoldable pub highs : Format → Set → List ℕ → List Float
+highs f t x = scaled f (t .invk) (oddsThree f t x)
+
+unfoldable pub lows : Format → Set → List ℕ → List Float
+lows f t x = scaled f (t .k) (evensFour f t x)
+
+-- the samples that entry i of the bands is made of are small where b says so
+abbrev pub Near : Bool → Format → List ℕ → ℕ → Type 0
+Near b f x i = SmallIf b f x (2 * i - 4) (2 * i + 5)
+
+-- x holds four samples or more, and t is the set of the forward filter
+pub record Samples (f : Format) (t : Set) (x : List ℕ) : Type 0 where
+  pub four : 4 ≤ length x / width f
+  pub whole : Holds (width f) (length x / width f) x
+  pub set : t ≡ factorsOf f
+
+-- and a has room for the approximations and, where both are wanted, d for the details
+pub record Ahead (both : Bool) (f : Format) (t : Set) (x a d : List ℕ) : Type 0 where
+  pub samples : Samples f t x
+  pub approx : Holds (width f) (ups (length x / width f)) a
+  pub details : both ≡ true → Holds (width f) (downs (length x / width f)) d
+
+-- what a turn hands to the next: odd entry i after the first step, even entry i after the second, and the odd entry before it after the third (0 before itself)
+pub record Carried (f : Format) (t : Set) (x : List ℕ) (i : ℕ) (p q r : Float) : Type 0 where
+  pub one : p ≡ getD (oddsOne f t x) i nan
+  pub two : q ≡ getD (evensTwo f t x) i nan
+  pub three : r ≡ getD (oddsThree f t x) (i - 1) nan
+
+-- the first i entries of the bands that are wanted are stored
+pub record Splitting (both : Bool) (f : Format) (t : Set) (x a d : List ℕ) (i : ℕ) : Type 0 where
+  pub approx : Front (width f) (ups (length x / width f)) i (patternOf f (lows f t x)) a
+  pub details : both ≡ true → Front (width f) (downs (length x / width f)) i (patternOf f (highs f t x)) d
+
+-- all of them are
+pub record Split (both : Bool) (f : Format) (t : Set) (x a d : List ℕ) : Type 0 where
+  pub approx : a ≡ encodeFloats f (lows f t x)
+  pub details : both ≡ true → d ≡ encodeFloats f (highs f t x)

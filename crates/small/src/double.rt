@@ -1,0 +1,97 @@
+// Small floats at f64. single.rt has the same at f32.
+ghost use mathlib.Core.Bool.{true, not, cond};
+ghost use mathlib.Core.Path.{_≡_};
+ghost use Prim.Native.Nat.{_+_, _/_, _≤_, _<_};
+ghost use lib.Dec.{T};
+ghost use lib.Ieee.{binary64, isNan};
+ghost use lib.ListN.{length};
+ghost use Rattle.samples.specs.Floats.{floatAt, putFloat};
+ghost use Rattle.small.specs.Small.{SmallFrom, SmallIf};
+use crate::turns::lesser;
+use samples::floats::f64_of;
+use samples::floats::word_u64;
+use samples::le::write_u64;
+
+// Whether each float from place i to before place j, as far as there are, is no NaN and below 2 ^ 769 in size.
+pub fn small_from_f64(s: &[u8], i: usize, j: usize) -> bool
+    ensures { λ r. ⌜ (r ≡ true → SmallFrom binary64 (now (s .entry)) i j) ⌝ }
+{
+    let end = lesser(j, s.len() / 8);
+    let mut any: u64 = 0;
+    let mut p = i;
+    while p < end {
+        any = any | (word_u64(s, p) % 0x8000_0000_0000_0000 + 0x1000_0000_0000_0000);
+        p += 1;
+    }
+    any < 0x8000_0000_0000_0000
+}
+
+// The same of two bands, in one loop.
+pub fn small_bands_f64(a: &[u8], d: &[u8], i: usize, j: usize) -> bool
+    requires { ⌜ (j ≤ length (now a) / 8) × (j ≤ length (now d) / 8) ⌝ }
+    ensures { λ r. ⌜ SmallIf r binary64 (now (a .entry)) i j × SmallIf r binary64 (now (d .entry)) i j ⌝ }
+{
+    let mut any: u64 = 0;
+    let mut p = i;
+    while p < j {
+        any = any | (word_u64(a, p) % 0x8000_0000_0000_0000 + 0x1000_0000_0000_0000);
+        any = any | (word_u64(d, p) % 0x8000_0000_0000_0000 + 0x1000_0000_0000_0000);
+        p += 1;
+    }
+    any < 0x8000_0000_0000_0000
+}
+
+// Float i of a slice, which is small.
+pub fn get_small_f64(s: &[u8], i: usize) -> f64
+    requires { ⌜ i < length (now s) / 8 ⌝ }
+    requires { ⌜ SmallFrom binary64 (now s) i (i + 1) ⌝ }
+    ensures { λ r. ⌜ r ≡ floatAt binary64 (now (s .entry)) i ⌝ }
+{
+    f64::from_bits(word_u64(s, i))
+}
+
+// The float x, which is no NaN, as float i of a slice.
+pub fn put_small_f64(s: &mut [u8], i: usize, x: f64)
+    requires { ⌜ i < length (now s) / 8 ⌝ }
+    requires { ⌜ T (not (isNan x)) ⌝ }
+    ensures { λ _. ⌜ now (s .exit) ≡ putFloat binary64 (now (s .entry)) i x ⌝ }
+{
+    write_u64(s, 8 * i, f64::to_bits(x));
+}
+
+// Float i of a slice, which is small where the flag is set. The flag is the same in a whole loop, so LLVM takes the test out of it.
+pub fn get_f64(small: bool, s: &[u8], i: usize) -> f64
+    requires { ⌜ i < length (now s) / 8 ⌝ }
+    requires { ⌜ SmallIf small binary64 (now s) i (i + 1) ⌝ }
+    ensures { λ r. ⌜ r ≡ floatAt binary64 (now (s .entry)) i ⌝ }
+{
+    if small {
+        get_small_f64(s, i)
+    } else {
+        f64_of(word_u64(s, i))
+    }
+}
+
+// The float x, which is no NaN where `small` is set, as float i of a slice.
+pub fn put_f64(small: bool, s: &mut [u8], i: usize, x: f64)
+    requires { ⌜ i < length (now s) / 8 ⌝ }
+    requires { ⌜ (small ≡ true → T (not (isNan x))) ⌝ }
+    ensures { λ _. ⌜ now (s .exit) ≡ putFloat binary64 (now (s .entry)) i x ⌝ }
+{
+    if small {
+        put_small_f64(s, i, x);
+    } else {
+        samples::floats::put_f64(s, i, x);
+    }
+}
+
+// The same where the float is wanted; if not, the slice stays.
+pub fn put_if_f64(wanted: bool, small: bool, s: &mut [u8], i: usize, x: f64)
+    requires { ⌜ (wanted ≡ true → i < length (now s) / 8) ⌝ }
+    requires { ⌜ (small ≡ true → T (not (isNan x))) ⌝ }
+    ensures { λ _. ⌜ now (s .exit) ≡ cond wanted (putFloat binary64 (now (s .entry)) i x) (now (s .entry)) ⌝ }
+{
+    if wanted {
+        put_f64(small, s, i, x);
+    }
+}
