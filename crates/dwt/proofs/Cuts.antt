@@ -31,5 +31,8 @@ width-room Cdf97F64 n h = omega arith
 pub split-width : (k n : ℕ) → k * n ≡ k * ups n + k * downs n
 split-width k n = let e : n ≡ ups n + downs n = omega arith in ap (λ m. k * m) e ∙ mul-add k (ups n) (downs n)
 
+pub half-within : (k n : ℕ) → k * ups n ≤ k * n
+half-within k n = omega (arith, split-width k n)
+
 pub cut-at : (f : Filter) (n r : ℕ) → r ≡ widthOf f * ups n → Cut f n r
 cut-at f n r e = let s = split-width (widthOf f) n in record { place = e; within = omega arith; rest = omega arith }

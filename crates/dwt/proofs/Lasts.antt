@@ -18,13 +18,13 @@ use Rattle.sizes.specs.Levels.{places, depthOf, levelsOf}
 use Rattle.dwt.specs.declared.filter.Filter.{Filter}
 use Rattle.dwt.specs.Filters.{widthOf, waveletOf, lowOf, highOf}
 use Rattle.dwt.specs.Pyramids.{approxAt}
-use Rattle.dwt.specs.Calls.{dwtChecks, sayDwt, Dwt, Ready}
+use Rattle.dwt.specs.Calls.{BandsOf, Parted, dwtChecks, sayDwt, Dwt, Ready}
 use Rattle.dwt.proofs.Multi.{levels-pos}
 use Rattle.dwt.proofs.PyramidLaws.{approx-after}
 
 -- what the checks leave: the levels run, and the bands have the lengths of the last level
 pub dwt-ready : (f : Filter) (l x a d u v : ℕ) → done (sayDwt f l x a d u v) ≡ true
-    → let m = places (levelsOf l - 1) (x / widthOf f) in Ready f (levelsOf l) (x / widthOf f) x u v × (a ≡ widthOf f * ups m) × (d ≡ widthOf f * downs m)
+    → let m = places (levelsOf l - 1) (x / widthOf f) in Ready f (levelsOf l) (x / widthOf f) x u v × BandsOf f m a d
 unfolding sayDwt
 dwt-ready f l x a d u v h =
     let k = widthOf f in
@@ -44,8 +44,10 @@ dwt-ready f l x a d u v h =
         first = omega (arith, eu, lu);
         second = omega (arith, ev, lv);
       },
-      whole k a (p .1 .0) ∙ ap (λ n. k * n) (right (a / k) (ups m) (q .1 .1 .0)),
-      whole k d (p .1 .1 .0) ∙ ap (λ n. k * n) (right (d / k) (downs m) (q .1 .1 .1 .0)),
+      (
+        whole k a (p .1 .0) ∙ ap (λ n. k * n) (right (a / k) (ups m) (q .1 .1 .0)),
+        whole k d (p .1 .1 .0) ∙ ap (λ n. k * n) (right (d / k) (downs m) (q .1 .1 .1 .0)),
+      ),
     )
 
 module _ (f : Filter) (l : ℕ) (x a d u v : List ℕ) where
@@ -55,15 +57,15 @@ module _ (f : Filter) (l : ℕ) (x a d u v : List ℕ) where
   abbrev input : List ℕ
   input = approxAt f (levelsOf l - 1) x
 
-  -- s is what the checks said, r its numbers, n the number of samples, and y the last level's input
-  pub dwt-done : (s : Refusal) (r : Answer) (n : ℕ) (y a′ d′ u′ v′ : List ℕ) → s ≡ said → r ≡ answerOf s → done s ≡ true → widthOf f * n ≡ length x → y ≡ input
-      → a′ ≡ lowOf f y → d′ ≡ highOf f y → drop (widthOf f * n) u′ ≡ drop (widthOf f * n) u → drop (widthOf f * n) v′ ≡ drop (widthOf f * n) v → Dwt f l x a d u v r a′ d′ u′ v′
-  dwt-done s r n y a′ d′ u′ v′ es er z en ey p q hu hv =
+  -- s is what the checks said, r its numbers, and n the number of samples
+  pub dwt-done : (s : Refusal) (r : Answer) (n : ℕ) {a′ d′ : List ℕ} (u′ v′ : List ℕ) → s ≡ said → r ≡ answerOf s → done s ≡ true → widthOf f * n ≡ length x
+      → Parted f input a′ d′ → drop (widthOf f * n) u′ ≡ drop (widthOf f * n) u → drop (widthOf f * n) v′ ≡ drop (widthOf f * n) v → Dwt f l x a d u v r a′ d′ u′ v′
+  dwt-done s r n u′ v′ es er z en p hu hv =
       let t : done said ≡ true = rw es at z in
       record {
         answer = er ∙ ap answerOf es;
-        approx = p ∙ ap (lowOf f) ey ∙ sym (left-done said (lowOf f input) a t);
-        details = q ∙ ap (highOf f) ey ∙ sym (left-done said (highOf f input) d t);
+        approx = p .0 ∙ sym (left-done said (lowOf f input) a t);
+        details = p .1 ∙ sym (left-done said (highOf f input) d t);
         first = spared said (length x) u u′ t (rw en at hu);
         second = spared said (length x) v v′ t (rw en at hv);
       }

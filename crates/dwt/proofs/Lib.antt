@@ -1,6 +1,7 @@
 pub mod Filters
 pub mod Lists
 pub mod Cuts
+pub mod Rooms
 pub mod PyramidLaws
 pub mod Multi
 pub mod Rises

@@ -1,11 +1,11 @@
 -- Parts of slices that were lent and come back. Assumes nothing.
-use mathlib.Core.Path.{_≡_, refl, sym, ap, _∙_, subst}
-use mathlib.Core.List.{List, [], _∷_, _++_, append-nil}
-use Prim.Native.Nat.{ℕ, _+_, _-_, _*_, _/_, _≤_, _<_}
+use mathlib.Core.Path.{_≡_, sym, ap, _∙_}
+use mathlib.Core.List.{List, _++_, append-nil}
+use Prim.Native.Nat.{ℕ, _+_, _-_, _≤_}
 use native.Mathlib.Nat.{add-sub-of-le}
 use native.Mathlib.Omega.{arith}
-use lib.ListN.{length, take, drop, length-take, length-drop, length-append, drop-of-length-le}
-use lib.Seq.{take-all, take-at, drop-at, drop-drop, length-take-le, take-append-le}
+use lib.ListN.{length, take, drop, length-drop, drop-of-length-le}
+use lib.Seq.{take-all, take-at, drop-at, drop-drop, length-take-le}
 
 -- a part up to the end comes back
 pub put-end : (a : ℕ) (xs ys : List ℕ) → a ≤ length xs → take a xs ++ (ys ++ drop (length xs - a) (drop a xs)) ≡ take a xs ++ ys
@@ -29,13 +29,9 @@ copied s d e =
     let h : length d ≤ length s = omega arith in
     ap (λ (l : List ℕ). take (length s) s ++ l) (drop-of-length-le d h) ∙ append-nil (take (length s) s) ∙ take-all (length s) s (omega arith)
 
--- a front that comes back, at a place in it and at one past it
-pub front-back : (x r : List ℕ) (j n : ℕ) → j ≤ n → length r ≡ n → (take j (r ++ drop n x) ≡ take j r) × (drop n (r ++ drop n x) ≡ drop n x)
-front-back x r j n h e = (take-append-le j r (drop n x) (omega arith), drop-at r (drop n x) n e)
-
--- the length of a front that was written over the first j
-pub front-long : (l x r : List ℕ) (j : ℕ) → r ≡ l ++ drop j x → length r ≡ length x → j ≤ length x → length l ≡ j
-front-long l x r j e h k = let g = ap length e ∙ length-append l (drop j x) in omega (arith, g, length-drop j x)
+-- a front of j that comes back as r: what it holds, and what is after it
+pub put-front : (xs r : List ℕ) (j n : ℕ) → length r ≡ j → j ≤ n → (take j (r ++ drop j xs) ≡ r) × (drop n (r ++ drop j xs) ≡ drop n xs)
+put-front xs r j n e h = (take-at r (drop j xs) j e, later j n (r ++ drop j xs) xs h (drop-at r (drop j xs) j e))
 
 -- a copy over the front: what the front holds, and what comes after
 pub copied-front : (s d : List ℕ) (n : ℕ) → n ≡ length s → take n (take (length s) s ++ drop (length s) d) ≡ s

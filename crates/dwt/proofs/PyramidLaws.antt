@@ -1,13 +1,14 @@
 -- One level of a pyramid. Assumes nothing, and looks into no filter.
-use mathlib.Core.Path.{_≡_, refl, sym, ap, _∙_, subst}
-use mathlib.Core.List.{List, [], _∷_, _++_, append-nil}
-use Prim.Native.Nat.{ℕ, zero, suc, _+_, _-_, _*_, _/_, _≤_, _<_}
+use mathlib.Core.Path.{_≡_, refl, ap, _∙_}
+use mathlib.Core.List.{List, _++_}
+use Prim.Native.Nat.{ℕ, zero, suc, _-_, _≤_}
 use native.Mathlib.Omega.{arith}
 use lib.ListN.{length, take, drop}
 use lib.Seq.{take-at, drop-at, length-take-le}
 use Rattle.dwt.specs.declared.filter.Filter.{Filter}
 use Rattle.dwt.specs.Filters.{lowOf, highOf}
 use Rattle.dwt.specs.Pyramids.{approxAt, pyramid}
+use Rattle.dwt.specs.Calls.{Parted}
 
 pub pyramid-none : (f : Filter) (l : ℕ) (x : List ℕ) → l ≡ 0 → pyramid f l x ≡ x
 unfolding pyramid
@@ -28,3 +29,12 @@ pub approx-after : (f : Filter) (l : ℕ) (x : List ℕ) → approxAt f (suc l) 
 unfolding approxAt
 approx-after f zero x = refl
 approx-after f (suc l) x = approx-after f l (lowOf f x)
+
+-- the bands of what no level leaves, and of what the levels below one leave
+pub parted-none : (f : Filter) {l : ℕ} (x : List ℕ) {a d : List ℕ} → l ≡ 0 → Parted f x a d → Parted f (approxAt f l x) a d
+unfolding approxAt
+parted-none f x e p = rw e p
+
+pub parted-more : (f : Filter) {l m : ℕ} (x : List ℕ) {y a d : List ℕ} → l ≡ suc m → y ≡ lowOf f x → Parted f (approxAt f m y) a d → Parted f (approxAt f l x) a d
+unfolding approxAt
+parted-more f x e h p = rw e (rw h at p)

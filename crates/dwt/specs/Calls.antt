@@ -23,6 +23,18 @@ use Rattle.dwt.specs.Pyramids.{approxAt, pyramid}
 abbrev pub LevelOf : Filter → ℕ → ℕ → ℕ → Type 0
 LevelOf f x a d = Level (waveletOf f) (widthOf f) (x / widthOf f) x a d
 
+-- the same of the approximations alone
+abbrev pub LowOf : Filter → ℕ → ℕ → Type 0
+LowOf f x a = LevelOf f x a (widthOf f * downs (x / widthOf f))
+
+-- bands of a and d bytes are those of n samples
+abbrev pub BandsOf : Filter → ℕ → ℕ → ℕ → Type 0
+BandsOf f n a d = (a ≡ widthOf f * ups n) × (d ≡ widthOf f * downs n)
+
+-- a and d are the bands of x
+abbrev pub Parted : Filter → List ℕ → List ℕ → List ℕ → Type 0
+Parted f x a d = (a ≡ lowOf f x) × (d ≡ highOf f x)
+
 -- one level of a filter, forward and back
 abbrev pub OneForward : Filter → List ℕ → List ℕ → List ℕ → Answer → List ℕ → List ℕ → Type 0
 OneForward f = Forward (waveletOf f) (widthOf f) (lowOf f) (highOf f)

@@ -1,17 +1,13 @@
 // One level of any of the seven filters: the one place where a driver chooses among them.
-ghost use mathlib.Core.List.{_++_};
 ghost use mathlib.Core.Path.{_≡_};
 ghost use Prim.Native.Nat.{_*_, _<_, _^_};
-ghost use lib.ListN.{length, drop};
-ghost use Rattle.sizes.specs.Bands.{ups};
-ghost use Rattle.sizes.specs.Calls.{Level};
-ghost use Rattle.dwt.specs.Filters.{widthOf, waveletOf, lowOf, highOf, backOf};
-ghost use Rattle.dwt.specs.Calls.{LevelOf, OneForward, OneInverse};
+ghost use lib.ListN.{length};
+ghost use Rattle.dwt.specs.Filters.{widthOf, waveletOf, lowOf, backOf};
+ghost use Rattle.dwt.specs.Calls.{LevelOf, LowOf, Parted, OneForward, OneInverse};
 use answers::err::Answer;
 use answers::err::is_done;
 use answers::err::numbers;
 use cdf53i::cdf53i as integer;
-use floats::cdf53f;
 use floats::cdf97f;
 use sizes::Wavelet;
 use sizes::checks::check_forward;
@@ -67,18 +63,44 @@ pub fn wavelet(f: Filter) -> Wavelet
 }
 
 // One level forward of any filter, of bands that fit.
-fn forward(f: Filter, input: &[u8], approx: &mut [u8], details: &mut [u8])
+pub(crate) fn forward(f: Filter, input: &[u8], approx: &mut [u8], details: &mut [u8])
     requires { ⌜ LevelOf f (length (now input)) (length (now approx)) (length (now details)) ⌝ }
-    ensures { λ _. ⌜ (now (approx .exit) ≡ lowOf f (now (input .entry))) × (now (details .exit) ≡ highOf f (now (input .entry))) ⌝ }
+    ensures { λ _. ⌜ Parted f (now (input .entry)) (now (approx .exit)) (now (details .exit)) ⌝ }
 {
     match f {
         Filter::Cdf53I8 => integer::forward(1, input, approx, details),
         Filter::Cdf53I16 => integer::forward(2, input, approx, details),
         Filter::Cdf53I32 => integer::forward(4, input, approx, details),
-        Filter::Cdf53F32 => cdf53f::forward_f32(input, approx, details),
-        Filter::Cdf53F64 => cdf53f::forward_f64(input, approx, details),
-        Filter::Cdf97F32 => cdf97f::forward_f32(cdf97f::factors_f32(), input, approx, details),
-        Filter::Cdf97F64 => cdf97f::forward_f64(cdf97f::factors_f64(), input, approx, details),
+        Filter::Cdf53F32 => lift53::single::forward_f32(input, approx, details),
+        Filter::Cdf53F64 => lift53::double::forward_f64(input, approx, details),
+        Filter::Cdf97F32 => lift97::single::forward_f32(
+            cdf97f::factors_f32(),
+            input,
+            approx,
+            details,
+        ),
+        Filter::Cdf97F64 => lift97::double::forward_f64(
+            cdf97f::factors_f64(),
+            input,
+            approx,
+            details,
+        ),
+    }
+}
+
+// The approximations of one level of any filter alone, of a band that fits.
+pub(crate) fn approximate(f: Filter, x: &[u8], a: &mut [u8])
+    requires { ⌜ LowOf f (length (now x)) (length (now a)) ⌝ }
+    ensures { λ _. ⌜ now (a .exit) ≡ lowOf f (now (x .entry)) ⌝ }
+{
+    match f {
+        Filter::Cdf53I8 => integer::approximate(1, x, a),
+        Filter::Cdf53I16 => integer::approximate(2, x, a),
+        Filter::Cdf53I32 => integer::approximate(4, x, a),
+        Filter::Cdf53F32 => lift53::single::approximate_f32(x, a),
+        Filter::Cdf53F64 => lift53::double::approximate_f64(x, a),
+        Filter::Cdf97F32 => lift97::single::approximate_f32(cdf97f::factors_f32(), x, a),
+        Filter::Cdf97F64 => lift97::double::approximate_f64(cdf97f::factors_f64(), x, a),
     }
 }
 
@@ -91,15 +113,15 @@ fn inverse(f: Filter, approx: &[u8], details: &[u8], output: &mut [u8])
         Filter::Cdf53I8 => integer::inverse(1, approx, details, output),
         Filter::Cdf53I16 => integer::inverse(2, approx, details, output),
         Filter::Cdf53I32 => integer::inverse(4, approx, details, output),
-        Filter::Cdf53F32 => cdf53f::inverse_f32(approx, details, output),
-        Filter::Cdf53F64 => cdf53f::inverse_f64(approx, details, output),
+        Filter::Cdf53F32 => lift53::single::inverse_f32(approx, details, output),
+        Filter::Cdf53F64 => lift53::double::inverse_f64(approx, details, output),
         Filter::Cdf97F32 => {
             let t = cdf97f::turned_f32(cdf97f::factors_f32());
-            cdf97f::inverse_f32(t, approx, details, output)
+            back97::single::inverse_f32(t, approx, details, output)
         }
         Filter::Cdf97F64 => {
             let t = cdf97f::turned_f64(cdf97f::factors_f64());
-            cdf97f::inverse_f64(t, approx, details, output)
+            back97::double::inverse_f64(t, approx, details, output)
         }
     }
 }
@@ -138,21 +160,4 @@ pub fn execute_inverse(f: Filter, approx: &[u8], details: &[u8], output: &mut [u
         inverse(f, approx, details, output);
     }
     r
-}
-
-// One level forward of the n samples in x, approximations to the front of x itself, for a caller that has no third place: the rest of x stays.
-pub fn execute_within(f: Filter, n: usize, x: &mut [u8], d: &mut [u8])
-    requires { ⌜ Level (waveletOf f) (widthOf f) n (length (now x)) (widthOf f * ups n) (length (now d)) ⌝ }
-    ensures { λ _. ⌜ now (x .exit) ≡ lowOf f (now (x .entry)) ++ drop (widthOf f * ups n) (now (x .entry)) ⌝ }
-    ensures { λ _. ⌜ now (d .exit) ≡ highOf f (now (x .entry)) ⌝ }
-{
-    match f {
-        Filter::Cdf53I8 => integer::forward_within(1, x, d),
-        Filter::Cdf53I16 => integer::forward_within(2, x, d),
-        Filter::Cdf53I32 => integer::forward_within(4, x, d),
-        Filter::Cdf53F32 => cdf53f::forward_within_f32(x, d),
-        Filter::Cdf53F64 => cdf53f::forward_within_f64(x, d),
-        Filter::Cdf97F32 => cdf97f::forward_within_f32(cdf97f::factors_f32(), x, d),
-        Filter::Cdf97F64 => cdf97f::forward_within_f64(cdf97f::factors_f64(), x, d),
-    }
 }

@@ -1,19 +1,20 @@
-// `dwt`: the last level's two bands. The levels before it stay within one work area, their details go to the other.
+// `dwt`: the last level's two bands. The levels above it make approximations alone, from one work area to the other.
 ghost use mathlib.Core.Path.{_≡_};
-ghost use Prim.Native.Nat.{_-_, _*_, _≤_};
+ghost use Prim.Native.Nat.{_+_, _-_, _*_};
 ghost use lib.ListN.{length, take, drop};
 ghost use Rattle.answers.specs.Checks.{firstOf};
-ghost use Rattle.sizes.specs.Bands.{mostSamples, ups, smallestOf};
+ghost use Rattle.sizes.specs.Bands.{ups};
 ghost use Rattle.sizes.specs.Levels.{places};
-ghost use Rattle.dwt.specs.Filters.{widthOf, waveletOf, lowOf};
+ghost use Rattle.dwt.specs.Filters.{widthOf, lowOf};
 ghost use Rattle.dwt.specs.Pyramids.{approxAt};
-ghost use Rattle.dwt.specs.Calls.{Room, dwtChecks, sayDwt, Dwt};
+ghost use Rattle.dwt.specs.Calls.{BandsOf, Parted, Room, Ready, dwtChecks, sayDwt, Dwt};
 use crate::filter::Filter;
+use crate::filter::approximate;
 use crate::filter::bytes_of;
-use crate::filter::execute_forward;
-use crate::filter::execute_within;
+use crate::filter::forward;
 use crate::filter::wavelet;
 use crate::filter::width;
+use crate::levels::cut_of;
 use answers::err::Answer;
 use answers::err::Refusal;
 use answers::err::is_done;
@@ -26,34 +27,66 @@ use sizes::depth;
 use sizes::details_length;
 use sizes::places_of;
 
-// One level of the n samples in front of `one`: the approximations in their place, the details to the front of `two`.
-fn level_within(f: Filter, n: usize, one: &mut [u8], two: &mut [u8])
-    requires { ⌜ smallestOf (waveletOf f) ≤ n ⌝ }
-    requires { ⌜ n ≤ mostSamples ⌝ }
-    requires { ⌜ widthOf f * n ≤ length (now one) ⌝ }
-    requires { ⌜ widthOf f * n ≤ length (now two) ⌝ }
-    ensures { λ _. ⌜ take (widthOf f * ups n) (now (one .exit)) ≡ lowOf f (take (widthOf f * n) (now (one .entry))) ⌝ }
-    ensures { λ _. ⌜ drop (widthOf f * n) (now (one .exit)) ≡ drop (widthOf f * n) (now (one .entry)) ⌝ }
-    ensures { λ _. ⌜ drop (widthOf f * n) (now (two .exit)) ≡ drop (widthOf f * n) (now (two .entry)) ⌝ }
+// The approximations of the n samples in front of `from`, to the front of `to`.
+fn level_above(f: Filter, n: usize, from: &[u8], to: &mut [u8])
+    requires { ⌜ Room f 1 n (length (now from)) (length (now to)) ⌝ }
+    ensures { λ _. ⌜ take (widthOf f * ups n) (now (to .exit)) ≡ lowOf f (take (widthOf f * n) (now (from .entry))) ⌝ }
+    ensures { λ _. ⌜ drop (widthOf f * n) (now (to .exit)) ≡ drop (widthOf f * n) (now (to .entry)) ⌝ }
 {
     let all = bytes_of(f, n);
-    let cut = bytes_of(f, n / 2);
-    execute_within(f, n, &mut one[..all], &mut two[..cut]);
+    let cut = cut_of(f, n);
+    approximate(f, &from[..all], &mut to[..cut]);
 }
 
-// So many levels of the n samples in front of `one`.
-fn descend(f: Filter, levels: usize, n: usize, one: &mut [u8], two: &mut [u8])
-    requires { ⌜ Room f levels n (length (now one)) (length (now two)) ⌝ }
-    ensures { λ _. ⌜ take (widthOf f * places levels n) (now (one .exit)) ≡ approxAt f levels (take (widthOf f * n) (now (one .entry))) ⌝ }
+// So many levels of the n samples in front of `from`, and then the last one, whose bands are kept. The two areas change roles at each level.
+fn sink(
+    f: Filter,
+    levels: usize,
+    n: usize,
+    from: &mut [u8],
+    to: &mut [u8],
+    approx: &mut [u8],
+    details: &mut [u8],
+)
+    requires { ⌜ Room f (levels + 1) n (length (now from)) (length (now to)) ⌝ }
+    requires { ⌜ BandsOf f (places levels n) (length (now approx)) (length (now details)) ⌝ }
+    ensures { λ _. ⌜ Parted f (approxAt f levels (take (widthOf f * n) (now (from .entry)))) (now (approx .exit)) (now (details .exit)) ⌝ }
+    ensures { λ _. ⌜ drop (widthOf f * n) (now (from .exit)) ≡ drop (widthOf f * n) (now (from .entry)) ⌝ }
+    ensures { λ _. ⌜ drop (widthOf f * n) (now (to .exit)) ≡ drop (widthOf f * n) (now (to .entry)) ⌝ }
+{
+    if levels == 0 {
+        let all = bytes_of(f, n);
+        forward(f, &from[..all], approx, details);
+    } else {
+        level_above(f, n, from, to);
+        let half = (n + 1) / 2;
+        sink(f, levels - 1, half, to, from, approx, details);
+    }
+}
+
+// All levels, once the checks have passed.
+fn run_last(
+    f: Filter,
+    levels: usize,
+    n: usize,
+    signal: &[u8],
+    approx: &mut [u8],
+    details: &mut [u8],
+    one: &mut [u8],
+    two: &mut [u8],
+)
+    requires { ⌜ Ready f levels n (length (now signal)) (length (now one)) (length (now two)) ⌝ }
+    requires { ⌜ BandsOf f (places (levels - 1) n) (length (now approx)) (length (now details)) ⌝ }
+    ensures { λ _. ⌜ Parted f (approxAt f (levels - 1) (now (signal .entry))) (now (approx .exit)) (now (details .exit)) ⌝ }
     ensures { λ _. ⌜ drop (widthOf f * n) (now (one .exit)) ≡ drop (widthOf f * n) (now (one .entry)) ⌝ }
     ensures { λ _. ⌜ drop (widthOf f * n) (now (two .exit)) ≡ drop (widthOf f * n) (now (two .entry)) ⌝ }
 {
-    let mut m = n;
-    let mut i = 0;
-    while i < levels {
-        level_within(f, m, one, two);
-        m = m - m / 2;
-        i += 1;
+    if levels == 1 {
+        forward(f, signal, approx, details);
+    } else {
+        level_above(f, n, signal, one);
+        let half = (n + 1) / 2;
+        sink(f, levels - 2, half, one, two, approx, details);
     }
 }
 
@@ -150,11 +183,16 @@ pub fn dwt(
     let r = numbers(said);
     if is_done(said) {
         let n = signal.len() / width(f);
-        let above = at_least_one(levels) - 1;
-        bytes::copy(signal, one);
-        descend(f, above, n, one, two);
-        let last = bytes_of(f, places_of(above, n));
-        execute_forward(f, &one[..last], approx, details);
+        run_last(
+            f,
+            at_least_one(levels),
+            n,
+            signal,
+            approx,
+            details,
+            one,
+            two,
+        );
     }
     r
 }
