@@ -123,7 +123,7 @@ pub fn usual<T: Sample>() -> Recording<T> {
     }
 }
 
-// Three that do not take the port's loops without a test.
+// Three that leave the port's loops without a test, the first of them in one block.
 pub fn special<T: Float>() -> [Recording<T>; 3] {
     let mut one_nan = drawn(SAMPLES, T::drawn);
     one_nan[SAMPLES / 2] = T::NAN;

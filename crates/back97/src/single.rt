@@ -7,19 +7,18 @@ ghost use Rattle.floats.specs.Bands.{back};
 ghost use Rattle.floats.specs.Filters.{factors32, turned};
 ghost use Rattle.floats.specs.Kinds.{set32};
 ghost use Rattle.floats.specs.Loops.{Lent};
-ghost use Rattle.small.specs.Small.{SmallIf};
 ghost use Rattle.back97.specs.Back.{Given, Near, Carried, Pair, Restored};
 use floats::cdf97f;
 use floats::cdf97f::Factors32;
 use sizes::Wavelet;
+use sizes::lesser;
 use small::single::get_f32;
 use small::single::put_f32;
 use small::single::small_bands_f32;
 use small::turns::block_end;
-use small::turns::less;
-use small::turns::lesser;
+use small::turns::minus;
 
-// What a turn hands to the next.
+// What a turn hands to the next: even entry i + 1 after the first step, odd entry i after the second, even entry i after the third.
 struct Carry32 {
     one: f32,
     two: f32,
@@ -27,13 +26,13 @@ struct Carry32 {
 }
 
 // What the last pair is made of: its even sample is `three`, and `next` the even sample to the right.
-struct Last {
+struct Last32 {
     two: f32,
     three: f32,
     next: f32,
 }
 
-// The next turn's, from the places i + 1 and i + 2 of the bands. Called in one place, so that it is inlined.
+// The next turn's, from the places i + 1 and i + 2 of the bands.
 fn carry_f32(small: bool, t: Factors32, a: &[u8], d: &[u8], i: usize, s: Carry32) -> Carry32
     requires { ⌜ Given binary32 (set32 t) (now a) (now d) ⌝ }
     requires { ⌜ Carried binary32 (set32 t) (now a) (now d) i (s .one) (s .two) (s .three) ⌝ }
@@ -93,7 +92,7 @@ fn put_pair_f32(
 }
 
 // What the last pair is made of, i being the one before. The right neighbours are mirrored: there are as many approximations as details, or one more.
-fn last_f32(t: Factors32, a: &[u8], d: &[u8], i: usize, s: Carry32) -> Last
+fn last_f32(t: Factors32, a: &[u8], d: &[u8], i: usize, s: Carry32) -> Last32
     requires { ⌜ Given binary32 (set32 t) (now a) (now d) ⌝ }
     requires { ⌜ Carried binary32 (set32 t) (now a) (now d) i (s .one) (s .two) (s .three) ⌝ }
     requires { ⌜ i + 2 ≡ length (now d) / 4 ⌝ }
@@ -105,7 +104,7 @@ fn last_f32(t: Factors32, a: &[u8], d: &[u8], i: usize, s: Carry32) -> Last
     if na == j + 1 {
         let two = (s.one + s.one) * t.gamma + y;
         let three = (s.two + two) * t.beta + s.one;
-        Last {
+        Last32 {
             two: two,
             three: three,
             next: three,
@@ -114,7 +113,7 @@ fn last_f32(t: Factors32, a: &[u8], d: &[u8], i: usize, s: Carry32) -> Last
         let one = (y + y) * t.delta + get_f32(false, a, j + 1) * t.invk;
         let two = (s.one + one) * t.gamma + y;
         let three = (s.two + two) * t.beta + s.one;
-        Last {
+        Last32 {
             two: two,
             three: three,
             next: (two + two) * t.beta + one,
@@ -182,7 +181,7 @@ fn inverse_all_f32(t: Factors32, a: &[u8], d: &[u8], x: &mut [u8])
     let mut i = 0;
     while i < last {
         let e = block_end(i, last);
-        let small = small_bands_f32(a, d, less(i, 2), e + 2);
+        let small = small_bands_f32(a, d, minus(i, 2), e + 2);
         s = restore_block_f32(small, t, a, d, x, i, e, s);
         i = e;
     }
@@ -196,7 +195,7 @@ pub fn inverse_f32(t: Factors32, approx: &[u8], details: &[u8], output: &mut [u8
     requires { ⌜ 4 ≤ length (now output) / 4 ⌝ }
     ensures { λ _. ⌜ now (output .exit) ≡ back binary32 Wavelet.Cdf97 (now (approx .entry)) (now (details .entry)) ⌝ }
 {
-    // Where the first floats are large the schedule is the faster way; a large block later on is read and written with tests.
+    // Where one of the first floats is large the schedule is the faster way; a large block later on is read and written with tests.
     let some = lesser(64, details.len() / 4);
     if small_bands_f32(approx, details, 0, some) {
         inverse_all_f32(t, approx, details, output);

@@ -46,7 +46,7 @@ pub record Approximating (k : ℕ) (x a : List ℕ) (i e : ℕ) : Type 0 where
   pub small : e < 256 ^ k
 
 -- the samples in x have the details i to i + n: before the last no neighbour is mirrored
-pub record Ahead (k : ℕ) (x : List ℕ) (i n : ℕ) : Type 0 where
+pub record Unmirrored (k : ℕ) (x : List ℕ) (i n : ℕ) : Type 0 where
   pub input : Input k x
   pub details : i + n < downs (length x / k)
 
@@ -67,7 +67,7 @@ pub record Restoring (k n : ℕ) (a d x : List ℕ) (i e : ℕ) : Type 0 where
   pub next : e ≡ evenWord k a d i
   pub small : e < 256 ^ k
 
--- a has the even samples i to i + n, and d the details beside them: none is mirrored
+-- a has the approximations and d the details i to i + n: no neighbour is mirrored. Places of d fit a length
 pub record Inside (k : ℕ) (a d : List ℕ) (i n : ℕ) : Type 0 where
   pub width : Width k
   pub approx : i + n < length a / k

@@ -1,12 +1,12 @@
 // Integer 5/3, one level, once over the width. Ported from osclet's src/cdf53i.rs; execute_forward and execute_inverse with their checks are in dwt/src/filter.rt.
 ghost use mathlib.Core.Path.{_≡_};
-ghost use Prim.Native.Nat.{_+_, _-_, _*_, _/_, _^_, _≤_, _<_, min};
+ghost use Prim.Native.Nat.{_+_, _-_, _*_, _/_, _^_, _≤_, _<_};
 ghost use lib.ListN.{length};
 ghost use Rattle.sizes.specs.Bands.{ups, downs};
 ghost use Rattle.samples.specs.Words.{tabulate, Holds, Front};
 ghost use Rattle.samples.specs.Integers.{wrap, decode, encode};
 ghost use Rattle.cdf53i.specs.Lift.{approx, evens};
-ghost use Rattle.cdf53i.specs.Bands.{low, high, back, detailWord, approxWord, evenWord, sampleWord, detailsFrom, evensFrom, oddsFrom, Input, Bands, Approximating, Restoring, Ahead, Inside, Room};
+ghost use Rattle.cdf53i.specs.Bands.{low, high, back, detailWord, approxWord, evenWord, sampleWord, detailsFrom, evensFrom, oddsFrom, Input, Bands, Approximating, Restoring, Unmirrored, Inside, Room};
 use crate::steps::approx_at;
 use crate::steps::approx_of;
 use crate::steps::detail_at;
@@ -14,6 +14,7 @@ use crate::steps::even_at;
 use crate::steps::odd_of;
 use samples::integers::get;
 use samples::integers::put;
+use sizes::lesser;
 
 // The details of the samples in x, into d.
 fn predict(k: usize, x: &[u8], d: &mut [u8])
@@ -57,15 +58,9 @@ pub fn forward(k: usize, x: &[u8], a: &mut [u8], d: &mut [u8])
     update(k, x, a, d);
 }
 
-fn lesser(m: usize, n: usize) -> usize
-    ensures { λ r. ⌜ r ≡ min m n ⌝ }
-{
-    if m < n { m } else { n }
-}
-
 // The details i - 1 to i + n - 1 of the samples in x, of which the first has the word e, to the front of t: detail 0 stands before itself.
 fn details_from(k: usize, x: &[u8], i: usize, n: usize, e: u32, t: &mut [u8])
-    requires { ⌜ Ahead k (now x) i n ⌝ }
+    requires { ⌜ Unmirrored k (now x) i n ⌝ }
     requires { ⌜ (e ≡ detailWord k (now x) (i - 1)) × (e < 256 ^ k) ⌝ }
     requires { ⌜ Room k (n + 1) (now t) ⌝ }
     ensures { λ _. ⌜ Front k (length (now (t .exit)) / k) (n + 1) (detailsFrom k (now (x .entry)) i) (now (t .exit)) ⌝ }
@@ -80,7 +75,7 @@ fn details_from(k: usize, x: &[u8], i: usize, n: usize, e: u32, t: &mut [u8])
 
 // The n approximations from i on, between the details in t, to their places in a.
 fn approxs_from(k: usize, x: &[u8], i: usize, n: usize, t: &[u8], a: &mut [u8])
-    requires { ⌜ Ahead k (now x) i n ⌝ }
+    requires { ⌜ Unmirrored k (now x) i n ⌝ }
     requires { ⌜ (Front k (length (now t) / k) (n + 1) (detailsFrom k (now x) i) (now t)) × (Room k (n + 1) (now t)) ⌝ }
     requires { ⌜ Front k (ups (length (now x) / k)) i (approxWord k (now x)) (now a) ⌝ }
     ensures { λ _. ⌜ Front k (ups (length (now (x .entry)) / k)) (i + n) (approxWord k (now (x .entry))) (now (a .exit)) ⌝ }
@@ -107,7 +102,7 @@ fn approximate_block(
     e: u32,
     t: &mut [u8],
 ) -> u32
-    requires { ⌜ Ahead k (now x) i n ⌝ }
+    requires { ⌜ Unmirrored k (now x) i n ⌝ }
     requires { ⌜ Approximating k (now x) (now a) i e ⌝ }
     requires { ⌜ Room k (n + 1) (now t) ⌝ }
     ensures { λ r. ⌜ Approximating k (now (x .entry)) (now (a .exit)) (i + n) r ⌝ }

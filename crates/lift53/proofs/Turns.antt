@@ -16,13 +16,14 @@ use Rattle.samples.specs.Floats.{width, floatAt, putFloat, decodeFloats}
 use Rattle.samples.proofs.FloatLaws.{length-decodeFloats, at-decodeFloats}
 use Rattle.floats.specs.Filters.{decimal, back53}
 use Rattle.floats.specs.Bands.{restored, back}
-use Rattle.small.specs.Small.{Small, Factor, SmallFrom, SmallIf}
+use Rattle.small.specs.Small.{Small, Factor, SmallFrom, SmallIf, BothSmallIf}
 use Rattle.small.specs.Lists.{inTurn}
 use Rattle.small.proofs.Sizes as sizes
 use Rattle.small.proofs.Lifts as lifts
-use Rattle.lift53.specs.Back.{evensOf, oddsOf, Given, NearIf, Restoring}
+use Rattle.small.proofs.Firsts.{far}
+use Rattle.lift53.specs.Back.{evensOf, oddsOf, Given, Restoring}
 
--- ---- the factors, and how far two steps reach
+-- ---- the factors
 
 quarter-factor : (f : Format) → Factor (decimal f true 25 2)
 unfolding decimal round
@@ -33,10 +34,6 @@ half-factor : (f : Format) → Factor (decimal f false 5 1)
 unfolding decimal round
 half-factor binary32 = omega arith
 half-factor binary64 = omega arith
-
-far : (f : Format) → sizes.reach f + 9 + 9 < sizes.ceiling f
-far binary32 = omega arith
-far binary64 = omega arith
 
 -- ---- the samples one by one
 
@@ -85,7 +82,7 @@ module _ {f : Format} {c g : Float} {x a d : List ℕ} (v : Given f c g x a d) w
       lifts.even-small f c (decodeFloats f a) (decodeFloats f d) (sizes.reach f) (subst Factor (sym (v .even)) (quarter-factor f)) (omega (arith, far f)) i (i - 1) r (rw (length-decodeFloats f a) h) refl (rw (length-decodeFloats f d) refl)
       (lifts.small-in wd (i - 1) (omega arith) (omega arith) (omega arith)) (lifts.small-in wd r (omega arith) (omega arith) (omega arith)) (lifts.small-in wa i (omega arith) (omega arith) h)
 
-  module _ {b : Bool} (i : ℕ) (w : NearIf b f a d (i - 1) (i + 2)) where
+  module _ {b : Bool} (i : ℕ) (w : BothSmallIf b f a d (i - 1) (i + 2)) where
     pub even-no-nan : {e : Float} → i < length a / width f → e ≡ getD (evensOf f c a d) i nan → b ≡ true → T (not (isNan e))
     even-no-nan h q s = lifts.no-nan-is f _ _ (even-small i h (sizes.small-part _ _ (w .0 s) (omega arith) (omega arith)) (sizes.small-part _ _ (w .1 s) (omega arith) (omega arith))) q
 
@@ -118,13 +115,13 @@ module _ {f : Format} {c g : Float} {x a d : List ℕ} (v : Given f c g x a d) w
       lifts.turns-all f (evensOf f c a d) (oddsOf f c g a d) h e (en ∙ sym m) ∙ unfold evensOf oddsOf in rw (v .even, v .odd)
 
 -- a float of either band around
-pub approx-if : {b : Bool} {f : Format} {a d : List ℕ} {i j : ℕ} → NearIf b f a d i j → (p : ℕ) → i ≤ p → p < j → SmallIf b f a p (p + 1)
+pub approx-if : {b : Bool} {f : Format} {a d : List ℕ} {i j : ℕ} → BothSmallIf b f a d i j → (p : ℕ) → i ≤ p → p < j → SmallIf b f a p (p + 1)
 approx-if w p l h = sizes.part-if _ _ (w .0) l (omega arith)
 
-pub details-if : {b : Bool} {f : Format} {a d : List ℕ} {i j : ℕ} → NearIf b f a d i j → (p : ℕ) → i ≤ p → p < j → SmallIf b f d p (p + 1)
+pub details-if : {b : Bool} {f : Format} {a d : List ℕ} {i j : ℕ} → BothSmallIf b f a d i j → (p : ℕ) → i ≤ p → p < j → SmallIf b f d p (p + 1)
 details-if w p l h = sizes.part-if _ _ (w .1) l (omega arith)
 
-pub near-part : {b : Bool} {f : Format} {a d : List ℕ} {i j : ℕ} (k l : ℕ) → NearIf b f a d i j → i ≤ k → l ≤ j → NearIf b f a d k l
+pub near-part : {b : Bool} {f : Format} {a d : List ℕ} {i j : ℕ} (k l : ℕ) → BothSmallIf b f a d i j → i ≤ k → l ≤ j → BothSmallIf b f a d k l
 near-part k l w h g = (sizes.part-if k l (w .0) h g, sizes.part-if k l (w .1) h g)
 
 pub restoring-now : {f : Format} {c g : Float} {n : ℕ} {a d x : List ℕ} {i : ℕ} {e : Float} → Restoring f c g n a d x i e → Restoring f c g (length x / width f) a d x i e

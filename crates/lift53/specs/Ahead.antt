@@ -20,14 +20,14 @@ pub record Ahead (both : Bool) (f : Format) (c g : Float) (x a d : List ℕ) : T
   pub odd : Factor c
   pub even : Factor g
 
--- the first i entries of the bands that are wanted are stored; e is even sample i (the last after the last), and y the odd entry before odd entry i (odd entry 0 before itself)
+-- the first i entries of the bands that are wanted are stored; e is even sample i, or the last where i is past it, and y odd entry i - 1, or entry 0 where i is 0
 pub record Splitting (both : Bool) (f : Format) (c g : Float) (x a d : List ℕ) (i : ℕ) (e y : Float) : Type 0 where
   pub approx : Front (width f) (ups (length x / width f)) i (patternOf f (evensTo f c g x)) a
   pub details : both ≡ true → Front (width f) (downs (length x / width f)) i (patternOf f (oddsTo f c x)) d
   pub here : e ≡ floatAt f x (2 * min i (ups (length x / width f) - 1))
   pub left : y ≡ getD (oddsTo f c x) (i - 1) nan
 
--- all entries of the bands that are wanted are
+-- all entries of the bands that are wanted are stored
 pub record Split (both : Bool) (f : Format) (c g : Float) (x a d : List ℕ) : Type 0 where
   pub approx : a ≡ encodeFloats f (evensTo f c g x)
   pub details : both ≡ true → d ≡ encodeFloats f (oddsTo f c x)

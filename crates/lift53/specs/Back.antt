@@ -1,6 +1,6 @@
 -- The floats that the inverse of 5/3 restores, one by one, and what its functions ask of bands. Over the format and the two factors.
 -- Assumes nothing: these are definitions.
-use mathlib.Core.Bool.{Bool, true, false}
+use mathlib.Core.Bool.{true, false}
 use mathlib.Core.List.{List}
 use mathlib.Core.Path.{_≡_}
 use Prim.Native.Nat.{ℕ, _*_}
@@ -11,7 +11,6 @@ use Rattle.samples.specs.Floats.{width, decodeFloats}
 use Rattle.floats.specs.Steps.{lift, evens, odds}
 use Rattle.floats.specs.Filters.{decimal}
 use Rattle.floats.specs.Loops.{Lent}
-use Rattle.small.specs.Small.{SmallIf}
 use Rattle.small.specs.Lists.{inTurn}
 
 -- the even samples whose bands are in a and d, and the odd ones
@@ -26,10 +25,6 @@ pub record Given (f : Format) (c g : Float) (x a d : List ℕ) : Type 0 where
   pub lent : Lent f x a d
   pub even : c ≡ decimal f true 25 2
   pub odd : g ≡ decimal f false 5 1
-
--- where b says so the floats of both bands from place i to before place j are small
-abbrev pub NearIf : Bool → Format → List ℕ → List ℕ → ℕ → ℕ → Type 0
-NearIf b f a d i j = SmallIf b f a i j × SmallIf b f d i j
 
 -- x holds the first 2 i of the n samples that it is to hold, and e is even sample i, which comes next
 pub record Restoring (f : Format) (c g : Float) (n : ℕ) (a d x : List ℕ) (i : ℕ) (e : Float) : Type 0 where

@@ -6,19 +6,19 @@ ghost use lib.Ieee.{binary32};
 ghost use lib.ListN.{length};
 ghost use Rattle.floats.specs.Bands.{low, high, back};
 ghost use Rattle.floats.specs.Loops.{Lent, LentLow};
-ghost use Rattle.small.specs.Small.{SmallIf};
+ghost use Rattle.small.specs.Small.{SmallIf, BothSmallIf};
 ghost use Rattle.lift53.specs.Ahead.{Ahead, Splitting, Split};
-ghost use Rattle.lift53.specs.Back.{Given, NearIf, Restoring};
+ghost use Rattle.lift53.specs.Back.{Given, Restoring};
 use floats::cdf53f;
 use sizes::Wavelet;
+use sizes::lesser;
 use small::single::get_f32;
 use small::single::put_f32;
 use small::single::put_if_f32;
 use small::single::small_bands_f32;
 use small::single::small_from_f32;
 use small::turns::block_end;
-use small::turns::less;
-use small::turns::lesser;
+use small::turns::minus;
 
 // Forward, what a turn hands to the next: an even sample, and the detail before it.
 struct Carry32 {
@@ -122,14 +122,14 @@ fn split_all_f32(both: bool, x: &[u8], a: &mut [u8], d: &mut [u8], c: f32, g: f3
     let mut i = 0;
     while i < last {
         let e = block_end(i, last);
-        let small = small_from_f32(x, less(2 * i, 2), 2 * e + 1);
+        let small = small_from_f32(x, minus(2 * i, 2), 2 * e + 1);
         s = split_block_f32(both, small, x, a, d, i, e, s, c, g);
         i = e;
     }
     split_end_f32(both, x, a, d, last, top, s, c, g);
 }
 
-// One level of the samples in input: approximations into approx, details into details. Where the first are large already the schedule is the faster way.
+// One level of the samples in input: approximations into approx, details into details. Where one of the first is large the schedule is the faster way.
 pub fn forward_f32(input: &[u8], approx: &mut [u8], details: &mut [u8])
     requires { ⌜ Lent binary32 (now input) (now approx) (now details) ⌝ }
     ensures { λ _. ⌜ (now (approx .exit) ≡ low binary32 Wavelet.Cdf53 (now (input .entry))) × (now (details .exit) ≡ high binary32 Wavelet.Cdf53 (now (input .entry))) ⌝ }
@@ -164,7 +164,7 @@ fn restore_pair_f32(
     requires { ⌜ Given binary32 c g (now x) (now a) (now d) ⌝ }
     requires { ⌜ Restoring binary32 c g (length (now x) / 4) (now a) (now d) (now x) i e ⌝ }
     requires { ⌜ i + 1 < length (now d) / 4 ⌝ }
-    requires { ⌜ NearIf small binary32 (now a) (now d) (i - 1) (i + 2) ⌝ }
+    requires { ⌜ BothSmallIf small binary32 (now a) (now d) (i - 1) (i + 2) ⌝ }
     ensures { λ r. ⌜ Restoring binary32 c g (length (now (x .entry)) / 4) (now (a .entry)) (now (d .entry)) (now (x .exit)) (i + 1) r ⌝ }
 {
     let y = get_f32(small, d, i);
@@ -189,7 +189,7 @@ fn restore_block_f32(
     requires { ⌜ Given binary32 c g (now x) (now a) (now d) ⌝ }
     requires { ⌜ Restoring binary32 c g (length (now x) / 4) (now a) (now d) (now x) i e ⌝ }
     requires { ⌜ (i ≤ j) × (j < length (now d) / 4) ⌝ }
-    requires { ⌜ NearIf small binary32 (now a) (now d) (i - 1) (j + 1) ⌝ }
+    requires { ⌜ BothSmallIf small binary32 (now a) (now d) (i - 1) (j + 1) ⌝ }
     ensures { λ r. ⌜ Restoring binary32 c g (length (now (x .entry)) / 4) (now (a .entry)) (now (d .entry)) (now (x .exit)) j r ⌝ }
 {
     let mut e = e;
@@ -231,14 +231,14 @@ fn restore_all_f32(a: &[u8], d: &[u8], x: &mut [u8], c: f32, g: f32)
     let mut i = 0;
     while i < last {
         let j = block_end(i, last);
-        let small = small_bands_f32(a, d, less(i, 1), j + 1);
+        let small = small_bands_f32(a, d, minus(i, 1), j + 1);
         e = restore_block_f32(small, a, d, x, i, j, e, c, g);
         i = j;
     }
     restore_end_f32(a, d, x, last, e, c, g);
 }
 
-// The samples whose approximations are in approx and details in details, into output. Where the first floats are large already the schedule is the faster way.
+// The samples whose approximations are in approx and details in details, into output. Where one of the first floats is large the schedule is the faster way.
 pub fn inverse_f32(approx: &[u8], details: &[u8], output: &mut [u8])
     requires { ⌜ Lent binary32 (now output) (now approx) (now details) ⌝ }
     ensures { λ _. ⌜ now (output .exit) ≡ back binary32 Wavelet.Cdf53 (now (approx .entry)) (now (details .entry)) ⌝ }

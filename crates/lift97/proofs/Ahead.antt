@@ -21,7 +21,7 @@ use Rattle.small.specs.Lists.{evenIn, oddIn, oddsTo, evensTo, patternOf}
 use Rattle.small.proofs.Sizes.{reach, ceiling, small-le, small-part}
 use Rattle.small.proofs.Lifts as lifts
 use Rattle.small.proofs.Firsts as firsts
-use Rattle.lift97.specs.Ahead.{oddsOne, evensTwo, oddsThree, evensFour, highs, lows, Near, Samples, Ahead, Carried, Splitting, Split}
+use Rattle.lift97.specs.Ahead.{oddsOne, evensTwo, oddsThree, evensFour, scaledOdds, scaledEvens, Near, Samples, Ahead, Carried, Splitting, Split}
 
 -- ---- the factors are at most 2, and four steps and a scaling stay far below the largest float
 
@@ -63,13 +63,13 @@ module _ {f : Format} {t : Set} {x : List ℕ} (v : Samples f t x) where
   unfolding evensFour
   length-four = lifts.length-evens f (t .delta) (evensTwo f t x) (oddsThree f t x) ∙ length-two
 
-  length-highs : length (highs f t x) ≡ length x / width f / 2
-  unfolding highs
-  length-highs = lifts.length-scaled f (t .invk) (oddsThree f t x) ∙ length-three
+  length-odds-scaled : length (scaledOdds f t x) ≡ length x / width f / 2
+  unfolding scaledOdds
+  length-odds-scaled = lifts.length-scaled f (t .invk) (oddsThree f t x) ∙ length-three
 
-  length-lows : length (lows f t x) ≡ (length x / width f + 1) / 2
-  unfolding lows
-  length-lows = lifts.length-scaled f (t .k) (evensFour f t x) ∙ length-four
+  length-evens-scaled : length (scaledEvens f t x) ≡ (length x / width f + 1) / 2
+  unfolding scaledEvens
+  length-evens-scaled = lifts.length-scaled f (t .k) (evensFour f t x) ∙ length-four
 
   -- ---- as the code makes them: r is the place of the right neighbour
 
@@ -79,14 +79,14 @@ module _ {f : Format} {t : Set} {x : List ℕ} (v : Samples f t x) where
   three-made i r h er ey ez eu = lifts.odd-made f (t .gamma) (evensTwo f t x) (oddsOne f t x) i r (rw length-one h) (rw length-two er) ey ez eu
 
   pub low-made : (i l r : ℕ) {y z u : Float} → i < (length x / width f + 1) / 2 → l ≡ i - 1 → r ≡ min i (length x / width f / 2 - 1) → y ≡ getD (oddsThree f t x) l nan → z ≡ getD (oddsThree f t x) r nan
-      → u ≡ getD (evensTwo f t x) i nan → mul f (add f (mul f (add f y z) (t .delta)) u) (t .k) ≡ getD (lows f t x) i nan
-  unfolding lows evensFour
+      → u ≡ getD (evensTwo f t x) i nan → mul f (add f (mul f (add f y z) (t .delta)) u) (t .k) ≡ getD (scaledEvens f t x) i nan
+  unfolding scaledEvens evensFour
   low-made i l r h el er ey ez eu =
       lifts.scaled-made f (t .k) _ i (rw (lifts.length-evens f (t .delta) (evensTwo f t x) (oddsThree f t x), length-two) h)
       (lifts.even-made f (t .delta) (evensTwo f t x) (oddsThree f t x) i l r (rw length-two h) el (rw length-three er) ey ez eu)
 
-  pub high-made : (i : ℕ) {y : Float} → i < length x / width f / 2 → y ≡ getD (oddsThree f t x) i nan → mul f y (t .invk) ≡ getD (highs f t x) i nan
-  unfolding highs
+  pub high-made : (i : ℕ) {y : Float} → i < length x / width f / 2 → y ≡ getD (oddsThree f t x) i nan → mul f y (t .invk) ≡ getD (scaledOdds f t x) i nan
+  unfolding scaledOdds
   high-made i h ey = lifts.scaled-made f (t .invk) (oddsThree f t x) i (rw length-three h) ey
 
   -- ---- small samples leave no NaN
@@ -117,22 +117,22 @@ module _ {f : Format} {t : Set} {x : List ℕ} (v : Samples f t x) where
       (small-le f (getD (evensTwo f t x) i nan) (reach f + 9 + 9) (reach f + 9 + 9 + 9) (two-small i h (small-part _ _ w (omega arith) (omega arith))) (omega arith))
 
   module _ {b : Bool} {e : Float} (i : ℕ) (w : Near b f x i) where
-    pub high-no-nan : i < length x / width f / 2 → e ≡ getD (highs f t x) i nan → b ≡ true → T (not (isNan e))
-    unfolding highs
+    pub high-no-nan : i < length x / width f / 2 → e ≡ getD (scaledOdds f t x) i nan → b ≡ true → T (not (isNan e))
+    unfolding scaledOdds
     high-no-nan h q s =
-        lifts.no-nan-is f (reach f + 9 + 9 + 9 + 3) (getD (highs f t x) i nan)
+        lifts.no-nan-is f (reach f + 9 + 9 + 9 + 3) (getD (scaledOdds f t x) i nan)
         (lifts.scaled-small f (t .invk) (oddsThree f t x) (reach f + 9 + 9 + 9) i (given .invk) (omega (arith, far f)) (rw length-three h) (three-small i h (small-part _ _ (w s) (omega arith) (omega arith)))) q
 
-    pub low-no-nan : i < (length x / width f + 1) / 2 → e ≡ getD (lows f t x) i nan → b ≡ true → T (not (isNan e))
-    unfolding lows
+    pub low-no-nan : i < (length x / width f + 1) / 2 → e ≡ getD (scaledEvens f t x) i nan → b ≡ true → T (not (isNan e))
+    unfolding scaledEvens
     low-no-nan h q s =
-        lifts.no-nan-is f (reach f + 9 + 9 + 9 + 9 + 3) (getD (lows f t x) i nan)
+        lifts.no-nan-is f (reach f + 9 + 9 + 9 + 9 + 3) (getD (scaledEvens f t x) i nan)
         (lifts.scaled-small f (t .k) (evensFour f t x) (reach f + 9 + 9 + 9 + 9) i (given .k) (far f) (rw length-four h) (four-small i h (w s))) q
 
   -- all of the bands
-  pub split-all : {both : Bool} {y z : List ℕ} {i : ℕ} → Front (width f) (ups (length x / width f)) i (patternOf f (lows f t x)) y → i ≡ ups (length x / width f)
-      → (both ≡ true → Front (width f) (downs (length x / width f)) (downs (length x / width f)) (patternOf f (highs f t x)) z) → Split both f t x y z
-  split-all h e k = record { approx = lifts.stored-all f (lows f t x) h e (sym length-lows); details = λ w. lifts.stored-all f (highs f t x) (k w) refl (sym length-highs) }
+  pub split-all : {both : Bool} {y z : List ℕ} {i : ℕ} → Front (width f) (ups (length x / width f)) i (patternOf f (scaledEvens f t x)) y → i ≡ ups (length x / width f)
+      → (both ≡ true → Front (width f) (downs (length x / width f)) (downs (length x / width f)) (patternOf f (scaledOdds f t x)) z) → Split both f t x y z
+  split-all h e k = record { approx = lifts.stored-all f (scaledEvens f t x) h e (sym length-evens-scaled); details = λ w. lifts.stored-all f (scaledOdds f t x) (k w) refl (sym length-odds-scaled) }
 
 -- ---- what the loop keeps
 
@@ -163,13 +163,13 @@ carried-at {f} {t} {x} {p = p} {q = q} {r = r} k c w = subst (λ m. Carried f t 
 
 -- ---- by the set of the forward filter they are its bands
 
-pub high-97 : (f : Format) (x : List ℕ) {t : Set} {y : List ℕ} → t ≡ factorsOf f → y ≡ encodeFloats f (highs f t x) → y ≡ high f Cdf97 x
+pub high-97 : (f : Format) (x : List ℕ) {t : Set} {y : List ℕ} → t ≡ factorsOf f → y ≡ encodeFloats f (scaledOdds f t x) → y ≡ high f Cdf97 x
 unfolding high details steps97
-high-97 f x et e = e ∙ unfold highs oddsThree evensTo oddsTo evenIn oddIn in rw et
+high-97 f x et e = e ∙ unfold scaledOdds oddsThree evensTo oddsTo evenIn oddIn in rw et
 
-pub low-97 : (f : Format) (x : List ℕ) {t : Set} {y : List ℕ} → t ≡ factorsOf f → y ≡ encodeFloats f (lows f t x) → y ≡ low f Cdf97 x
+pub low-97 : (f : Format) (x : List ℕ) {t : Set} {y : List ℕ} → t ≡ factorsOf f → y ≡ encodeFloats f (scaledEvens f t x) → y ≡ low f Cdf97 x
 unfolding low approxs steps97
-low-97 f x et e = e ∙ unfold lows evensFour oddsThree evensTo oddsTo evenIn oddIn in rw et
+low-97 f x et e = e ∙ unfold scaledEvens evensFour oddsThree evensTo oddsTo evenIn oddIn in rw et
 
 -- a number that is not even is one more than twice its half
 pub odd-count : (n : ℕ) → (n % 2 ≡ 0 → ⊥) → n ≡ 2 * (n / 2) + 1

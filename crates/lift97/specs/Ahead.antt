@@ -29,11 +29,11 @@ unfoldable pub evensFour : Format → Set → List ℕ → List Float
 evensFour f t x = evens (lift f (t .delta)) nan (evensTwo f t x) (oddsThree f t x)
 
 -- and scaled: the details and the approximations
-unfoldable pub highs : Format → Set → List ℕ → List Float
-highs f t x = scaled f (t .invk) (oddsThree f t x)
+unfoldable pub scaledOdds : Format → Set → List ℕ → List Float
+scaledOdds f t x = scaled f (t .invk) (oddsThree f t x)
 
-unfoldable pub lows : Format → Set → List ℕ → List Float
-lows f t x = scaled f (t .k) (evensFour f t x)
+unfoldable pub scaledEvens : Format → Set → List ℕ → List Float
+scaledEvens f t x = scaled f (t .k) (evensFour f t x)
 
 -- the samples that entry i of the bands is made of are small where b says so
 abbrev pub Near : Bool → Format → List ℕ → ℕ → Type 0
@@ -51,7 +51,7 @@ pub record Ahead (both : Bool) (f : Format) (t : Set) (x a d : List ℕ) : Type 
   pub approx : Holds (width f) (ups (length x / width f)) a
   pub details : both ≡ true → Holds (width f) (downs (length x / width f)) d
 
--- what a turn hands to the next: odd entry i after the first step, even entry i after the second, and the odd entry before it after the third (0 before itself)
+-- what a turn hands to the next: odd entry i after the first step, even entry i after the second, and odd entry i - 1 after the third, or entry 0 where i is 0
 pub record Carried (f : Format) (t : Set) (x : List ℕ) (i : ℕ) (p q r : Float) : Type 0 where
   pub one : p ≡ getD (oddsOne f t x) i nan
   pub two : q ≡ getD (evensTwo f t x) i nan
@@ -59,10 +59,10 @@ pub record Carried (f : Format) (t : Set) (x : List ℕ) (i : ℕ) (p q r : Floa
 
 -- the first i entries of the bands that are wanted are stored
 pub record Splitting (both : Bool) (f : Format) (t : Set) (x a d : List ℕ) (i : ℕ) : Type 0 where
-  pub approx : Front (width f) (ups (length x / width f)) i (patternOf f (lows f t x)) a
-  pub details : both ≡ true → Front (width f) (downs (length x / width f)) i (patternOf f (highs f t x)) d
+  pub approx : Front (width f) (ups (length x / width f)) i (patternOf f (scaledEvens f t x)) a
+  pub details : both ≡ true → Front (width f) (downs (length x / width f)) i (patternOf f (scaledOdds f t x)) d
 
 -- all of them are
 pub record Split (both : Bool) (f : Format) (t : Set) (x a d : List ℕ) : Type 0 where
-  pub approx : a ≡ encodeFloats f (lows f t x)
-  pub details : both ≡ true → d ≡ encodeFloats f (highs f t x)
+  pub approx : a ≡ encodeFloats f (scaledEvens f t x)
+  pub details : both ≡ true → d ≡ encodeFloats f (scaledOdds f t x)

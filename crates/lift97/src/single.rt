@@ -10,16 +10,16 @@ ghost use Rattle.floats.specs.Kinds.{set32};
 ghost use Rattle.floats.specs.Loops.{LentLow, Lent};
 ghost use Rattle.small.specs.Small.{SmallIf};
 ghost use Rattle.lift97.specs.Ahead.{oddsOne, evensTwo, oddsThree, Near, Samples, Ahead, Carried, Splitting, Split};
-use crate::second_right;
 use floats::cdf97f;
 use floats::cdf97f::Factors32;
 use sizes::Wavelet;
+use sizes::lesser;
 use small::single::get_f32;
 use small::single::put_f32;
 use small::single::put_if_f32;
 use small::single::small_from_f32;
 use small::turns::block_end;
-use small::turns::less;
+use small::turns::minus;
 
 // What a turn hands to the next: an odd sample after the first step, an even one after the second, an odd one after the third.
 struct Carry32 {
@@ -28,7 +28,7 @@ struct Carry32 {
     three: f32,
 }
 
-// The next turn's, of p and q, which are those of place i; even sample j is the right neighbour of the odd one that is read.
+// The next turn's carry: p is odd entry i after the first step, q even entry i after the second. Even sample j is the right neighbour of the odd one that is read.
 fn carry_f32(small: bool, t: Factors32, x: &[u8], i: usize, j: usize, p: f32, q: f32) -> Carry32
     requires { ⌜ Samples binary32 (set32 t) (now x) ⌝ }
     requires { ⌜ Near small binary32 (now x) i ⌝ }
@@ -47,7 +47,7 @@ fn carry_f32(small: bool, t: Factors32, x: &[u8], i: usize, j: usize, p: f32, q:
     }
 }
 
-// The first turn's; the third step's is of its own place, since there is none before. Even sample j is the right neighbour of odd sample 1.
+// The first carry; its `three` is odd entry 0, as none is before it. Even sample j is the right neighbour of odd sample 1.
 fn first_f32(t: Factors32, x: &[u8], j: usize) -> Carry32
     requires { ⌜ Samples binary32 (set32 t) (now x) ⌝ }
     requires { ⌜ j ≡ min 2 ((length (now x) / 4 + 1) / 2 - 1) ⌝ }
@@ -187,20 +187,20 @@ fn split_all_f32(both: bool, t: Factors32, x: &[u8], a: &mut [u8], d: &mut [u8])
     let n = x.len() / 4;
     let last = n / 2 - 1;
     let top = (n + 1) / 2 - 1;
-    let mut s = first_f32(t, x, second_right(top));
+    let mut s = first_f32(t, x, lesser(2, top));
     let mut i = 0;
     while i + 1 < last {
-        let e = block_end(i, last - 1);
-        let small = small_from_f32(x, less(2 * i, 4), 2 * e + 3);
-        s = split_block_f32(both, small, t, x, a, d, i, e, s);
-        i = e;
+        let end = block_end(i, last - 1);
+        let small = small_from_f32(x, minus(2 * i, 4), 2 * end + 3);
+        s = split_block_f32(both, small, t, x, a, d, i, end, s);
+        i = end;
     }
-    let e = split_pair_f32(both, false, t, x, a, d, i, top, s);
-    split_end_f32(both, t, x, a, d, last, e);
+    let r = split_pair_f32(both, false, t, x, a, d, i, top, s);
+    split_end_f32(both, t, x, a, d, last, r);
 }
 
 // One level of the samples in input: approximations into approx, details into details.
-// Where the first samples are large the schedule is the faster way; a large block later on is read and written with tests.
+// Where one of the first samples is large the schedule is the faster way; a block with a large one later on is read and written with tests.
 pub fn forward_f32(t: Factors32, input: &[u8], approx: &mut [u8], details: &mut [u8])
     requires { ⌜ set32 t ≡ factors32 ⌝ }
     requires { ⌜ Lent binary32 (now input) (now approx) (now details) ⌝ }

@@ -3,7 +3,7 @@
 use mathlib.Core.List.{List, [], _∷_, _++_}
 use mathlib.Core.Path.{_≡_}
 use Prim.Native.Nat.{ℕ, zero, suc, _*_, _/_, _≤_}
-use lib.ListN.{length, take, drop}
+use lib.ListN.{length, take}
 use Rattle.samples.specs.Le.{leAt, leBytes, stored}
 
 -- the list g 0, g 1, .., g (n - 1)
@@ -36,12 +36,3 @@ pub record Holds (k n : ℕ) (s : List ℕ) : Type 0 where
 pub record Front (k n i : ℕ) (g : ℕ → ℕ) (s : List ℕ) : Type 0 where
   pub holds : Holds k n s
   pub front : take (k * i) s ≡ bytesOf k (tabulate i g)
-
--- from word i on s is still t: what such a loop keeps true where it reads what it overwrites
-pub record Rest (k i : ℕ) (t s : List ℕ) : Type 0 where
-  pub rest : drop (k * i) s ≡ drop (k * i) t
-
--- both: the first i of the n words of s are g 0, .., g (i - 1), the others are still those of t. What a loop keeps true that writes what it reads
-pub record Within (k n i : ℕ) (g : ℕ → ℕ) (t s : List ℕ) : Type 0 where
-  pub front : Front k n i g s
-  pub rest : Rest k i t s

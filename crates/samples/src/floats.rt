@@ -48,21 +48,6 @@ pub fn f64_bits(x: f64) -> u64
     }
 }
 
-// Float i of a slice.
-pub fn get_f32(s: &[u8], i: usize) -> f32
-    requires { ⌜ i < length (now s) / 4 ⌝ }
-    ensures { λ r. ⌜ r ≡ floatAt binary32 (now (s .entry)) i ⌝ }
-{
-    f32_of(read_u32(s, 4 * i))
-}
-
-pub fn get_f64(s: &[u8], i: usize) -> f64
-    requires { ⌜ i < length (now s) / 8 ⌝ }
-    ensures { λ r. ⌜ r ≡ floatAt binary64 (now (s .entry)) i ⌝ }
-{
-    f64_of(read_u64(s, 8 * i))
-}
-
 // The float x as float i of a slice.
 pub fn put_f32(s: &mut [u8], i: usize, x: f32)
     requires { ⌜ i < length (now s) / 4 ⌝ }

@@ -2,7 +2,7 @@
 pub mod checks;
 
 ghost use mathlib.Core.Path.{_≡_};
-ghost use Prim.Native.Nat.{max};
+ghost use Prim.Native.Nat.{max, min};
 ghost use Rattle.answers.specs.Answers.{answerOf};
 ghost use Rattle.sizes.specs.Bands.{ups, downs, smallestOf, leastDetails, expectedApprox, expectedDetails};
 ghost use Rattle.sizes.specs.Levels.{places, depthOf, sayDepth, levelsOf};
@@ -55,6 +55,12 @@ fn at_least(least: usize, n: usize) -> usize
     ensures { λ r. ⌜ r ≡ max least n ⌝ }
 {
     if n < least { least } else { n }
+}
+
+pub fn lesser(m: usize, n: usize) -> usize
+    ensures { λ r. ⌜ r ≡ min m n ⌝ }
+{
+    if m < n { m } else { n }
 }
 
 fn least_details(w: Wavelet) -> usize

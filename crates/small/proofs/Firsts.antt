@@ -13,7 +13,7 @@ use Rattle.small.proofs.Sizes as sizes
 use Rattle.small.proofs.Lifts as lifts
 use Rattle.small.proofs.Lifts.{length-evenIn, length-oddIn, even-in, odd-in}
 
-far : (f : Format) → sizes.reach f + 9 + 9 < sizes.ceiling f
+pub far : (f : Format) → sizes.reach f + 9 + 9 < sizes.ceiling f
 far binary32 = omega arith
 far binary64 = omega arith
 

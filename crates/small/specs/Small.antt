@@ -3,9 +3,9 @@
 use mathlib.Core.Bool.{Bool, true}
 use mathlib.Core.List.{List}
 use mathlib.Core.Path.{_≡_}
-use Prim.Native.Nat.{ℕ, _+_, _*_, _/_, _%_, _^_, _≤_, _<_}
+use Prim.Native.Nat.{ℕ, _*_, _/_, _%_, _^_, _≤_, _<_}
 use lib.ListN.{length}
-use lib.Ieee.{Float, nan, inf, fin, Format, binary32, binary64, prec, low, top, up, down}
+use lib.Ieee.{Float, nan, inf, fin, Format, binary32, binary64, low, top, up, down}
 use Rattle.samples.specs.Words.{wordAt}
 use Rattle.samples.specs.Floats.{width}
 
@@ -30,6 +30,10 @@ edge binary64 = 0x7000_0000_0000_0000
 pub record SmallFrom (f : Format) (s : List ℕ) (i j : ℕ) : Type 0 where
   pub each : (p : ℕ) → i ≤ p → p < j → p < length s / width f → wordAt (width f) s p % top f < edge f
 
--- they are where b says so
+-- where b is true they are
 abbrev pub SmallIf : Bool → Format → List ℕ → ℕ → ℕ → Type 0
 SmallIf b f s i j = b ≡ true → SmallFrom f s i j
+
+-- of two bands
+abbrev pub BothSmallIf : Bool → Format → List ℕ → List ℕ → ℕ → ℕ → Type 0
+BothSmallIf b f a d i j = SmallIf b f a i j × SmallIf b f d i j

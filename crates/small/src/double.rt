@@ -6,15 +6,15 @@ ghost use lib.Dec.{T};
 ghost use lib.Ieee.{binary64, isNan};
 ghost use lib.ListN.{length};
 ghost use Rattle.samples.specs.Floats.{floatAt, putFloat};
-ghost use Rattle.small.specs.Small.{SmallFrom, SmallIf};
-use crate::turns::lesser;
+ghost use Rattle.small.specs.Small.{SmallFrom, SmallIf, BothSmallIf};
 use samples::floats::f64_of;
 use samples::floats::word_u64;
 use samples::le::write_u64;
+use sizes::lesser;
 
-// Whether each float from place i to before place j, as far as there are, is no NaN and below 2 ^ 769 in size.
+// True only if each float from place i to before place j, as far as there are, is no NaN and below 2 ^ 769 in size; false says nothing.
 pub fn small_from_f64(s: &[u8], i: usize, j: usize) -> bool
-    ensures { λ r. ⌜ (r ≡ true → SmallFrom binary64 (now (s .entry)) i j) ⌝ }
+    ensures { λ r. ⌜ SmallIf r binary64 (now (s .entry)) i j ⌝ }
 {
     let end = lesser(j, s.len() / 8);
     let mut any: u64 = 0;
@@ -29,7 +29,7 @@ pub fn small_from_f64(s: &[u8], i: usize, j: usize) -> bool
 // The same of two bands, in one loop.
 pub fn small_bands_f64(a: &[u8], d: &[u8], i: usize, j: usize) -> bool
     requires { ⌜ (j ≤ length (now a) / 8) × (j ≤ length (now d) / 8) ⌝ }
-    ensures { λ r. ⌜ SmallIf r binary64 (now (a .entry)) i j × SmallIf r binary64 (now (d .entry)) i j ⌝ }
+    ensures { λ r. ⌜ BothSmallIf r binary64 (now (a .entry)) (now (d .entry)) i j ⌝ }
 {
     let mut any: u64 = 0;
     let mut p = i;
@@ -42,7 +42,7 @@ pub fn small_bands_f64(a: &[u8], d: &[u8], i: usize, j: usize) -> bool
 }
 
 // Float i of a slice, which is small.
-pub fn get_small_f64(s: &[u8], i: usize) -> f64
+fn get_small_f64(s: &[u8], i: usize) -> f64
     requires { ⌜ i < length (now s) / 8 ⌝ }
     requires { ⌜ SmallFrom binary64 (now s) i (i + 1) ⌝ }
     ensures { λ r. ⌜ r ≡ floatAt binary64 (now (s .entry)) i ⌝ }
@@ -51,7 +51,7 @@ pub fn get_small_f64(s: &[u8], i: usize) -> f64
 }
 
 // The float x, which is no NaN, as float i of a slice.
-pub fn put_small_f64(s: &mut [u8], i: usize, x: f64)
+fn put_small_f64(s: &mut [u8], i: usize, x: f64)
     requires { ⌜ i < length (now s) / 8 ⌝ }
     requires { ⌜ T (not (isNan x)) ⌝ }
     ensures { λ _. ⌜ now (s .exit) ≡ putFloat binary64 (now (s .entry)) i x ⌝ }

@@ -6,15 +6,15 @@ ghost use lib.Dec.{T};
 ghost use lib.Ieee.{binary32, isNan};
 ghost use lib.ListN.{length};
 ghost use Rattle.samples.specs.Floats.{floatAt, putFloat};
-ghost use Rattle.small.specs.Small.{SmallFrom, SmallIf};
-use crate::turns::lesser;
+ghost use Rattle.small.specs.Small.{SmallFrom, SmallIf, BothSmallIf};
 use samples::floats::f32_of;
 use samples::floats::word_u32;
 use samples::le::write_u32;
+use sizes::lesser;
 
-// Whether each float from place i to before place j, as far as there are, is no NaN and below 2 ^ 65 in size.
+// True only if each float from place i to before place j, as far as there are, is no NaN and below 2 ^ 65 in size; false says nothing.
 pub fn small_from_f32(s: &[u8], i: usize, j: usize) -> bool
-    ensures { λ r. ⌜ (r ≡ true → SmallFrom binary32 (now (s .entry)) i j) ⌝ }
+    ensures { λ r. ⌜ SmallIf r binary32 (now (s .entry)) i j ⌝ }
 {
     let end = lesser(j, s.len() / 4);
     let mut any: u32 = 0;
@@ -29,7 +29,7 @@ pub fn small_from_f32(s: &[u8], i: usize, j: usize) -> bool
 // The same of two bands, in one loop.
 pub fn small_bands_f32(a: &[u8], d: &[u8], i: usize, j: usize) -> bool
     requires { ⌜ (j ≤ length (now a) / 4) × (j ≤ length (now d) / 4) ⌝ }
-    ensures { λ r. ⌜ SmallIf r binary32 (now (a .entry)) i j × SmallIf r binary32 (now (d .entry)) i j ⌝ }
+    ensures { λ r. ⌜ BothSmallIf r binary32 (now (a .entry)) (now (d .entry)) i j ⌝ }
 {
     let mut any: u32 = 0;
     let mut p = i;
@@ -42,7 +42,7 @@ pub fn small_bands_f32(a: &[u8], d: &[u8], i: usize, j: usize) -> bool
 }
 
 // Float i of a slice, which is small.
-pub fn get_small_f32(s: &[u8], i: usize) -> f32
+fn get_small_f32(s: &[u8], i: usize) -> f32
     requires { ⌜ i < length (now s) / 4 ⌝ }
     requires { ⌜ SmallFrom binary32 (now s) i (i + 1) ⌝ }
     ensures { λ r. ⌜ r ≡ floatAt binary32 (now (s .entry)) i ⌝ }
@@ -51,7 +51,7 @@ pub fn get_small_f32(s: &[u8], i: usize) -> f32
 }
 
 // The float x, which is no NaN, as float i of a slice.
-pub fn put_small_f32(s: &mut [u8], i: usize, x: f32)
+fn put_small_f32(s: &mut [u8], i: usize, x: f32)
     requires { ⌜ i < length (now s) / 4 ⌝ }
     requires { ⌜ T (not (isNan x)) ⌝ }
     ensures { λ _. ⌜ now (s .exit) ≡ putFloat binary32 (now (s .entry)) i x ⌝ }

@@ -21,7 +21,7 @@ block-requires c κs =
     let l = c .before .before .before .before .before .loop in
     let e = c .before .before .before .block-end in
     let b = c .before .small-bands-f32 .ensures in
-    let m = c .before .before .less .ensures in
+    let m = c .before .before .minus .ensures in
     (v, (l .inv .1, (l .inv .2, (near-by (l .i) (e .result) (b .0) (b .1) (omega arith) (omega arith), (omega arith, omega arith)))))
 
 end-requires : tie.Need-restore-end-f32-requires Inv-loop μ-loop

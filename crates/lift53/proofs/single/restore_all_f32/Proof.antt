@@ -32,7 +32,7 @@ block-requires : tie.Need-restore-block-f32-requires Inv-loop μ-loop
 block-requires c κs =
     let l = c .before .before .before .before .before in
     let j = c .before .before .before .block-end .ensures in
-    let lo = c .before .before .less .ensures in
+    let lo = c .before .before .minus .ensures in
     (given l, (restoring-now (l .loop .inv .1), ((omega arith, omega arith), near-part _ _ (c .before .small-bands-f32 .ensures) (omega arith) (omega arith))))
 
 pub restore-all-f32-spec : {M : Type 1} → statement M

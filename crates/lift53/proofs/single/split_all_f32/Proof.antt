@@ -41,7 +41,7 @@ block-requires c κs =
     let v = c .before .before .before .before .before .before .before .before .before .before .before .before .before .pre in
     let l = c .before .before .before .before .before .before .loop in
     let e = c .before .before .before .before .block-end .ensures in
-    let lo = c .before .before .before .less .ensures in (
+    let lo = c .before .before .before .minus .ensures in (
       ahead-on v (l .a) (l .d) (l .inv .2 .approx .holds) (λ b. l .inv .2 .details b .holds),
       (l .inv .2, ((omega arith, omega (arith, v .lent)), part-if _ _ (c .before .before .small-from-f32 .ensures) (omega arith) (omega arith))),
     )

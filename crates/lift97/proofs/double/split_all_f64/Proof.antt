@@ -28,7 +28,7 @@ block-requires c κs =
     let v = c .before .before .before .before .before .before .before .before .before .before .before .before .pre in
     let r = c .before .before .before .before .before .before .loop .inv .1 in
     let e = c .before .before .before .before .block-end .ensures in
-    let l = c .before .before .before .less .ensures in
+    let l = c .before .before .before .minus .ensures in
     turned-on v r (part-if _ _ (c .before .before .small-from-f64 .ensures) (omega arith) (omega arith), (omega arith, omega (arith, v .samples)))
 
 loop-again : tie.Need-loop-again Inv-loop μ-loop
@@ -71,7 +71,7 @@ split-all-f64-spec =
     (tie.spec
     Inv-loop μ-loop
     (λ c. omega (arith, c .before .before .before .pre .samples)) (λ c. search needs) (λ c. omega (arith, c .before .before .before .pre .samples))
-    (λ c κs. search needs) (λ c κs. (c .before .before .before .before .pre .samples, c .second-right .ensures))
+    (λ c κs. search needs) (λ c κs. (c .before .before .before .before .pre .samples, c .lesser .ensures))
     loop-holds (λ c. omega arith) (λ c. omega arith) (λ c κs. omega arith)
     (λ c. omega arith) (λ c κs. search needs) (λ c. omega arith) (λ c. omega arith) (λ c κs. search needs)
     block-requires (λ c. nearer _ _ _ (c .before .before .before .before .before .before .before .before .before .block-end .ensures)) loop-again pair-requires end-requires same-length same-length-2

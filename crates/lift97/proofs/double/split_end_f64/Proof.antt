@@ -8,7 +8,7 @@ use lib.Ieee.{nan, binary64, add, mul}
 use Rattle.samples.proofs.Fronts.{front-at}
 use Rattle.floats.specs.Kinds.{set64}
 use Rattle.small.proofs.Lifts.{stored-more, never}
-use Rattle.lift97.specs.Ahead.{evensTwo, oddsThree, lows}
+use Rattle.lift97.specs.Ahead.{evensTwo, oddsThree, scaledEvens}
 use Rattle.lift97.proofs.Ahead.{three-made, low-made, split-all, carried-at, even-ups}
 use Rattle.lift97.proofs.double.split_end_f64.Statement.{statement}
 use Rattle.lift97.proofs.double.split_end_f64.Tie as tie
@@ -25,7 +25,7 @@ third c =
 -- the approximation that has no detail of its own
 top : (c : tie.After-top-f64) → let a = c .before .before .before .before .args in length (a .x .now) / 8 % 2 ≡ 1 →
     let h = add binary64 (mul binary64 (add binary64 (a .s .two) (c .top-f64 .result)) (a .t .gamma)) (a .s .one) in
-    mul binary64 (add binary64 (mul binary64 (add binary64 h h) (a .t .delta)) (c .top-f64 .result)) (a .t .k) ≡ getD (lows binary64 (set64 (a .t)) (a .x .now)) (a .last + 1) nan
+    mul binary64 (add binary64 (mul binary64 (add binary64 h h) (a .t .delta)) (c .top-f64 .result)) (a .t .k) ≡ getD (scaledEvens binary64 (set64 (a .t)) (a .x .now)) (a .last + 1) nan
 top c odd =
     let st = c .before .before .before .before in
     let v = st .pre .0 .samples in
@@ -43,7 +43,7 @@ returns c =
     let h = st .pre .1 .1 .1 in
     let odd = c .before .before .before .before .before .before .if1 .taken in
     let r = c .before .before .before .before .before .before .before .before .before .before .before .put-at-f64 .ensures in
-    split-all v (stored-more binary64 (lows binary64 (set64 (st .args .t)) (st .args .x .now)) (r .approx) (omega arith) (top g odd) (c .before .before .put-f64 .ensures))
+    split-all v (stored-more binary64 (scaledEvens binary64 (set64 (st .args .t)) (st .args .x .now)) (r .approx) (omega arith) (top g odd) (c .before .before .put-f64 .ensures))
     (omega arith) (λ b. front-at _ (r .details b) (omega arith))
 
 returns-2 : tie.Need-returns-2
