@@ -19,8 +19,10 @@ use Rattle.floats.specs.Loops.{Lent}
 use Rattle.small.specs.Small.{Small, Factor, SmallFrom, SmallIf}
 use Rattle.small.specs.Lists.{inTurn}
 use Rattle.small.proofs.Sizes as sizes
+use Rattle.small.specs.Pieces.{Piece, Stepped}
 use Rattle.small.proofs.Lifts as lifts
-use Rattle.back97.specs.Back.{timesOf, evensOne, oddsTwo, evensThree, oddsFour, Given, Near, Pair, Restored}
+use Rattle.small.proofs.Pieces.{stepped-piece}
+use Rattle.back97.specs.Back.{timesOf, evensOne, oddsTwo, evensThree, oddsFour, Given, Near, Carried, Pair, Restored}
 
 -- ---- the factors, and how far a scaling and four steps reach
 
@@ -133,6 +135,37 @@ module _ {f : Format} {t : Set} {a d : List ℕ} (v : Given f t a d) where
   pub pair-made : (i : ℕ) {q r n : Float} → Pair f t a d i q r n → add f (mul f (add f r n) (t .alpha)) q ≡ getD (oddsFour f t a d) i nan
   unfolding oddsFour
   pair-made i w = by-odds (t .alpha) three i _ (w .inside) refl (w .three) (w .next) (w .two)
+
+  -- ---- the steps of a block, i to before i + n
+
+  module _ (i n : ℕ) (h : i + n + 2 ≤ length d / width f) where
+    module _ {y z u₀ u v₀ w w₀ x : List Float} {p q r : Float} (py : Piece (timesOf f (t .k) d) 0 (i + 1) (n + 1) y) (pz : Piece (timesOf f (t .invk) a) 0 (i + 2) n z) (c : Carried f t a d i p q r)
+        (one : Stepped f (t .delta) y z n p u₀ u) (two : Stepped f (t .gamma) u y n q v₀ w) (three : Stepped f (t .beta) w u n r w₀ x) where
+      ones : Piece (evensOne f t a d) 0 (i + 1) (n + 1) u
+      unfolding lift
+      ones =
+          stepped-piece _ _ _ (i + 1) one (omega arith) (c .one) (λ j k hj ek.
+          one-made k (i + 1 + j) k (omega (arith, v)) (omega arith) (omega arith) (py .each j _ (omega arith) (omega arith)) (py .each (j + 1) _ (omega arith) (omega arith)) (pz .each j _ hj (omega arith)))
+
+      pub twos : Piece (oddsTwo f t a d) 0 i (n + 1) w
+      unfolding lift
+      twos =
+          stepped-piece _ _ _ i two (omega arith) (c .two) (λ j k hj ek.
+          two-made k (k + 1) (omega arith) (omega (arith, v)) (ones .each j _ (omega arith) (omega arith)) (ones .each (j + 1) _ (omega arith) (omega arith)) (py .each j _ (omega arith) (omega arith)))
+
+      pub threes : Piece (evensThree f t a d) 0 i (n + 1) x
+      unfolding lift
+      threes =
+          stepped-piece _ _ _ i three (omega arith) (c .three) (λ j k hj ek.
+          three-made k (i + j) k (omega (arith, v)) (omega arith) (omega arith) (twos .each j _ (omega arith) (omega arith)) (twos .each (j + 1) _ (omega arith) (omega arith)) (ones .each j _ (omega arith) (omega arith)))
+
+      -- and what the next block is handed
+      pub block-carried : {e g h : Float} → e ≡ getD u n nan → g ≡ getD w n nan → h ≡ getD x n nan → Carried f t a d (i + n) e g h
+      block-carried eo et eh = record {
+        one = eo ∙ ones .each n _ (omega arith) (omega arith);
+        two = et ∙ twos .each n _ (omega arith) (omega arith);
+        three = eh ∙ threes .each n _ (omega arith) (omega arith);
+      }
 
   -- ---- what is stored
 

@@ -7,49 +7,26 @@ ghost use Rattle.floats.specs.Bands.{back};
 ghost use Rattle.floats.specs.Filters.{factors32, turned};
 ghost use Rattle.floats.specs.Kinds.{set32};
 ghost use Rattle.floats.specs.Loops.{Lent};
-ghost use Rattle.back97.specs.Back.{Given, Near, Carried, Pair, Restored};
+ghost use Rattle.small.specs.Small.{SmallIf};
+ghost use Rattle.small.specs.Pieces.{Piece, Rooms};
+ghost use Rattle.back97.specs.Back.{timesOf, oddsTwo, evensThree, Given, Near, Carried, Pair, Restored};
 use floats::cdf97f;
 use floats::cdf97f::Factors32;
 use sizes::Wavelet;
 use sizes::lesser;
+use small::single::Carry32;
 use small::single::get_f32;
 use small::single::put_f32;
 use small::single::small_bands_f32;
-use small::turns::block_end;
+use small::single::steps_f32;
+use small::turns::block_turns;
 use small::turns::minus;
-
-// What a turn hands to the next: even entry i + 1 after the first step, odd entry i after the second, even entry i after the third.
-struct Carry32 {
-    one: f32,
-    two: f32,
-    three: f32,
-}
 
 // What the last pair is made of: its even sample is `three`, and `next` the even sample to the right.
 struct Last32 {
     two: f32,
     three: f32,
     next: f32,
-}
-
-// The next turn's, from the places i + 1 and i + 2 of the bands.
-fn carry_f32(small: bool, t: Factors32, a: &[u8], d: &[u8], i: usize, s: Carry32) -> Carry32
-    requires { ⌜ Given binary32 (set32 t) (now a) (now d) ⌝ }
-    requires { ⌜ Carried binary32 (set32 t) (now a) (now d) i (s .one) (s .two) (s .three) ⌝ }
-    requires { ⌜ Near small binary32 (now a) (now d) i (i + 1) ⌝ }
-    requires { ⌜ i + 2 < length (now d) / 4 ⌝ }
-    ensures { λ r. ⌜ Carried binary32 (set32 t) (now (a .entry)) (now (d .entry)) (i + 1) (r .one) (r .two) (r .three) ⌝ }
-{
-    let j = i + 1;
-    let y = get_f32(small, d, j) * t.k;
-    let one = (y + get_f32(small, d, j + 1) * t.k) * t.delta + get_f32(small, a, j + 1) * t.invk;
-    let two = (s.one + one) * t.gamma + y;
-    let three = (s.two + two) * t.beta + s.one;
-    Carry32 {
-        one: one,
-        two: two,
-        three: three,
-    }
 }
 
 // The first turn's.
@@ -139,35 +116,76 @@ fn restore_end_f32(t: Factors32, a: &[u8], d: &[u8], x: &mut [u8], i: usize, s: 
     }
 }
 
-// The turns i to before e.
+// The floats i to before i + n of s, each times k, into y.
+fn read_times_f32(small: bool, k: f32, s: &[u8], y: &mut [f32], i: usize, n: usize)
+    requires { ⌜ (i + n ≤ length (now s) / 4) × (n ≤ length (now y)) ⌝ }
+    requires { ⌜ SmallIf small binary32 (now s) i (i + n) ⌝ }
+    ensures { λ _. ⌜ Piece (timesOf binary32 k (now (s .entry))) 0 i n (now (y .exit)) ⌝ }
+{
+    let mut j = 0;
+    while j < n {
+        y[j] = get_f32(small, s, i + j) * k;
+        j += 1;
+    }
+}
+
+// The pairs i to before i + n into x: v has the odd entries from i on after the second step, w the even ones after the third.
+fn put_pairs_f32(
+    small: bool,
+    t: Factors32,
+    a: &[u8],
+    d: &[u8],
+    x: &mut [u8],
+    v: &[f32],
+    w: &[f32],
+    i: usize,
+    n: usize,
+)
+    requires { ⌜ Given binary32 (set32 t) (now a) (now d) ⌝ }
+    requires { ⌜ Restored binary32 (set32 t) (now a) (now d) (now x) i ⌝ }
+    requires { ⌜ Near small binary32 (now a) (now d) i (i + n) ⌝ }
+    requires { ⌜ Piece (oddsTwo binary32 (set32 t) (now a) (now d)) 0 i (n + 1) (now v) ⌝ }
+    requires { ⌜ Piece (evensThree binary32 (set32 t) (now a) (now d)) 0 i (n + 1) (now w) ⌝ }
+    requires { ⌜ (n < length (now v)) × (n < length (now w)) × (i + n + 2 ≤ length (now d) / 4) ⌝ }
+    ensures { λ _. ⌜ Restored binary32 (set32 t) (now (a .entry)) (now (d .entry)) (now (x .exit)) (i + n) ⌝ }
+{
+    let mut j = 0;
+    while j < n {
+        put_pair_f32(small, t, a, d, x, i + j, v[j], w[j], w[j + 1]);
+        j += 1;
+    }
+}
+
+// The turns i to before i + n, step by step through y, z, u, v and w.
 fn restore_block_f32(
     small: bool,
     t: Factors32,
     a: &[u8],
     d: &[u8],
     x: &mut [u8],
+    y: &mut [f32],
+    z: &mut [f32],
+    u: &mut [f32],
+    v: &mut [f32],
+    w: &mut [f32],
     i: usize,
-    e: usize,
+    n: usize,
     s: Carry32,
 ) -> Carry32
     requires { ⌜ Given binary32 (set32 t) (now a) (now d) ⌝ }
     requires { ⌜ Restored binary32 (set32 t) (now a) (now d) (now x) i ⌝ }
     requires { ⌜ Carried binary32 (set32 t) (now a) (now d) i (s .one) (s .two) (s .three) ⌝ }
-    requires { ⌜ Near small binary32 (now a) (now d) i e ⌝ }
-    requires { ⌜ i ≤ e ⌝ }
-    requires { ⌜ e + 2 ≤ length (now d) / 4 ⌝ }
-    ensures { λ _. ⌜ Restored binary32 (set32 t) (now (a .entry)) (now (d .entry)) (now (x .exit)) e ⌝ }
-    ensures { λ r. ⌜ Carried binary32 (set32 t) (now (a .entry)) (now (d .entry)) e (r .one) (r .two) (r .three) ⌝ }
+    requires { ⌜ Near small binary32 (now a) (now d) i (i + n) ⌝ }
+    requires { ⌜ Rooms (n + 1) (now y) (now z) (now u) (now v) (now w) ⌝ }
+    requires { ⌜ i + n + 2 ≤ length (now d) / 4 ⌝ }
+    ensures { λ _. ⌜ Restored binary32 (set32 t) (now (a .entry)) (now (d .entry)) (now (x .exit)) (i + n) ⌝ }
+    ensures { λ r. ⌜ Carried binary32 (set32 t) (now (a .entry)) (now (d .entry)) (i + n) (r .one) (r .two) (r .three) ⌝ }
 {
-    let mut s = s;
-    let mut p = i;
-    while p < e {
-        let next = carry_f32(small, t, a, d, p, s);
-        put_pair_f32(small, t, a, d, x, p, s.two, s.three, next.three);
-        s = next;
-        p += 1;
-    }
-    s
+    read_times_f32(small, t.k, d, y, i + 1, n + 1);
+    read_times_f32(small, t.invk, a, z, i + 2, n);
+    let next = steps_f32(t.delta, t.gamma, t.beta, y, z, u, v, w, n, s);
+    put_pairs_f32(small, t, a, d, x, v, w, i, n);
+    next
 }
 
 // The samples whose approximations are in a and details in d, into x. A block of small floats is read and written without tests.
@@ -176,13 +194,33 @@ fn inverse_all_f32(t: Factors32, a: &[u8], d: &[u8], x: &mut [u8])
     requires { ⌜ Restored binary32 (set32 t) (now a) (now d) (now x) 0 ⌝ }
     ensures { λ _. ⌜ now (x .exit) ≡ back binary32 Wavelet.Cdf97 (now (a .entry)) (now (d .entry)) ⌝ }
 {
+    let mut y: [f32; 257] = [0.0; 257];
+    let mut z: [f32; 257] = [0.0; 257];
+    let mut u: [f32; 257] = [0.0; 257];
+    let mut v: [f32; 257] = [0.0; 257];
+    let mut w: [f32; 257] = [0.0; 257];
     let last = d.len() / 4 - 2;
     let mut s = first_f32(t, a, d);
     let mut i = 0;
     while i < last {
-        let e = block_end(i, last);
+        let n = block_turns(i, last);
+        let e = i + n;
         let small = small_bands_f32(a, d, minus(i, 2), e + 2);
-        s = restore_block_f32(small, t, a, d, x, i, e, s);
+        s = restore_block_f32(
+            small,
+            t,
+            a,
+            d,
+            x,
+            &mut y,
+            &mut z,
+            &mut u,
+            &mut v,
+            &mut w,
+            i,
+            n,
+            s,
+        );
         i = e;
     }
     restore_end_f32(t, a, d, x, i, s);

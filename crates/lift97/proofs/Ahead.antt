@@ -15,13 +15,16 @@ use Rattle.sizes.specs.Bands.{ups, downs}
 use Rattle.samples.specs.Words.{Front}
 use Rattle.samples.specs.Floats.{width, encodeFloats}
 use Rattle.floats.specs.Filters.{Set, decimal, rounded, factors32, factors64, factorsOf, steps97}
+use Rattle.floats.specs.Steps.{lift}
 use Rattle.floats.specs.Bands.{approxs, details, low, high}
-use Rattle.small.specs.Small.{Small, Factor, SmallFrom, SmallIf}
+use Rattle.small.specs.Small.{Small, Factor, SmallFrom}
 use Rattle.small.specs.Lists.{evenIn, oddIn, oddsTo, evensTo, patternOf}
 use Rattle.small.proofs.Sizes.{reach, ceiling, small-le, small-part}
+use Rattle.small.specs.Pieces.{Piece, Stepped}
+use Rattle.small.proofs.Pieces.{stepped-piece}
 use Rattle.small.proofs.Lifts as lifts
 use Rattle.small.proofs.Firsts as firsts
-use Rattle.lift97.specs.Ahead.{oddsOne, evensTwo, oddsThree, evensFour, scaledOdds, scaledEvens, Near, Samples, Ahead, Carried, Splitting, Split}
+use Rattle.lift97.specs.Ahead.{oddsOne, evensTwo, oddsThree, evensFour, scaledOdds, scaledEvens, Near, Samples, Ahead, Carried, Handed, Splitting, Split}
 
 -- ---- the factors are at most 2, and four steps and a scaling stay far below the largest float
 
@@ -89,6 +92,33 @@ module _ {f : Format} {t : Set} {x : List ℕ} (v : Samples f t x) where
   unfolding scaledOdds
   high-made i h ey = lifts.scaled-made f (t .invk) (oddsThree f t x) i (rw length-three h) ey
 
+  -- ---- the steps of a block, the turns i to before i + n
+
+  module _ (i n : ℕ) (h : i + n + 1 < length x / width f / 2) {y z u₀ u v₀ w w₀ s : List Float} {p q r : Float} (py : Piece (evenIn f x) 0 (i + 1) (n + 1) y) (pz : Piece (oddIn f x) 0 (i + 1) n z)
+      (c : Carried f t x i p q r) (one : Stepped f (t .alpha) y z n p u₀ u) (two : Stepped f (t .beta) u y n q v₀ w) (three : Stepped f (t .gamma) w u n r w₀ s) where
+    ones : Piece (oddsOne f t x) 0 i (n + 1) u
+    unfolding lift oddsTo
+    ones =
+        stepped-piece _ _ _ i one (omega arith) (c .one) (λ j k hj ek.
+        lifts.odd-made f (t .alpha) (evenIn f x) (oddIn f x) k (k + 1) (rw (lifts.length-oddIn f x) (omega arith)) (rw (lifts.length-evenIn f x) (omega arith))
+        (py .each j k (omega arith) (omega arith)) (py .each (j + 1) (k + 1) (omega arith) (omega arith)) (pz .each j k hj (omega arith)))
+
+    twos : Piece (evensTwo f t x) 0 i (n + 1) w
+    unfolding lift evensTo
+    twos =
+        stepped-piece _ _ _ i two (omega arith) (c .two) (λ j k hj ek.
+        lifts.even-made f (t .beta) (evenIn f x) (oddsOne f t x) k (i + j) k (rw (lifts.length-evenIn f x) (omega arith)) (omega arith) (rw length-one (omega arith))
+        (ones .each j _ (omega arith) (omega arith)) (ones .each (j + 1) k (omega arith) (omega arith)) (py .each j k (omega arith) (omega arith)))
+
+    threes : Piece (oddsThree f t x) 1 i (n + 1) s
+    unfolding lift
+    threes =
+        stepped-piece _ _ _ (i - 1) three refl (c .three) (λ j k hj ek.
+        three-made k (k + 1) (omega arith) (omega arith) (twos .each j k (omega arith) (omega arith)) (twos .each (j + 1) (k + 1) (omega arith) (omega arith)) (ones .each j k (omega arith) (omega arith)))
+
+    pub handed : Handed f t x i n u w s
+    handed = record { one = ones; two = twos; three = threes }
+
   -- ---- small samples leave no NaN
 
   -- each step reaches a sample further on either side
@@ -134,11 +164,17 @@ module _ {f : Format} {t : Set} {x : List ℕ} (v : Samples f t x) where
       → (both ≡ true → Front (width f) (downs (length x / width f)) (downs (length x / width f)) (patternOf f (scaledOdds f t x)) z) → Split both f t x y z
   split-all h e k = record { approx = lifts.stored-all f (scaledEvens f t x) h e (sym length-evens-scaled); details = λ w. lifts.stored-all f (scaledOdds f t x) (k w) refl (sym length-odds-scaled) }
 
--- ---- what the loop keeps
+-- ---- what a block hands on
 
--- a block that ends before the last turn brings the end nearer
-pub nearer : (n i e : ℕ) → (i < e) × (e ≤ n - 1) → n - e < n - i
-nearer n i e h = omega arith
+pub handed-at : {f : Format} {t : Set} {x : List ℕ} {i n : ℕ} {u v w : List Float} {p q r : Float} (j k : ℕ) → Handed f t x i n u v w → j ≤ n → k ≡ i + j → p ≡ getD u j nan → q ≡ getD v j nan → r ≡ getD w j nan
+    → Carried f t x k p q r
+handed-at j k h l e ep eq er = record {
+  one = ep ∙ h .one .each j k (omega arith) (omega arith);
+  two = eq ∙ h .two .each j k (omega arith) (omega arith);
+  three = er ∙ h .three .each j (k - 1) (omega arith) (omega arith);
+}
+
+-- ---- what the loop keeps
 
 pub ahead-on : {both : Bool} {f : Format} {t : Set} {x a d s u : List ℕ} {i : ℕ} → Ahead both f t x a d → Splitting both f t x s u i → Ahead both f t x s u
 ahead-on v r = record { samples = v .samples; approx = r .approx .holds; details = λ b. r .details b .holds }

@@ -12,6 +12,7 @@ use Rattle.samples.specs.Floats.{width, encodeFloats}
 use Rattle.floats.specs.Steps.{lift, evens, odds, scaled}
 use Rattle.floats.specs.Filters.{Set, factorsOf}
 use Rattle.small.specs.Small.{SmallIf}
+use Rattle.small.specs.Pieces.{Piece}
 use Rattle.small.specs.Lists.{oddsTo, evensTo, patternOf}
 
 -- the odds and the evens after the first two steps
@@ -56,6 +57,12 @@ pub record Carried (f : Format) (t : Set) (x : List ℕ) (i : ℕ) (p q r : Floa
   pub one : p ≡ getD (oddsOne f t x) i nan
   pub two : q ≡ getD (evensTwo f t x) i nan
   pub three : r ≡ getD (oddsThree f t x) (i - 1) nan
+
+-- u, v and w hold what the turns before i, and so on to i + n, hand on
+pub record Handed (f : Format) (t : Set) (x : List ℕ) (i n : ℕ) (u v w : List Float) : Type 0 where
+  pub one : Piece (oddsOne f t x) 0 i (n + 1) u
+  pub two : Piece (evensTwo f t x) 0 i (n + 1) v
+  pub three : Piece (oddsThree f t x) 1 i (n + 1) w
 
 -- the first i entries of the bands that are wanted are stored
 pub record Splitting (both : Bool) (f : Format) (t : Set) (x a d : List ℕ) (i : ℕ) : Type 0 where

@@ -8,36 +8,33 @@ ghost use Rattle.floats.specs.Bands.{low, high};
 ghost use Rattle.floats.specs.Filters.{factors32};
 ghost use Rattle.floats.specs.Kinds.{set32};
 ghost use Rattle.floats.specs.Loops.{LentLow, Lent};
+ghost use Rattle.small.specs.Lists.{evenIn, oddIn};
+ghost use Rattle.small.specs.Pieces.{Piece, Rooms};
 ghost use Rattle.small.specs.Small.{SmallIf};
-ghost use Rattle.lift97.specs.Ahead.{oddsOne, evensTwo, oddsThree, Near, Samples, Ahead, Carried, Splitting, Split};
+ghost use Rattle.lift97.specs.Ahead.{oddsOne, evensTwo, oddsThree, Near, Samples, Ahead, Carried, Handed, Splitting, Split};
 use floats::cdf97f;
 use floats::cdf97f::Factors32;
 use sizes::Wavelet;
 use sizes::lesser;
+use small::single::Carry32;
+use small::single::carry_at_f32;
 use small::single::get_f32;
 use small::single::put_f32;
 use small::single::put_if_f32;
 use small::single::small_from_f32;
-use small::turns::block_end;
+use small::single::steps_f32;
+use small::turns::block_turns;
 use small::turns::minus;
 
-// What a turn hands to the next: an odd sample after the first step, an even one after the second, an odd one after the third.
-struct Carry32 {
-    one: f32,
-    two: f32,
-    three: f32,
-}
-
 // The next turn's carry: p is odd entry i after the first step, q even entry i after the second. Even sample j is the right neighbour of the odd one that is read.
-fn carry_f32(small: bool, t: Factors32, x: &[u8], i: usize, j: usize, p: f32, q: f32) -> Carry32
+fn carry_f32(t: Factors32, x: &[u8], i: usize, j: usize, p: f32, q: f32) -> Carry32
     requires { ⌜ Samples binary32 (set32 t) (now x) ⌝ }
-    requires { ⌜ Near small binary32 (now x) i ⌝ }
     requires { ⌜ (i + 1 < length (now x) / 4 / 2) × (j ≡ min (i + 2) ((length (now x) / 4 + 1) / 2 - 1)) ⌝ }
     requires { ⌜ (p ≡ getD (oddsOne binary32 (set32 t) (now x)) i nan) × (q ≡ getD (evensTwo binary32 (set32 t) (now x)) i nan) ⌝ }
     ensures { λ r. ⌜ Carried binary32 (set32 t) (now (x .entry)) (i + 1) (r .one) (r .two) (r .three) ⌝ }
 {
-    let e = get_f32(small, x, 2 * i + 2);
-    let one = (e + get_f32(small, x, 2 * j)) * t.alpha + get_f32(small, x, 2 * i + 3);
+    let e = get_f32(false, x, 2 * i + 2);
+    let one = (e + get_f32(false, x, 2 * j)) * t.alpha + get_f32(false, x, 2 * i + 3);
     let two = (p + one) * t.beta + e;
     let three = (q + two) * t.gamma + p;
     Carry32 {
@@ -56,7 +53,7 @@ fn first_f32(t: Factors32, x: &[u8], j: usize) -> Carry32
     let e = get_f32(false, x, 0);
     let one = (e + get_f32(false, x, 2)) * t.alpha + get_f32(false, x, 1);
     let two = (one + one) * t.beta + e;
-    let next = carry_f32(false, t, x, 0, j, one, two);
+    let next = carry_f32(t, x, 0, j, one, two);
     Carry32 {
         one: one,
         two: two,
@@ -87,10 +84,9 @@ fn put_at_f32(
     put_if_f32(both, small, d, i, third * t.invk);
 }
 
-// Entry i of the bands, and the next turn's carry.
+// Entry i of the bands, and the next turn's carry, where the right neighbour may be mirrored.
 fn split_pair_f32(
     both: bool,
-    small: bool,
     t: Factors32,
     x: &[u8],
     a: &mut [u8],
@@ -102,17 +98,61 @@ fn split_pair_f32(
     requires { ⌜ Ahead both binary32 (set32 t) (now x) (now a) (now d) ⌝ }
     requires { ⌜ Splitting both binary32 (set32 t) (now x) (now a) (now d) i ⌝ }
     requires { ⌜ Carried binary32 (set32 t) (now x) i (s .one) (s .two) (s .three) ⌝ }
-    requires { ⌜ Near small binary32 (now x) i ⌝ }
     requires { ⌜ (i + 1 < length (now x) / 4 / 2) × (j ≡ min (i + 2) ((length (now x) / 4 + 1) / 2 - 1)) ⌝ }
     ensures { λ r. ⌜ Carried binary32 (set32 t) (now (x .entry)) (i + 1) (r .one) (r .two) (r .three) ⌝ }
     ensures { λ _. ⌜ Splitting both binary32 (set32 t) (now (x .entry)) (now (a .exit)) (now (d .exit)) (i + 1) ⌝ }
 {
-    let next = carry_f32(small, t, x, i, j, s.one, s.two);
-    put_at_f32(both, small, t, x, a, d, i, s, next.three);
+    let next = carry_f32(t, x, i, j, s.one, s.two);
+    put_at_f32(both, false, t, x, a, d, i, s, next.three);
     next
 }
 
-// The turns from i to before e, none of whose right neighbours is mirrored.
+// The pairs i to before i + n of x: even samples into y, odd ones into z, and into y the even sample after them.
+fn read_pairs_f32(small: bool, x: &[u8], y: &mut [f32], z: &mut [f32], i: usize, n: usize)
+    requires { ⌜ (2 * (i + n) < length (now x) / 4) × (n < length (now y)) × (n ≤ length (now z)) ⌝ }
+    requires { ⌜ SmallIf small binary32 (now x) (2 * i) (2 * (i + n) + 1) ⌝ }
+    ensures { λ _. ⌜ Piece (evenIn binary32 (now (x .entry))) 0 i (n + 1) (now (y .exit)) × Piece (oddIn binary32 (now (x .entry))) 0 i n (now (z .exit)) ⌝ }
+{
+    let mut j = 0;
+    while j < n {
+        let p = 2 * (i + j);
+        y[j] = get_f32(small, x, p);
+        z[j] = get_f32(small, x, p + 1);
+        j += 1;
+    }
+    y[n] = get_f32(small, x, 2 * (i + n));
+}
+
+// The entries i to before i + n of the bands that are wanted, of what the turns before each of them hand on.
+fn put_block_f32(
+    both: bool,
+    small: bool,
+    t: Factors32,
+    x: &[u8],
+    a: &mut [u8],
+    d: &mut [u8],
+    u: &[f32],
+    v: &[f32],
+    w: &[f32],
+    i: usize,
+    n: usize,
+)
+    requires { ⌜ Ahead both binary32 (set32 t) (now x) (now a) (now d) ⌝ }
+    requires { ⌜ Splitting both binary32 (set32 t) (now x) (now a) (now d) i ⌝ }
+    requires { ⌜ Handed binary32 (set32 t) (now x) i n (now u) (now v) (now w) ⌝ }
+    requires { ⌜ SmallIf small binary32 (now x) (2 * i - 4) (2 * (i + n) + 3) ⌝ }
+    requires { ⌜ (n < length (now u)) × (n < length (now v)) × (n < length (now w)) × (i + n + 1 < length (now x) / 4 / 2) ⌝ }
+    ensures { λ _. ⌜ Splitting both binary32 (set32 t) (now (x .entry)) (now (a .exit)) (now (d .exit)) (i + n) ⌝ }
+{
+    let mut j = 0;
+    while j < n {
+        let s = carry_at_f32(u, v, w, j);
+        put_at_f32(both, small, t, x, a, d, i + j, s, w[j + 1]);
+        j += 1;
+    }
+}
+
+// The turns i to before i + n, none of whose right neighbours is mirrored, step by step through y, z, u, v and w.
 fn split_block_f32(
     both: bool,
     small: bool,
@@ -120,25 +160,28 @@ fn split_block_f32(
     x: &[u8],
     a: &mut [u8],
     d: &mut [u8],
+    y: &mut [f32],
+    z: &mut [f32],
+    u: &mut [f32],
+    v: &mut [f32],
+    w: &mut [f32],
     i: usize,
-    e: usize,
+    n: usize,
     s: Carry32,
 ) -> Carry32
     requires { ⌜ Ahead both binary32 (set32 t) (now x) (now a) (now d) ⌝ }
     requires { ⌜ Splitting both binary32 (set32 t) (now x) (now a) (now d) i ⌝ }
     requires { ⌜ Carried binary32 (set32 t) (now x) i (s .one) (s .two) (s .three) ⌝ }
-    requires { ⌜ SmallIf small binary32 (now x) (2 * i - 4) (2 * e + 3) ⌝ }
-    requires { ⌜ (i ≤ e) × (e + 1 < length (now x) / 4 / 2) ⌝ }
-    ensures { λ r. ⌜ Carried binary32 (set32 t) (now (x .entry)) e (r .one) (r .two) (r .three) ⌝ }
-    ensures { λ _. ⌜ Splitting both binary32 (set32 t) (now (x .entry)) (now (a .exit)) (now (d .exit)) e ⌝ }
+    requires { ⌜ SmallIf small binary32 (now x) (2 * i - 4) (2 * (i + n) + 3) ⌝ }
+    requires { ⌜ Rooms (n + 1) (now y) (now z) (now u) (now v) (now w) ⌝ }
+    requires { ⌜ i + n + 1 < length (now x) / 4 / 2 ⌝ }
+    ensures { λ r. ⌜ Carried binary32 (set32 t) (now (x .entry)) (i + n) (r .one) (r .two) (r .three) ⌝ }
+    ensures { λ _. ⌜ Splitting both binary32 (set32 t) (now (x .entry)) (now (a .exit)) (now (d .exit)) (i + n) ⌝ }
 {
-    let mut s = s;
-    let mut p = i;
-    while p < e {
-        s = split_pair_f32(both, small, t, x, a, d, p, p + 2, s);
-        p += 1;
-    }
-    s
+    read_pairs_f32(small, x, y, z, i + 1, n);
+    let next = steps_f32(t.alpha, t.beta, t.gamma, y, z, u, v, w, n, s);
+    put_block_f32(both, small, t, x, a, d, u, v, w, i, n);
+    next
 }
 
 // The last even sample after the second step, of p and q, which are those of the last odd place.
@@ -184,18 +227,39 @@ fn split_all_f32(both: bool, t: Factors32, x: &[u8], a: &mut [u8], d: &mut [u8])
     requires { ⌜ Ahead both binary32 (set32 t) (now x) (now a) (now d) ⌝ }
     ensures { λ _. ⌜ Split both binary32 (set32 t) (now (x .entry)) (now (a .exit)) (now (d .exit)) ⌝ }
 {
+    let mut y: [f32; 257] = [0.0; 257];
+    let mut z: [f32; 257] = [0.0; 257];
+    let mut u: [f32; 257] = [0.0; 257];
+    let mut v: [f32; 257] = [0.0; 257];
+    let mut w: [f32; 257] = [0.0; 257];
     let n = x.len() / 4;
     let last = n / 2 - 1;
     let top = (n + 1) / 2 - 1;
     let mut s = first_f32(t, x, lesser(2, top));
     let mut i = 0;
     while i + 1 < last {
-        let end = block_end(i, last - 1);
-        let small = small_from_f32(x, minus(2 * i, 4), 2 * end + 3);
-        s = split_block_f32(both, small, t, x, a, d, i, end, s);
-        i = end;
+        let m = block_turns(i, last - 1);
+        let e = i + m;
+        let small = small_from_f32(x, minus(2 * i, 4), 2 * e + 3);
+        s = split_block_f32(
+            both,
+            small,
+            t,
+            x,
+            a,
+            d,
+            &mut y,
+            &mut z,
+            &mut u,
+            &mut v,
+            &mut w,
+            i,
+            m,
+            s,
+        );
+        i = e;
     }
-    let r = split_pair_f32(both, false, t, x, a, d, i, top, s);
+    let r = split_pair_f32(both, t, x, a, d, i, top, s);
     split_end_f32(both, t, x, a, d, last, r);
 }
 

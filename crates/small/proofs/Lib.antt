@@ -1,3 +1,4 @@
 pub mod Sizes
 pub mod Lifts
 pub mod Firsts
+pub mod Pieces

@@ -8,8 +8,8 @@ use borrow.Author.Tests.{eq-eqb, ne-eqb}
 use lib.Dec.{T}
 use lib.Ieee.{Float, nan, Format, add, mul, toBits, isNan}
 use lib.ListN.{length, getD}
-use Rattle.samples.specs.Words.{tabulate, bytesOf, Front}
-use Rattle.samples.specs.Halves.{evenOf, oddOf, joined}
+use Rattle.samples.specs.Words.{Front}
+use Rattle.samples.specs.Halves.{joined}
 use Rattle.samples.specs.Floats.{width, floatAt, putFloat, decodeFloats, encodeFloats}
 use Rattle.samples.proofs.Words.{length-tabulate, getD-tabulate, tabulate-getD}
 use Rattle.samples.proofs.Halves.{length-even, length-odd, at-even, at-odd}

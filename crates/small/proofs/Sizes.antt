@@ -3,18 +3,18 @@
 use mathlib.Core.Bool.{Bool, true, false, not, _&&_, Bool·beq, cond}
 use mathlib.Core.List.{List}
 use mathlib.Core.Logic.{⊎-elim}
-use mathlib.Core.Path.{_≡_, refl, sym, ap, subst, _∙_}
+use mathlib.Core.Path.{_≡_, refl, sym, ap, subst}
 use Prim.Native.Nat.{ℕ, zero, suc, _+_, _-_, _*_, _/_, _%_, _^_, _≤_, _<_, compare}
-use native.Mathlib.Nat.{mul-comm, mul-assoc, mul-left-comm, mul-right-comm, add-mul, le-trans, le-of-eq, lt-of-le-of-lt, mul-pos, mul-le-mul, mul-le-mul-left, mul-le-mul-right, mod-lt, div-mul-le-self, div-lt-iff-lt-mul, div-div-eq-div-mul, suc-mul}
+use native.Mathlib.Nat.{mul-comm, mul-assoc, mul-left-comm, mul-right-comm, add-mul, le-trans, le-of-eq, lt-of-le-of-lt, mul-pos, mul-le-mul, mul-le-mul-right, mod-lt, div-mul-le-self, div-lt-iff-lt-mul, div-div-eq-div-mul, suc-mul}
 use native.Mathlib.Omega.{arith}
 use borrow.Author.Tests.{ne-eqb}
 use lib.Bits.{bitOr, or-add-and, and-le-l, and-le-r}
-use lib.Dec.{T, ltb, leb, eqb}
+use lib.Dec.{T, ltb, leb}
 use lib.ListN.{length}
 use lib.Pow.{pow-pos, pow-mono, pow-lt, pow-add}
-use lib.Ieee.{Float, nan, inf, fin, Format, binary32, binary64, prec, emax, low, hid, ones, top, up, down, size, nearest, odd, units, round, sum, add, mul, isNan, nanBits, ofFields, ofBits}
+use lib.Ieee.{Float, nan, inf, fin, Format, binary32, binary64, prec, emax, low, hid, ones, top, up, down, size, odd, units, round, sum, add, mul, isNan, nanBits, ofFields, ofBits}
 use lib.Ieee.Digits.{size-reaches}
-use lib.Ieee.Fits.{round-is, nearest-le, up-pos, down-pos, two}
+use lib.Ieee.Fits.{round-is, nearest-le, down-pos, two}
 use lib.Ieee.Exact.{HasValue, odd-sign, units-val}
 use lib.Ieee.Nearest.{closest}
 use Rattle.answers.proofs.Order.{lt-or-le}

@@ -3,9 +3,10 @@ ghost use mathlib.Core.Bool.{true, not, cond};
 ghost use mathlib.Core.Path.{_≡_};
 ghost use Prim.Native.Nat.{_+_, _/_, _≤_, _<_};
 ghost use lib.Dec.{T};
-ghost use lib.Ieee.{binary32, isNan};
-ghost use lib.ListN.{length};
+ghost use lib.Ieee.{binary32, isNan, nan};
+ghost use lib.ListN.{length, getD};
 ghost use Rattle.samples.specs.Floats.{floatAt, putFloat};
+ghost use Rattle.small.specs.Pieces.{Stepped, Rooms};
 ghost use Rattle.small.specs.Small.{SmallFrom, SmallIf, BothSmallIf};
 use samples::floats::f32_of;
 use samples::floats::word_u32;
@@ -94,4 +95,60 @@ pub fn put_if_f32(wanted: bool, small: bool, s: &mut [u8], i: usize, x: f32)
     if wanted {
         put_f32(small, s, i, x);
     }
+}
+
+// What a block of turns of 9/7 hands to the next: an entry after each of three lifting steps.
+pub struct Carry32 {
+    pub one: f32,
+    pub two: f32,
+    pub three: f32,
+}
+
+// Entry n of three lists.
+pub fn carry_at_f32(u: &[f32], v: &[f32], w: &[f32], n: usize) -> Carry32
+    requires { ⌜ (n < length (now u)) × (n < length (now v)) × (n < length (now w)) ⌝ }
+    ensures { λ r. ⌜ (r .one ≡ getD (now (u .entry)) n nan) × (r .two ≡ getD (now (v .entry)) n nan) × (r .three ≡ getD (now (w .entry)) n nan) ⌝ }
+{
+    Carry32 {
+        one: u[n],
+        two: v[n],
+        three: w[n],
+    }
+}
+
+// Entries 0 to n of r: e, then what a lifting step by c makes of two neighbours in p and of an entry of q.
+fn step_f32(c: f32, e: f32, p: &[f32], q: &[f32], r: &mut [f32], n: usize)
+    requires { ⌜ (n < length (now p)) × (n ≤ length (now q)) × (n < length (now r)) ⌝ }
+    ensures { λ _. ⌜ Stepped binary32 c (now (p .entry)) (now (q .entry)) n e (now (r .entry)) (now (r .exit)) ⌝ }
+{
+    r[0] = e;
+    let mut j = 0;
+    while j < n {
+        r[j + 1] = (p[j] + p[j + 1]) * c + q[j];
+        j += 1;
+    }
+}
+
+// Three steps, one after the other: into u of y and z, into v of u and y, into w of v and u. They start with the entries s, and the last ones are returned.
+pub fn steps_f32(
+    b: f32,
+    c: f32,
+    d: f32,
+    y: &[f32],
+    z: &[f32],
+    u: &mut [f32],
+    v: &mut [f32],
+    w: &mut [f32],
+    n: usize,
+    s: Carry32,
+) -> Carry32
+    requires { ⌜ Rooms (n + 1) (now y) (now z) (now u) (now v) (now w) ⌝ }
+    ensures { λ r. ⌜ Stepped binary32 b (now (y .entry)) (now (z .entry)) n (s .one) (now (u .entry)) (now (u .exit)) × (r .one ≡ getD (now (u .exit)) n nan) ⌝ }
+    ensures { λ r. ⌜ Stepped binary32 c (now (u .exit)) (now (y .entry)) n (s .two) (now (v .entry)) (now (v .exit)) × (r .two ≡ getD (now (v .exit)) n nan) ⌝ }
+    ensures { λ r. ⌜ Stepped binary32 d (now (v .exit)) (now (u .exit)) n (s .three) (now (w .entry)) (now (w .exit)) × (r .three ≡ getD (now (w .exit)) n nan) ⌝ }
+{
+    step_f32(b, s.one, y, z, u, n);
+    step_f32(c, s.two, u, y, v, n);
+    step_f32(d, s.three, v, u, w, n);
+    carry_at_f32(u, v, w, n)
 }

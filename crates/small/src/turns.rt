@@ -1,6 +1,6 @@
 // Turns of a loop: the place so many before, and where a block of turns ends.
 ghost use mathlib.Core.Path.{_≡_};
-ghost use Prim.Native.Nat.{_-_, _≤_, _<_};
+ghost use Prim.Native.Nat.{_+_, _-_, _≤_, _<_};
 
 // m - n, or 0 where n is more.
 pub fn minus(m: usize, n: usize) -> usize
@@ -15,4 +15,12 @@ pub fn block_end(i: usize, n: usize) -> usize
     ensures { λ r. ⌜ (i < r) × (r ≤ n) ⌝ }
 {
     if n - i < 2048 { n } else { i + 2048 }
+}
+
+// How many turns the block has that starts at i, of those up to n: no more than local arrays of 257 entries have room for.
+pub fn block_turns(i: usize, n: usize) -> usize
+    requires { ⌜ i < n ⌝ }
+    ensures { λ r. ⌜ (0 < r) × (r ≤ 256) × (i + r ≤ n) ⌝ }
+{
+    if n - i < 256 { n - i } else { 256 }
 }

@@ -1,47 +1,43 @@
--- `restore_block_f32` meets its contract: before turn p the first 2 p samples are restored, and s is what that turn is handed. Assumes nothing.
+-- `restore_block_f32` meets its contract: pieces of the lists that the steps make, and the samples of them.
 use borrow.Author.Needs.{needs}
-use mathlib.Core.Path.{_≡_}
-use Prim.Native.Nat.{_+_, _-_, _≤_}
 use native.Mathlib.Omega.{arith}
-use lib.Ieee.{binary32}
-use Rattle.floats.specs.Kinds.{set32}
-use Rattle.back97.specs.Back.{Carried, Restored}
-use Rattle.back97.proofs.Back.{near-at, pair-by}
+use Rattle.small.proofs.Sizes.{part-if}
+use Rattle.back97.proofs.Back.{twos, threes, block-carried}
 use Rattle.back97.proofs.single.restore_block_f32.Statement.{statement}
 use Rattle.back97.proofs.single.restore_block_f32.Tie as tie
 
-abbrev Inv-loop : tie.InvT-loop
-Inv-loop small t a d x₀ i e s₀ p₀ x s p = (i ≤ p) × (p ≤ e) × Restored binary32 (set32 t) a d x p × Carried binary32 (set32 t) a d p (s .one) (s .two) (s .three)
+times-requires : tie.Need-read-times-f32-requires
+times-requires c κs = let pre = c .before .before .before .before .before .before .before .before .before .pre in ((omega arith, omega (arith, pre .1 .1 .1 .1 .0)), part-if _ _ (pre .1 .1 .1 .0 .details) (omega arith) (omega arith))
 
-abbrev μ-loop : tie.MeasureT-loop
-μ-loop small t a d x₀ i e s₀ p₀ x s p = e - p
+times-requires-2 : tie.Need-read-times-f32-requires-2
+times-requires-2 c κs = let pre = c .before .before .before .before .before .before .before .before .before .before .before .before .before .pre in ((omega (arith, pre .0), omega (arith, pre .1 .1 .1 .1 .0)), part-if _ _ (pre .1 .1 .1 .0 .approx) (omega arith) (omega arith))
 
-carry-requires : tie.Need-carry-f32-requires Inv-loop μ-loop
-carry-requires c κs =
-    let pre = c .before .before .before .before .before .pre in
-    let l = c .before .loop in
-    (pre .0, (l .inv .3, (near-at (l .p) (pre .1 .1 .1 .0) (omega arith) (omega arith), omega arith)))
+steps-requires : tie.Need-steps-f32-requires
+steps-requires c κs = let h = c .before .before .before .before .before .before .before .before .before .before .before .before .before .before .before .before .before .before .before .before .before .pre .1 .1 .1 .1 .0 in record { first = omega (arith, h); second = omega (arith, h); third = h .third; fourth = h .fourth; fifth = h .fifth }
 
-pair-requires : tie.Need-put-pair-f32-requires Inv-loop μ-loop
-pair-requires c κs =
-    let pre = c .before .before .before .before .before .before .before .pre in
-    let v = pre .0 in
-    let l = c .before .before .before .loop in
-    let s = l .inv .3 in
-    (v, (l .inv .2, (near-at (l .p) (pre .1 .1 .1 .0) (omega arith) (omega arith), pair-by (l .p) (l .p + 1) (omega arith) (omega arith) (s .two) (s .three) (c .before .carry-f32 .ensures .three))))
+pairs-requires : tie.Need-put-pairs-f32-requires
+pairs-requires c κs =
+    let st = c .before .before .before .before .before .before .before .before .before .before .before .before .before .before .before .before .before .before .before .before .before .before .before .before .before .before .before .before .before .before .before in
+    let pre = st .pre in
+    let y = c .before .before .before .before .before .before .before .before .before .before .before .before .before .before .before .before .before .before .before .before .before .read-times-f32 .ensures in
+    let z = c .before .before .before .before .before .before .before .before .before .before .before .before .before .before .before .before .before .read-times-f322 .ensures in
+    let s = c .before .before .before .before .before .before .before .before .before .steps-f32 .ensures in
+    let two = twos (pre .0) (st .args .i) (st .args .n) (pre .1 .1 .1 .1 .1) y z (pre .1 .1 .0) (s .0 .0) (s .1 .0 .0) (s .1 .1 .0) in
+    let three = threes (pre .0) (st .args .i) (st .args .n) (pre .1 .1 .1 .1 .1) y z (pre .1 .1 .0) (s .0 .0) (s .1 .0 .0) (s .1 .1 .0) in
+    (pre .0, (pre .1 .0, (pre .1 .1 .1 .0, (two, (three, (omega (arith, s .1 .0 .0, pre .1 .1 .1 .1 .0), omega (arith, s .1 .1 .0, pre .1 .1 .1 .1 .0), pre .1 .1 .1 .1 .1))))))
 
-returns : tie.Need-returns Inv-loop μ-loop
+returns : tie.Need-returns
 returns c =
-    let l = c .before .loop in
-    let e : l .p ≡ c .before .before .before .before .before .args .e = omega arith in
-    (rw e at (l .inv .2), rw e at (l .inv .3))
+    let st = c .before .before .before .before .before .before .before .before .before .before .before .before .before .before .before .before .before .before .before .before .before .before .before .before .before .before .before .before .before .before .before .before .before .before in
+    let pre = st .pre in
+    let y = c .before .before .before .before .before .before .before .before .before .before .before .before .before .before .before .before .before .before .before .before .before .before .before .before .read-times-f32 .ensures in
+    let z = c .before .before .before .before .before .before .before .before .before .before .before .before .before .before .before .before .before .before .before .before .read-times-f322 .ensures in
+    let s = c .before .before .before .before .before .before .before .before .before .before .before .before .steps-f32 .ensures in
+    (c .before .before .put-pairs-f32 .ensures, block-carried (pre .0) (st .args .i) (st .args .n) (pre .1 .1 .1 .1 .1) y z (pre .1 .1 .0) (s .0 .0) (s .1 .0 .0) (s .1 .1 .0) (s .0 .1) (s .1 .0 .1) (s .1 .1 .1))
 
 pub restore-block-f32-spec : {M : Type 1} → statement M
 restore-block-f32-spec =
     tie.close
     (tie.spec
-    Inv-loop μ-loop
-    (λ c. let pre = c .before .before .before .pre in (omega arith, omega arith, pre .1 .0, pre .1 .1 .0))
-    carry-requires pair-requires (λ c. omega arith) (λ c. omega arith)
-    (λ c. (omega arith, omega arith, c .before .before .put-pair-f32 .ensures, c .before .before .before .before .carry-f32 .ensures))
-    (λ c. search needs) returns)
+    (λ c. search needs) (λ c. search needs) times-requires (λ c. search needs) times-requires-2 steps-requires pairs-requires
+    (λ c. search needs) (λ c. search needs) (λ c. search needs) (λ c. search needs) (λ c. search needs) (λ c. search needs) returns)

@@ -1,6 +1,5 @@
 -- `first_f64` meets its contract. Assumes nothing.
 use mathlib.Core.Path.{_≡_, refl}
-use Prim.Native.Nat.{_-_}
 use native.Mathlib.Omega.{arith}
 use lib.ListN.{getD}
 use lib.Ieee.{nan, binary64, add, mul}
@@ -32,5 +31,5 @@ first-f64-spec =
     (λ c κs. (omega (arith, c .before .pre .0), never))
     (λ c κs. (omega (arith, c .before .before .pre .0), never))
     (λ c κs. (omega (arith, c .before .before .before .before .pre .0), never))
-    (λ c κs. let st = c .before .before .before .before .before .before in (st .pre .0, (never, ((omega (arith, st .pre .0), st .pre .1), starts c))))
+    (λ c κs. let st = c .before .before .before .before .before .before in (st .pre .0, ((omega (arith, st .pre .0), st .pre .1), starts c)))
     (λ c. record { one = starts (c .before) .0; two = starts (c .before) .1; three = c .carry-f64 .ensures .three }))

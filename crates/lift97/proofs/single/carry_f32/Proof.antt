@@ -1,13 +1,13 @@
 -- `carry_f32` meets its contract: a step after the other, each from what the turn before left. Assumes nothing.
 use mathlib.Core.Path.{refl, ap, _∙_}
-use Prim.Native.Nat.{ℕ, _+_, _-_, _*_}
+use Prim.Native.Nat.{ℕ, _+_, _*_}
 use native.Mathlib.Omega.{arith}
 use lib.ListN.{getD}
 use lib.Ieee.{nan, binary32}
 use Rattle.floats.specs.Kinds.{set32}
+use Rattle.small.proofs.Lifts.{never}
 use Rattle.small.proofs.Firsts.{odd-made, even-made}
 use Rattle.lift97.specs.Ahead.{oddsThree}
-use Rattle.small.proofs.Sizes.{part-if}
 use Rattle.lift97.proofs.Ahead.{long, three-made}
 use Rattle.lift97.proofs.single.carry_f32.Statement.{statement}
 use Rattle.lift97.proofs.single.carry_f32.Tie as tie
@@ -17,8 +17,8 @@ returns c =
     let st = c .before .before .before .before .before .before .before in
     let a = st .args in
     let v = st .pre .0 in
-    let h = st .pre .1 .1 .0 in
-    let k = st .pre .1 .1 .1 in
+    let h = st .pre .1 .0 in
+    let k = st .pre .1 .1 in
     let t = set32 (a .t) in
     let x = a .x .now in
     let e = c .before .before .before .before .before .get-f32 .ensures in
@@ -37,6 +37,6 @@ pub carry-f32-spec : {M : Type 1} → statement M
 carry-f32-spec =
     tie.close
     (tie.spec
-    (λ c. omega arith) (λ c. omega arith) (λ c κs. (omega arith, part-if _ _ (c .before .pre .1 .0) (omega arith) (omega arith)))
-    (λ c. omega arith) (λ c κs. (omega arith, part-if _ _ (c .before .before .pre .1 .0) (omega arith) (omega arith)))
-    (λ c. omega arith) (λ c. omega arith) (λ c κs. (omega arith, part-if _ _ (c .before .before .before .before .pre .1 .0) (omega arith) (omega arith))) returns)
+    (λ c. omega arith) (λ c. omega arith) (λ c κs. (omega arith, never))
+    (λ c. omega arith) (λ c κs. (omega arith, never))
+    (λ c. omega arith) (λ c. omega arith) (λ c κs. (omega arith, never)) returns)

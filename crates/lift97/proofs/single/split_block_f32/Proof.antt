@@ -1,40 +1,37 @@
--- `split_block_f32` meets its contract: the first p entries of the bands are stored, and s is what the turns so far hand on. Assumes nothing.
+-- `split_block_f32` meets its contract: pieces of the lists that the steps make, and the entries of them.
+use borrow.Author.Needs.{needs}
 use mathlib.Core.Path.{refl}
-use Prim.Native.Nat.{_-_, _≤_}
 use native.Mathlib.Omega.{arith}
-use lib.Ieee.{binary32}
-use Rattle.floats.specs.Kinds.{set32}
 use Rattle.small.proofs.Sizes.{part-if}
-use Rattle.lift97.proofs.Ahead.{Turned, turned-on, splitting-at, carried-at}
+use Rattle.lift97.proofs.Ahead.{handed, handed-at}
 use Rattle.lift97.proofs.single.split_block_f32.Statement.{statement}
 use Rattle.lift97.proofs.single.split_block_f32.Tie as tie
 
-abbrev Inv-loop : tie.InvT-loop
-Inv-loop both small t x a₀ d₀ i e s₀ p₀ a d s p = (i ≤ p) × (p ≤ e) × Turned both binary32 (set32 t) x a₀ d₀ a d p (s .one) (s .two) (s .three)
+pairs-requires : tie.Need-read-pairs-f32-requires
+pairs-requires c κs = let p = c .before .before .before .before .before .before .before .before .before .before .pre in ((omega (arith, p .1 .1 .1 .1 .1), omega (arith, p .1 .1 .1 .1 .0), omega (arith, p .1 .1 .1 .1 .0)), part-if _ _ (p .1 .1 .1 .0) (omega arith) (omega arith))
 
-abbrev μ-loop : tie.MeasureT-loop
-μ-loop both small t x a₀ d₀ i e s₀ p₀ a d s p = e - p
+put-requires : tie.Need-put-block-f32-requires
+put-requires c κs =
+    let st = c .before .before .before .before .before .before .before .before .before .before .before .before .before .before .before .before .before .before .before .before .before .before .before .before .before .before .before .before .before .before .before .before in
+    let p = st .pre in
+    let e = c .before .before .before .before .before .before .before .before .before .before .before .before .before .before .before .before .before .before .before .before .before .read-pairs-f32 .ensures in
+    let s = c .before .before .before .before .before .before .before .before .before .before .before .steps-f32 .ensures in
+    let k = p .1 .1 .1 .1 .0 in
+    let h = handed (p .0 .samples) (st .args .i) (st .args .n) (p .1 .1 .1 .1 .1) (e .0) (e .1) (p .1 .1 .0) (s .0 .0) (s .1 .0 .0) (s .1 .1 .0) in
+    (p .0, (p .1 .0, (h, (p .1 .1 .1 .0, (omega (arith, s .0 .0, k), omega (arith, s .1 .0 .0, k), omega (arith, s .1 .1 .0, k), p .1 .1 .1 .1 .1)))))
 
-pair-requires : tie.Need-split-pair-f32-requires Inv-loop μ-loop
-pair-requires c κs =
-    let p = c .before .before .before .before .before .before .before .pre in
-    let h = p .1 .1 .1 .1 in
-    let r = c .before .before .before .loop .inv .2 in
-    turned-on (p .0) r (part-if _ _ (p .1 .1 .1 .0) (omega arith) (omega arith), (omega (arith, h), omega (arith, h)))
-
-loop-again : tie.Need-loop-again Inv-loop μ-loop
-loop-again c =
-    let r = c .before .before .before .before .split-pair-f32 in
-    (omega arith, omega arith, record { approx = omega (arith, r .kept); details = omega (arith, r .kept); stored = r .ensures .1; carried = r .ensures .0 })
-
-returns : tie.Need-returns Inv-loop μ-loop
-returns c = let r = c .before .loop .inv .2 in (carried-at _ (r .carried) (omega arith), splitting-at _ (r .stored) (omega arith))
+returns : tie.Need-returns
+returns c =
+    let st = c .before .before .before .before .before .before .before .before .before .before .before .before .before .before .before .before .before .before .before .before .before .before .before .before .before .before .before .before .before .before .before .before .before .before .before .before .before in
+    let p = st .pre in
+    let e = c .before .before .before .before .before .before .before .before .before .before .before .before .before .before .before .before .before .before .before .before .before .before .before .before .before .before .read-pairs-f32 .ensures in
+    let s = c .before .before .before .before .before .before .before .before .before .before .before .before .before .before .before .before .steps-f32 .ensures in
+    let h = handed (p .0 .samples) (st .args .i) (st .args .n) (p .1 .1 .1 .1 .1) (e .0) (e .1) (p .1 .1 .0) (s .0 .0) (s .1 .0 .0) (s .1 .1 .0) in
+    (handed-at (st .args .n) _ h (omega arith) refl (s .0 .1) (s .1 .0 .1) (s .1 .1 .1), c .before .before .before .before .put-block-f32 .ensures)
 
 pub split-block-f32-spec : {M : Type 1} → statement M
 split-block-f32-spec =
     tie.close
     (tie.spec
-    Inv-loop μ-loop
-    (λ c. let p = c .before .before .before .pre in (omega arith, p .1 .1 .1 .1 .0, record { approx = refl; details = refl; stored = p .1 .0; carried = p .1 .1 .0 }))
-    (λ c. omega arith) pair-requires (λ c. omega arith) (λ c. omega arith) loop-again
-    (λ c. c .before .loop .inv .2 .approx) (λ c. c .before .loop .inv .2 .details) returns)
+    (λ c. search needs) pairs-requires (λ c κs. search needs) put-requires
+    (λ c. search needs) (λ c. search needs) (λ c. search needs) (λ c. search needs) (λ c. search needs) (λ c. search needs) (λ c. search needs) returns)

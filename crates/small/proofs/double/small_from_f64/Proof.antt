@@ -1,7 +1,7 @@
 -- `small_from_f64` meets its contract: the invariant says it of the floats before p, unless some sum was too large. Assumes nothing.
 use borrow.Author.Needs.{needs}
 use mathlib.Core.Path.{refl, sym, subst}
-use Prim.Native.Nat.{ℕ, _-_, _%_, _≤_, _<_, min}
+use Prim.Native.Nat.{ℕ, _-_, _%_, _≤_, _<_}
 use native.Mathlib.Omega.{arith}
 use lib.Dec.{T, ltb→lt}
 use Rattle.samples.specs.Words.{wordAt}
