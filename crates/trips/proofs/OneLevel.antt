@@ -1,6 +1,5 @@
 -- One level of the integer filters, about the calls: a done call leaves T.800's steps of what its bytes hold, each stored result kept modulo two to the width;
 -- the inverse after a done forward call gives the samples themselves, and the forward after a done inverse call the bands themselves.
--- Assumes nothing.
 use mathlib.Core.Bool.{true}
 use mathlib.Core.List.{List}
 use mathlib.Core.Path.{_≡_, ap, ap₂, _∙_}
@@ -17,8 +16,11 @@ use Rattle.sizes.proofs.Depths.{two-below}
 use Rattle.sizes.proofs.OneLevel.{forward-ready, inverse-ready, forward-fits, inverse-fits, forward-ran, inverse-ran, count-is}
 use Rattle.samples.specs.Le.{Bytes}
 use Rattle.samples.specs.Integers.{wrap, decode, encode}
+use Rattle.samples.proofs.Words.{holds}
+use Rattle.samples.proofs.IntegerLaws.{encode-decode}
 use Rattle.cdf53i.specs.T800.{highs, lows, backs}
 use Rattle.cdf53i.proofs.T800.{low-is, high-is, back-is}
+use Rattle.cdf53i.proofs.Read.{low-read, back-read}
 use Rattle.dwt.specs.declared.filter.Filter.{Filter}
 use Rattle.dwt.specs.Filters.{widthOf, waveletOf, lowOf, highOf, backOf, Integers}
 use Rattle.dwt.specs.Calls.{LevelOf, OneForward, OneInverse}
@@ -26,14 +28,26 @@ use Rattle.dwt.proofs.Cuts.{width-pos}
 use Rattle.trips.proofs.Lengths.{length-low, length-high, length-back}
 use Rattle.trips.proofs.Undone.{each-width, undoes}
 
--- a level of k bytes a sample is T.800's, of 2 samples or more
-record Kept (k : ℕ) (low high : List ℕ → List ℕ) (back : List ℕ → List ℕ → List ℕ) : Type 0 where
+-- a level of k bytes a sample is T.800's, of 2 samples or more: its bytes, and what they are read as
+pub record Kept (k : ℕ) (low high : List ℕ → List ℕ) (back : List ℕ → List ℕ → List ℕ) : Type 0 where
   pub low-kept : (x : List ℕ) → 2 ≤ length x / k → low x ≡ encode k (lows (wrap k) (decode k x))
   pub high-kept : (x : List ℕ) → 2 ≤ length x / k → high x ≡ encode k (highs (wrap k) (decode k x))
   pub back-kept : (a d : List ℕ) (n : ℕ) → length a / k ≡ ups n → length d / k ≡ downs n → 2 ≤ n → back a d ≡ encode k (backs (wrap k) (decode k a) (decode k d))
+  pub low-held : (x : List ℕ) → 2 ≤ length x / k → decode k (low x) ≡ lows (wrap k) (decode k x)
+  pub back-held : (a d : List ℕ) (n : ℕ) → length a / k ≡ ups n → length d / k ≡ downs n → 2 ≤ n → decode k (back a d) ≡ backs (wrap k) (decode k a) (decode k d)
+  pub same-bytes : (s : List ℕ) (n : ℕ) → Bytes s → length s ≡ k * n → encode k (decode k s) ≡ s
 
-kept : (f : Filter) → Integers f → Kept (widthOf f) (lowOf f) (highOf f) (backOf f)
-kept = each-width Kept (λ k w. record { low-kept = low-is k; high-kept = high-is k; back-kept = back-is k })
+pub kept : (f : Filter) → Integers f → Kept (widthOf f) (lowOf f) (highOf f) (backOf f)
+kept =
+    each-width Kept
+    (λ k w. record {
+      low-kept = low-is k;
+      high-kept = high-is k;
+      back-kept = back-is k;
+      low-held = low-read w;
+      back-held = back-read w;
+      same-bytes = λ s n b e. encode-decode w s b n (holds (w .some) s n e);
+    })
 
 -- ---- the forward call is done with the samples x
 
