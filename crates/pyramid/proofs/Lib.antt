@@ -16,3 +16,4 @@ pub mod Sections
 pub mod WriteFits
 pub mod Demand3
 pub mod OpenT800
+pub mod SectionCalls
