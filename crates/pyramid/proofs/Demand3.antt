@@ -1,7 +1,4 @@
--- Demand 3 as one statement about the two calls. Whoever has a recording of an integer filter and lends enough room gets a done write; and the first c bytes of
--- what it wrote, opened for the same width and point, are refused with 10 exactly where the coarsest section is not whole, and else give level L - m, how many
--- samples that level has and exactly its approximations of the recording, m the detail sections that are whole. Level 0 is given exactly by the whole file.
--- Nothing is asked but an integer filter, bytes, a point that is a u32, levels within the depth, and lengths.
+-- Demand 3 as one statement about the two calls: with room a write is done, and each front of what it wrote opens as `Openings` says.
 use mathlib.Core.List.{List, _++_, append-nil}
 use mathlib.Core.Logic.{⊎-elim}
 use mathlib.Core.Path.{_≡_, refl, sym, ap, subst, _∙_}

@@ -1,5 +1,4 @@
--- Opening gives T.800's levels: what is left of a written file, opened with room, gives the bytes of T.800's low-pass coefficients of the level that its whole
--- sections reach, as they are kept. About the same two calls as `Demand3.antt`, and with nothing more asked.
+-- Opening gives T.800's levels: the bytes of the low-pass coefficients of the level that the whole sections reach, as they are kept.
 use mathlib.Core.List.{List, _++_}
 use mathlib.Core.Path.{_≡_, ap, _∙_}
 use Prim.Native.Nat.{ℕ, _*_, _^_, _≤_, _<_}

@@ -1,6 +1,5 @@
--- A section of what a done write left is the band that a done `multi_dwt` gives of the same samples and levels: section 1 the approximations, section 1 + j the
--- details of level L + 1 - j, where they stand in the output of `multi_dwt`. Of the whole file, and of every front of it that has the section whole.
-use mathlib.Core.Bool.{cond}
+-- A section of what a done write left, cut or not, is the band that a done `multi_dwt` gives of the same samples and levels, where it stands in its output.
+use mathlib.Core.Bool.{true, cond}
 use mathlib.Core.List.{List, []}
 use mathlib.Core.Path.{_≡_, sym, ap, subst, _∙_}
 use Prim.Native.Nat.{ℕ, suc, _+_, _-_, _*_, _/_, _^_, _≤_, _<_}
@@ -10,16 +9,16 @@ use lib.ListN.{length, take, drop}
 use Rattle.answers.specs.declared.err.Answer.{Answer}
 use Rattle.answers.specs.declared.err.Refusal.{Refusal}
 use Rattle.answers.specs.Answers.{done}
-use Rattle.answers.proofs.Endings.{is-done, left-done}
+use Rattle.answers.proofs.Endings.{is-done}
 use Rattle.sizes.specs.Bands.{downs}
 use Rattle.sizes.specs.Levels.{places, levelsOf}
 use Rattle.sizes.proofs.Counts.{places-le}
 use Rattle.samples.specs.Le.{Bytes}
 use Rattle.dwt.specs.declared.filter.Filter.{Filter}
 use Rattle.dwt.specs.Filters.{widthOf, highOf, Integers}
-use Rattle.dwt.specs.Pyramids.{approxAt, pyramid}
+use Rattle.dwt.specs.Pyramids.{approxAt}
 use Rattle.dwt.specs.Calls.{sayMulti, Multi}
-use Rattle.trips.proofs.Trips.{approx-part, level-part}
+use Rattle.trips.proofs.ThereAndBack.{call-approx, call-level}
 use Rattle.pyramid.specs.Files.{headSize, fileOf, fileSize}
 use Rattle.pyramid.specs.Opens.{lengthOf, startOf, sectionIn}
 use Rattle.pyramid.specs.Writes.{sayWrite, Write}
@@ -45,27 +44,21 @@ module _ (f : Filter) (l n p : ℕ) (x : List ℕ) (r : Recording f l n p x) (c 
       let s = take c (fileOf f l p x) in
       ap (λ (t : Refusal). cond (done t) (take (lengthOf s q) (drop (startOf s q) s)) []) (section-found f l n p x r c (headed q up) e q h g up)
 
-  file-first : upTo (widthOf f) l n 1 ≤ c → sectionIn (take c (fileOf f l p x)) (widthOf f) p 1 ≡ take (widthOf f * places l n) (pyramid f l x)
-  file-first up = found-bytes 1 (omega arith) (omega arith) up ∙ section-approx f l n p x r c (headed 1 up) e up ∙ sym (approx-part f l x n (r .size))
+  file-first : upTo (widthOf f) l n 1 ≤ c → sectionIn (take c (fileOf f l p x)) (widthOf f) p 1 ≡ approxAt f l x
+  file-first up = found-bytes 1 (omega arith) (omega arith) up ∙ section-approx f l n p x r c (headed 1 up) e up
 
-  file-later : (j : ℕ) → 1 ≤ j → j ≤ l → upTo (widthOf f) l n (1 + j) ≤ c
-      → sectionIn (take c (fileOf f l p x)) (widthOf f) p (1 + j) ≡ take (widthOf f * downs (places (l - j) n)) (drop (widthOf f * places (l + 1 - j) n) (pyramid f l x))
+  file-later : (j : ℕ) → 1 ≤ j → j ≤ l → upTo (widthOf f) l n (1 + j) ≤ c → sectionIn (take c (fileOf f l p x)) (widthOf f) p (1 + j) ≡ highOf f (approxAt f (l - j) x)
   file-later j some most up =
       let k = widthOf f in
       let s = take c (fileOf f l p x) in
-      let i = l - j in
       let less : j - 1 < l = omega arith in
-      let below : l - j < l = omega arith in
       let eq : j - 1 + 2 ≡ 1 + j = omega arith in
-      let ei : l - 1 - (j - 1) ≡ i = omega arith in
-      let es : suc i ≡ l + 1 - j = omega arith in
+      let ei : l - 1 - (j - 1) ≡ l - j = omega arith in
       let up′ : upTo k l n (j - 1 + 2) ≤ c = subst (λ (q : ℕ). upTo k l n q ≤ c) (sym eq) up in
       found-bytes (1 + j) (omega arith) (omega arith) up
       ∙ ap (λ (q : ℕ). take (lengthOf s q) (drop (startOf s q) s)) (sym eq)
       ∙ section-details f l n p x r c (headed (1 + j) up) e (j - 1) less up′
       ∙ ap (λ (q : ℕ). highOf f (approxAt f q x)) ei
-      ∙ sym (level-part f l i x n (r .size) below)
-      ∙ ap (λ (q : ℕ). take (k * downs (places i n)) (drop (k * places q n) (pyramid f l x))) es
 
 -- both calls are done
 module _ (f : Filter) (i : Integers f) (l p : ℕ) (hp : p < 2 ^ 32) (x : List ℕ) (bx : Bytes x)
@@ -83,8 +76,14 @@ module _ (f : Filter) (i : Integers f) (l p : ℕ) (hp : p < 2 ^ 32) (x : List �
   written : Recording f L n p x
   written = recorded f l p x (length b) (length u) (length v) i bx hp (is-done (sayWrite f l (length x) (length b) (length u) (length v)) a (w .answer) z)
 
-  made : pyramid f L x ≡ o′
-  made = let said = sayMulti f l (length x) (length o) (length g) (length h) in sym (m .output ∙ left-done said (pyramid f L x) o (is-done said r (m .answer) y))
+  made : done (sayMulti f l (length x) (length o) (length g) (length h)) ≡ true
+  made = is-done (sayMulti f l (length x) (length o) (length g) (length h)) r (m .answer) y
+
+  -- the details of level L + 1 - j in the output
+  level-at : (j : ℕ) → 1 ≤ j → j ≤ L → highOf f (approxAt f (L - j) x) ≡ take (k * downs (places (L - j) n)) (drop (k * places (L + 1 - j) n) o′)
+  level-at j some most =
+      let e : suc (L - j) ≡ L + 1 - j = omega arith in
+      sym (call-level l x m made (L - j) (omega arith)) ∙ ap (λ (q : ℕ). take (k * downs (places (L - j) n)) (drop (k * places q n) o′)) e
 
   -- cut to c bytes, which have the section whole
   pub section-in-cut : (c : ℕ) → c ≤ fileSize (widthOf f) (levelsOf l) (length x / widthOf f)
@@ -95,11 +94,11 @@ module _ (f : Filter) (i : Integers f) (l p : ℕ) (hp : p < 2 ^ 32) (x : List �
       × ((j : ℕ) → 1 ≤ j → j ≤ L → upTo k L n (1 + j) ≤ c → sectionIn (take c b′) k p (1 + j) ≡ take (k * downs (places (L - j) n)) (drop (k * places (L + 1 - j) n) o′))
   section-in-cut c e =
       let front = front-in f l p x i bx hp b u v a b′ u′ v′ w z c e in (
-        λ up. ap (λ (s : List ℕ). sectionIn s k p 1) front ∙ file-first f L n p x written c e up ∙ ap (take (k * places L n)) made,
+        λ up. ap (λ (s : List ℕ). sectionIn s k p 1) front ∙ file-first f L n p x written c e up ∙ sym (call-approx l x m made),
         λ j some most up.
             ap (λ (s : List ℕ). sectionIn s k p (1 + j)) front
             ∙ file-later f L n p x written c e j some most up
-            ∙ ap (λ (s : List ℕ). take (k * downs (places (L - j) n)) (drop (k * places (L + 1 - j) n) s)) made,
+            ∙ level-at j some most,
       )
 
   -- the whole file

@@ -1,4 +1,4 @@
--- Writing on lengths that fit is done: no check is left that a caller with a signal within the limit, levels within the depth and areas with room could fail.
+-- Writing on lengths that fit is done: no check is left that levels within the depth and areas with room could fail.
 use mathlib.Core.List.{_∷_}
 use mathlib.Core.Path.{_≡_}
 use Prim.Native.Nat.{ℕ, _*_, _/_, _≤_}

@@ -1,5 +1,4 @@
--- T.800 at every level, about the calls, by lengths alone: with an integer filter, levels within the depth and areas with room, `dwt`, `multi_dwt` and `multi_idwt`
--- are done and leave the bytes of T.800's kept steps, iterated.
+-- T.800 at every level, by lengths alone: with levels within the depth and areas with room the same three calls are done and leave these bytes.
 use mathlib.Core.List.{List, _++_}
 use mathlib.Core.Path.{_≡_, sym, ap, _∙_}
 use Prim.Native.Nat.{ℕ, _+_, _-_, _*_, _/_, _≤_}

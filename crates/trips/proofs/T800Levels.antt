@@ -1,5 +1,4 @@
--- T.800 at every level, about the calls: a done `dwt` and a done `multi_dwt` of an integer filter leave the bytes of T.800's levels, as they are kept, and a done
--- `multi_idwt` the bytes of T.800's kept way back, level by level, of what its bands' bytes hold.
+-- T.800 at every level: a done `dwt`, `multi_dwt` or `multi_idwt` of an integer filter leaves the bytes of T.800's steps, level by level, as they are kept.
 use mathlib.Core.Bool.{true}
 use mathlib.Core.List.{List, [], _∷_, _++_, map, map-append}
 use mathlib.Core.Path.{_≡_, refl, sym, ap, ap₂, _∙_}
