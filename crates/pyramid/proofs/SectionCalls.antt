@@ -64,6 +64,7 @@ module _ (f : Filter) (l n p : ℕ) (x : List ℕ) (r : Recording f l n p x) (c 
 module _ (f : Filter) (i : Integers f) (l p : ℕ) (hp : p < 2 ^ 32) (x : List ℕ) (bx : Bytes x)
     (b u v : List ℕ) (a : Answer) (b′ u′ v′ : List ℕ) (w : Write f l p x b u v a b′ u′ v′) (z : a .number ≡ 0)
     (o g h : List ℕ) (r : Answer) (o′ g′ h′ : List ℕ) (m : Multi f l x o g h r o′ g′ h′) (y : r .number ≡ 0) where
+  -- bytes of a sample, samples, levels
   abbrev k : ℕ
   k = widthOf f
 
@@ -86,11 +87,8 @@ module _ (f : Filter) (i : Integers f) (l p : ℕ) (hp : p < 2 ^ 32) (x : List �
       sym (call-level l x m made (L - j) (omega arith)) ∙ ap (λ (q : ℕ). take (k * downs (places (L - j) n)) (drop (k * places q n) o′)) e
 
   -- cut to c bytes, which have the section whole
-  pub section-in-cut : (c : ℕ) → c ≤ fileSize (widthOf f) (levelsOf l) (length x / widthOf f)
-      → let k = widthOf f in
-      let n = length x / k in
-      let L = levelsOf l in
-      (upTo k L n 1 ≤ c → sectionIn (take c b′) k p 1 ≡ take (k * places L n) o′)
+  pub section-in-cut : (c : ℕ) → c ≤ fileSize k L n
+      → (upTo k L n 1 ≤ c → sectionIn (take c b′) k p 1 ≡ take (k * places L n) o′)
       × ((j : ℕ) → 1 ≤ j → j ≤ L → upTo k L n (1 + j) ≤ c → sectionIn (take c b′) k p (1 + j) ≡ take (k * downs (places (L - j) n)) (drop (k * places (L + 1 - j) n) o′))
   section-in-cut c e =
       let front = front-in f l p x i bx hp b u v a b′ u′ v′ w z c e in (
@@ -101,13 +99,9 @@ module _ (f : Filter) (i : Integers f) (l p : ℕ) (hp : p < 2 ^ 32) (x : List �
             ∙ level-at j some most,
       )
 
-  -- the whole file
-  pub section-is-band : let k = widthOf f in
-      let n = length x / k in
-      let L = levelsOf l in
-      let file = take (fileSize k L n) b′ in
-      (sectionIn file k p 1 ≡ take (k * places L n) o′)
-      × ((j : ℕ) → 1 ≤ j → j ≤ L → sectionIn file k p (1 + j) ≡ take (k * downs (places (L - j) n)) (drop (k * places (L + 1 - j) n) o′))
+  -- the whole file: section 1 is the approximations, section 1 + j the details of level L + 1 - j
+  pub section-is-band : (sectionIn (take (fileSize k L n) b′) k p 1 ≡ take (k * places L n) o′)
+      × ((j : ℕ) → 1 ≤ j → j ≤ L → sectionIn (take (fileSize k L n) b′) k p (1 + j) ≡ take (k * downs (places (L - j) n)) (drop (k * places (L + 1 - j) n) o′))
   section-is-band =
       let t = section-in-cut (fileSize k L n) (omega arith) in
       (t .0 (up-most k L n 0 (omega arith)), λ j some most. t .1 j some most (up-most k L n j most))
