@@ -4,5 +4,6 @@ pub mod StepLaws
 pub mod Turns
 pub mod Undo
 pub mod Round
+pub mod Read
 pub mod Ready
 pub mod Lengths

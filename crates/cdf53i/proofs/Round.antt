@@ -1,14 +1,17 @@
 -- There and back on bytes, once over the width: the inverse of the transform is the samples' own bytes, the transform of the inverse the bands' own bytes;
--- and where no coefficient wraps, the bands are T.800's own numbers.
+-- and where no coefficient wraps, the bands and the samples are T.800's own numbers.
 -- Assumes nothing.
 use mathlib.Core.Bool.{Bool, true, false, cond}
 use mathlib.Core.Path.{_≡_, ap, _∙_}
 use mathlib.Core.List.{List}
-use Prim.Native.Nat.{ℕ, _+_, _/_, _%_, _^_, _≤_, _<_}
+use mathlib.Core.Logic.{⊎-elim}
+use Prim.Native.Nat.{ℕ, _+_, _-_, _*_, _/_, _%_, _^_, _≤_, _<_, min}
 use native.Mathlib.Omega.{arith}
+use borrow.Author.Tests.{eq-eqb, ne-eqb}
 use lib.Dec.{eqb}
 use lib.IntN.{ℤ}
 use lib.ListN.{length}
+use Rattle.answers.proofs.Order.{lt-or-le}
 use Rattle.sizes.specs.Bands.{ups, downs}
 use Rattle.samples.specs.Le.{Bytes}
 use Rattle.samples.specs.Words.{wordAt, Holds}
@@ -25,7 +28,7 @@ module _ {k : ℕ} (w : Width k) where
   unfolding details detail
   stored-details x = decode-encode w (odds x) (detail (wrap k) x) ∙ tabulate-same (odds x) (λ i. wrap k (detail (wrap k) x i)) (detail (wrap k) x) (λ i h. wrap-wrap w _)
 
-  stored-approxs : (x : List ℤ) → decode k (encode k (approxs (wrap k) x)) ≡ approxs (wrap k) x
+  pub stored-approxs : (x : List ℤ) → decode k (encode k (approxs (wrap k) x)) ≡ approxs (wrap k) x
   unfolding approxs approx
   stored-approxs x =
       let f = approx (wrap k) x (details (wrap k) x) in
@@ -52,7 +55,7 @@ module _ {k : ℕ} (w : Width k) where
       pick true = wrap-wrap w _
       pick false = wrap-wrap w _
 
-  stored-restored : (a d : List ℤ) → decode k (encode k (restored (wrap k) a d)) ≡ restored (wrap k) a d
+  pub stored-restored : (a d : List ℤ) → decode k (encode k (restored (wrap k) a d)) ≡ restored (wrap k) a d
   unfolding restored
   stored-restored a d =
       let f = sample (wrap k) a d in
@@ -91,3 +94,29 @@ module _ (keep : ℤ → ℤ) (x : List ℤ) (d-kept : (i : ℕ) → i < odds x 
   pub approxs-unwrapped : ((i : ℕ) → i < evens x → keep (approx (λ z. z) x (details (λ z. z) x) i) ≡ approx (λ z. z) x (details (λ z. z) x) i) → approxs keep x ≡ approxs (λ z. z) x
   unfolding approxs approx
   approxs-unwrapped a-kept = rw details-unwrapped (tabulate-same (evens x) (approx keep x (details (λ z. z) x)) (approx (λ z. z) x (details (λ z. z) x)) a-kept)
+
+-- and so are the samples of two bands, where none of them wraps
+module _ (keep : ℤ → ℤ) (a d : List ℤ) (more : length d ≤ length a) (less : length a ≤ length d + 1)
+    (kept : (j : ℕ) → j < length a + length d → keep (sample (λ z. z) a d j) ≡ sample (λ z. z) a d j) where
+  even-unwrapped : (i : ℕ) → i < length a → even keep a d i ≡ even (λ z. z) a d i
+  unfolding even sample
+  even-unwrapped i h =
+      let half : (2 * i) / 2 ≡ i = omega arith in
+      rw (eq-eqb ((2 * i) % 2) 0 (omega arith), half) at (kept (2 * i) (omega arith))
+
+  odd-unwrapped : (i : ℕ) → i < length d → odd keep (even keep a d) (length a) d i ≡ odd (λ z. z) (even (λ z. z) a d) (length a) d i
+  unfolding odd sample
+  odd-unwrapped i h =
+      let half : (2 * i + 1) / 2 ≡ i = omega arith in
+      rw (even-unwrapped i (omega arith), even-unwrapped (min (i + 1) (length a - 1)) (omega arith))
+      (rw (ne-eqb ((2 * i + 1) % 2) 0 (λ z. omega arith), half) at (kept (2 * i + 1) (omega arith)))
+
+  pub restored-unwrapped : restored keep a d ≡ restored (λ z. z) a d
+  unfolding restored sample
+  restored-unwrapped =
+      tabulate-same (length a + length d) (sample keep a d) (sample (λ z. z) a d)
+      (λ j h.
+      ⊎-elim
+      (λ e. rw (eq-eqb (j % 2) 0 (omega arith)) (even-unwrapped (j / 2) (omega arith)))
+      (λ e. rw (ne-eqb (j % 2) 0 (λ z. omega arith)) (odd-unwrapped (j / 2) (omega arith)))
+      (lt-or-le (j % 2) 1))

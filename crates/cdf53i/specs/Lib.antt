@@ -1,3 +1,4 @@
 pub mod Lift
 pub mod T800
+pub mod Within
 pub mod Bands

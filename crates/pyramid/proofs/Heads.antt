@@ -23,7 +23,7 @@ use Rattle.samples.specs.Integers.{isWidth}
 use Rattle.samples.proofs.LeLaws.{leAt-take}
 use Rattle.dwt.specs.declared.filter.Filter.{Filter}
 use Rattle.dwt.specs.declared.filter.Filter.the-variants.{Cdf53I8, Cdf53I16, Cdf53I32, Cdf53F32, Cdf53F64, Cdf97F32, Cdf97F64}
-use Rattle.dwt.specs.Filters.{widthOf, waveletOf, Integers}
+use Rattle.dwt.specs.Filters.{widthOf, Integers}
 use Rattle.dwt.specs.Calls.{short}
 use Rattle.pyramid.specs.Files.{Head, headCount, headSize, bodyOf, fileOf, fileSize}
 use Rattle.pyramid.specs.Opens.{filterOf, headIn, headChecks}
@@ -44,15 +44,14 @@ pub record Recording (f : Filter) (l n p : ℕ) (x : List ℕ) : Type 0 where
 pub record Common (f : Filter) : Type 0 where
   pub width : isWidth (widthOf f) ≡ true
   pub again : filterOf (widthOf f) ≡ f
-  pub wavelet : waveletOf f ≡ Cdf53
   pub narrow : widthOf f ≤ 4
   pub early : (n : ℕ) → short f n ≡ MinFilterSize n 3
 
 -- each of them has it
 pub common : (f : Filter) → Integers f → Common f
-common Cdf53I8 i = record { width = refl; again = refl; wavelet = refl; narrow = omega arith; early = λ n. refl }
-common Cdf53I16 i = record { width = refl; again = refl; wavelet = refl; narrow = omega arith; early = λ n. refl }
-common Cdf53I32 i = record { width = refl; again = refl; wavelet = refl; narrow = omega arith; early = λ n. refl }
+common Cdf53I8 i = record { width = refl; again = refl; narrow = omega arith; early = λ n. refl }
+common Cdf53I16 i = record { width = refl; again = refl; narrow = omega arith; early = λ n. refl }
+common Cdf53I32 i = record { width = refl; again = refl; narrow = omega arith; early = λ n. refl }
 common Cdf53F32 i = absurd i
 common Cdf53F64 i = absurd i
 common Cdf97F32 i = absurd i

@@ -20,7 +20,6 @@ use Rattle.sizes.specs.declared.Wavelet.{Wavelet}
 use Rattle.sizes.specs.declared.Wavelet.the-variants.{Cdf53}
 use Rattle.sizes.specs.Bands.{mostSamples}
 use Rattle.sizes.specs.Levels.{places, depthOf, levelsOf}
-use Rattle.sizes.proofs.Counts.{places-le}
 use Rattle.sizes.proofs.Depths.{step}
 use Rattle.samples.specs.Le.{Bytes}
 use Rattle.dwt.specs.declared.filter.Filter.{Filter}
@@ -28,6 +27,7 @@ use Rattle.dwt.specs.Filters.{widthOf, waveletOf, Integers}
 use Rattle.dwt.specs.Pyramids.{approxAt}
 use Rattle.dwt.specs.Calls.{short}
 use Rattle.dwt.proofs.Multi.{levels-pos}
+use Rattle.trips.proofs.Undone.{wavelet-is}
 use Rattle.pyramid.specs.Files.{fileOf, fileSize}
 use Rattle.pyramid.specs.Opens.{samplesIn, countIn, sayOpen, Open}
 use Rattle.pyramid.specs.Writes.{writeChecks, sayWrite, Write}
@@ -35,7 +35,7 @@ use Rattle.pyramid.specs.Sees.{needed, wholeOf, Sampled, Roomy}
 use Rattle.pyramid.proofs.Sized.{file-length}
 use Rattle.pyramid.proofs.Heads.{Recording, common}
 use Rattle.pyramid.proofs.Whole.{first-most}
-use Rattle.pyramid.proofs.Survives.{roomy-less, cut-short, survives, count-left}
+use Rattle.pyramid.proofs.Survives.{cut-short, survives, count-left}
 
 early-refuses : (f : Filter) → Integers f → (n : ℕ) (t : Bool) → done (cond t (short f n) BufferWasTooSmallForLevel) ≡ false
 early-refuses f i n true = ap done (common f i .early n)
@@ -48,11 +48,10 @@ unfolding sayWrite
 recorded f l p x b u v i bx hp h =
     let k = widthOf f in
     let n = length x / k in
-    let c = common f i in
     let q = passing (ragged k (length x) ∷ ragged k u ∷ ragged k v ∷ writeChecks f l n b (u / k) (v / k)) (Done 0 0)
     (refl, (refl, (refl, (refl, (early-refuses f i n (leb l 1), (refl, (refl, (refl, tt)))))))) h in
     let w = q .1 .1 .1 in
-    let deep : levelsOf l ≤ depthOf Cdf53 n = subst (λ (y : Wavelet). levelsOf l ≤ depthOf y n) (c .wavelet) (roomy (depthOf (waveletOf f) n) (levelsOf l) (w .1 .0)) in
+    let deep : levelsOf l ≤ depthOf Cdf53 n = subst (λ (y : Wavelet). levelsOf l ≤ depthOf y n) (wavelet-is f i) (roomy (depthOf (waveletOf f) n) (levelsOf l) (w .1 .0)) in
     let st = step 3 (omega arith) 0 n (omega (arith, levels-pos l)) in
     record {
       integers = i;
@@ -80,6 +79,11 @@ module _ (f : Filter) (l p : ℕ) (x : List ℕ) (i : Integers f) (bx : Bytes x)
       let r = recorded f l p x (length b) (length u) (length v) i bx hp d in
       ap (take size) (w .file ∙ left-done s (file ++ drop size b) b d) ∙ take-at file (drop size b) size (file-length f (levelsOf l) p n x (r .size))
 
+  -- and its first c bytes are the file's
+  pub front-in : (b u v : List ℕ) (a : Answer) (b′ u′ v′ : List ℕ) → Write f l p x b u v a b′ u′ v′ → a .number ≡ 0
+      → (c : ℕ) → c ≤ fileSize (widthOf f) (levelsOf l) (length x / widthOf f) → take c b′ ≡ take c (fileOf f (levelsOf l) p x)
+  front-in b u v a b′ u′ v′ w z c e = let size = fileSize (widthOf f) (levelsOf l) (length x / widthOf f) in sym (take-take c size b′ e) ∙ ap (take c) (file-in b u v a b′ u′ v′ w z)
+
   -- "two writes of one recording are the same bytes", whatever stood in what they were lent
   pub same-file : (b u v : List ℕ) (a : Answer) (b′ u′ v′ : List ℕ) → Write f l p x b u v a b′ u′ v′ → a .number ≡ 0
       → (c g h : List ℕ) (e : Answer) (c′ g′ h′ : List ℕ) → Write f l p x c g h e c′ g′ h′ → e .number ≡ 0
@@ -93,7 +97,7 @@ module _ (f : Filter) (l p : ℕ) (x : List ℕ) (i : Integers f) (bx : Bytes x)
     written = recorded f l p x (length b) (length u) (length v) i bx hp (is-done (sayWrite f l (length x) (length b) (length u) (length v)) a (w .answer) z)
 
     front : c ≤ fileSize (widthOf f) (levelsOf l) (length x / widthOf f) → take c b′ ≡ take c (fileOf f (levelsOf l) p x)
-    front e = let size = fileSize (widthOf f) (levelsOf l) (length x / widthOf f) in sym (take-take c size b′ e) ∙ ap (take c) (file-in b u v a b′ u′ v′ w z)
+    front = front-in b u v a b′ u′ v′ w z c
 
     -- cut in section 0 or 1, opening says 10 and leaves the output as it was
     pub kept-none : c < needed (widthOf f) (levelsOf l) (length x / widthOf f) → (r ≡ say 10 c 0) × (o′ ≡ o)
@@ -127,15 +131,3 @@ module _ (f : Filter) (l p : ℕ) (x : List ℕ) (i : Integers f) (bx : Bytes x)
           open′ .answer ∙ ap answerOf q,
           open′ .output ∙ ap (λ (m : Refusal). left m (samplesIn s ++ drop (k * countIn s) o) o) q ∙ ap₂ (λ (m : List ℕ) (e : ℕ). m ++ drop (k * e) o) xs cs,
         )
-
-    -- demand 3, whole: with room for the recording, what is left of its file is refused with 10 where section 1 is not whole, and else gives level L - m, m the
-    -- detail sections that are whole, how many samples that level has, and exactly its approximations of the original recording
-    pub demand3 : c ≤ fileSize (widthOf f) (levelsOf l) (length x / widthOf f) → Roomy (widthOf f) (length x / widthOf f) (length o) (length g) (length h)
-        → let n = length x / widthOf f in
-        let j = levelsOf l - wholeOf (widthOf f) (levelsOf l) n c in
-        (c < needed (widthOf f) (levelsOf l) n → (r ≡ say 10 c 0) × (o′ ≡ o))
-        × (needed (widthOf f) (levelsOf l) n ≤ c → (r ≡ say 0 j (places j n)) × (o′ ≡ approxAt f j x ++ drop (widthOf f * places j n) o))
-    demand3 d room =
-        let n = length x / widthOf f in
-        let j = levelsOf l - wholeOf (widthOf f) (levelsOf l) n c in
-        (kept-none, λ e. kept e d j refl (roomy-less (widthOf f) (places j n) n (length o) (length g) (length h) (places-le j n) room))

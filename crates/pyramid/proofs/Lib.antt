@@ -13,3 +13,7 @@ pub mod Answers
 pub mod Bands
 pub mod Kept
 pub mod Sections
+pub mod WriteFits
+pub mod Demand3
+pub mod OpenT800
+pub mod SectionCalls

@@ -6,7 +6,7 @@ use mathlib.Core.List.{List, [], _∷_, _++_}
 use mathlib.Core.Logic.{⊎-elim}
 use mathlib.Core.Path.{_≡_, refl, sym, ap, ap₂, subst, _∙_}
 use Prim.Native.Nat.{ℕ, _+_, _-_, _*_, _/_, _%_, _≤_, _<_}
-use native.Mathlib.Nat.{le-div-iff-mul-le, mul-le-mul-left, mul-comm}
+use native.Mathlib.Nat.{le-div-iff-mul-le, mul-comm}
 use native.Mathlib.Omega.{arith}
 use borrow.Author.Tests.{lt-ltb, le-ltb, ne-eqb}
 use lib.Dec.{ltb}
@@ -17,15 +17,14 @@ use Rattle.answers.specs.Checks.{Check, firstOf}
 use Rattle.answers.proofs.Chain.{by, stop, same}
 use Rattle.answers.proofs.Order.{lt-or-le}
 use Rattle.answers.proofs.Passed.{Passing, through}
-use Rattle.sizes.specs.declared.Wavelet.{Wavelet}
 use Rattle.sizes.specs.Bands.{mostBytes}
-use Rattle.sizes.specs.Levels.{places, depthOf}
+use Rattle.sizes.specs.Levels.{places}
 use Rattle.samples.specs.Integers.{isWidth}
 use Rattle.dwt.specs.declared.filter.Filter.{Filter}
-use Rattle.dwt.specs.Filters.{widthOf, waveletOf}
+use Rattle.dwt.specs.Filters.{widthOf}
 use Rattle.dwt.specs.Pyramids.{approxAt}
 use Rattle.dwt.proofs.Cuts.{width-pos}
-use Rattle.trips.proofs.Undone.{undoes}
+use Rattle.trips.proofs.Undone.{undoes, own-depth}
 use Rattle.pyramid.specs.declared.walk.Way.{Way}
 use Rattle.pyramid.specs.Files.{Head, headSize, bodyOf, bodySize, fileOf, fileSize}
 use Rattle.pyramid.specs.Walks.{walkOf, restoredOf}
@@ -36,12 +35,6 @@ use Rattle.pyramid.proofs.CutWalk.{walk-cut, reach-whole}
 use Rattle.pyramid.proofs.Restored.{restored-cut, whole-all}
 use Rattle.pyramid.proofs.Heads.{Recording, common, cut-parts, cut-length, file-most, head-is, own-head-passes}
 use Rattle.pyramid.proofs.Whole.{first-most, reach-none, reach-short, whole-is}
-
--- room for n samples is room for fewer
-pub roomy-less : (k c n o u v : ℕ) → c ≤ n → Roomy k n o u v → Roomy k c o u v
-roomy-less k c n o u v h r =
-    let q = mul-le-mul-left k h in
-    record { output = omega (arith, r .output); first = omega (arith, r .first); second = omega (arith, r .second) }
 
 -- checks that let by, and then others
 pub skip : (l m : List Check) (s : Refusal) → Passing l → firstOf (l ++ m) s ≡ firstOf m s
@@ -121,7 +114,6 @@ module _ (f : Filter) (l n p : ℕ) (x : List ℕ) (r : Recording f l n p x) whe
       let i = common f (r .integers) in
       let front = frontOf f l n p in
       let body = bodyOf f l n x in
-      let deep : l ≤ depthOf (waveletOf f) n = subst (λ (w : Wavelet). l ≤ depthOf w n) (sym (i .wavelet)) (r .deep) in
       let m = wholeOf k l n b in
       ap (λ (h : Head). restoredOf (filterOf (h .width)) s (wholeDetails (wayIn s) (h .levels)) (countIn s) headSize) (head-is f l n p x b r (omega arith))
       ∙ ap (λ (g : Filter). restoredOf g s (wholeDetails (wayIn s) l) (countIn s) headSize) (i .again)
@@ -129,7 +121,7 @@ module _ (f : Filter) (l n p : ℕ) (x : List ℕ) (r : Recording f l n p x) whe
       ∙ ap (λ (t : List ℕ). restoredOf f t m (places (l - m) n) headSize) (cut-parts f l p n x b (r .size) (omega arith))
       ∙ subst (λ (q : ℕ). restoredOf f (front ++ take j (body ++ [])) q (places (l - q) n) headSize ≡ approxAt f (l - q) x) (whole-is k l n b c)
       (subst (λ (a : ℕ). restoredOf f (front ++ take j (body ++ [])) (wholeIn k l n j) (places (l - wholeIn k l n j) n) a ≡ approxAt f (l - wholeIn k l n j) x) (front-length f l n p)
-      (restored-cut f (undoes f (r .integers)) l n x front [] j (r .bytes) (r .size) deep (omega arith)))
+      (restored-cut f (undoes f (r .integers)) l n x front [] j (r .bytes) (r .size) (own-depth f (r .integers) l n (r .deep)) (omega arith)))
 
   module _ (o u v : ℕ) (a : Sampled (widthOf f) o u v) where
     -- cut in section 0 or 1: "10"

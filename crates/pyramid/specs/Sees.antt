@@ -2,18 +2,23 @@
 -- k bytes a sample, l levels and n samples.
 -- Assumes nothing: these are definitions.
 use mathlib.Core.Bool.{cond}
-use mathlib.Core.List.{List, [], _∷_}
+use mathlib.Core.List.{List, [], _∷_, _++_}
 use mathlib.Core.Path.{_≡_}
-use Prim.Native.Nat.{ℕ, zero, suc, _+_, _-_, _*_, _%_, _≤_}
+use Prim.Native.Nat.{ℕ, zero, suc, _+_, _-_, _*_, _%_, _≤_, _<_}
 use lib.Dec.{leb}
+use lib.ListN.{length, take, drop}
+use Rattle.answers.specs.declared.err.Answer.{Answer}
 use Rattle.answers.specs.declared.err.Refusal.the-variants.{Done}
+use Rattle.answers.specs.Answers.{say}
 use Rattle.sizes.specs.Bands.{ups}
 use Rattle.sizes.specs.Levels.{places}
-use Rattle.dwt.specs.Pyramids.{lengthsOf}
+use Rattle.dwt.specs.declared.filter.Filter.{Filter}
+use Rattle.dwt.specs.Filters.{widthOf}
+use Rattle.dwt.specs.Pyramids.{approxAt, lengthsOf}
 use Rattle.pyramid.specs.declared.walk.Way.{Way}
 use Rattle.pyramid.specs.declared.walk.Way.the-variants.{Went, Short, Wrong}
-use Rattle.pyramid.specs.Files.{headSize, bodySize}
-use Rattle.pyramid.specs.Opens.{sayOpen, samplesIn}
+use Rattle.pyramid.specs.Files.{headSize, bodySize, fileSize}
+use Rattle.pyramid.specs.Opens.{sayOpen, samplesIn, Open}
 
 -- ---- how much is whole
 
@@ -67,3 +72,35 @@ pub record Roomy (k c o u v : ℕ) : Type 0 where
 pub record OpensTo (s : List ℕ) (k p o u v level count : ℕ) (x : List ℕ) : Type 0 where
   pub says : sayOpen s k p o u v ≡ Done level count
   pub samples : samplesIn s ≡ x
+
+-- ---- demand 3
+
+-- the level that the first c bytes give, of a file of l levels of n samples of k bytes: l less the detail sections that are whole
+abbrev pub levelLeft : ℕ → ℕ → ℕ → ℕ → ℕ
+levelLeft k l n c = l - wholeOf k l n c
+
+-- the answer r, and the output o′, that opening the first c bytes of the file of x, of l levels and n samples, leaves in the output o
+pub record Opened (f : Filter) (l n c : ℕ) (x o : List ℕ) (r : Answer) (o′ : List ℕ) : Type 0 where
+  -- below the end of the coarsest section it is 10 (c, 0), nothing is written, and nowhere else is it 10
+  pub cut : c < needed (widthOf f) l n → (r ≡ say 10 c 0) × (o′ ≡ o)
+  pub only-cut : r .number ≡ 10 → c < needed (widthOf f) l n
+  -- from there on it is done, with the level, its count, and exactly its approximations
+  pub level : needed (widthOf f) l n ≤ c
+      → (r ≡ say 0 (levelLeft (widthOf f) l n c) (places (levelLeft (widthOf f) l n c) n))
+      × (o′ ≡ approxAt f (levelLeft (widthOf f) l n c) x ++ drop (widthOf f * places (levelLeft (widthOf f) l n c) n) o)
+  -- and in an output of just that many samples nothing else
+  pub just : needed (widthOf f) l n ≤ c → length o ≡ widthOf f * places (levelLeft (widthOf f) l n c) n → o′ ≡ approxAt f (levelLeft (widthOf f) l n c) x
+  -- the whole file gives level 0, which is the samples, and nothing less gives it
+  pub all : c ≡ fileSize (widthOf f) l n → (r ≡ say 0 0 n) × (o′ ≡ x ++ drop (length x) o)
+  pub only-all : r .number ≡ 0 → r .first ≡ 0 → c ≡ fileSize (widthOf f) l n
+  -- so many detail sections are whole: they end within c bytes, and the next one does not
+  pub within : needed (widthOf f) l n ≤ c → headSize + bodySize (widthOf f) (wholeOf (widthOf f) l n c) (places (levelLeft (widthOf f) l n c) n) ≤ c
+  pub next : needed (widthOf f) l n ≤ c → wholeOf (widthOf f) l n c < l
+      → c < headSize + bodySize (widthOf f) (suc (wholeOf (widthOf f) l n c)) (places (l - suc (wholeOf (widthOf f) l n c)) n)
+
+-- every opening, for the same width and point, of the first c bytes of s, with an output and work areas of whole samples that have room for the count given back
+abbrev pub Openings : Filter → ℕ → ℕ → ℕ → List ℕ → List ℕ → Type 0
+Openings f l n p x s =
+    (c : ℕ) → c ≤ fileSize (widthOf f) l n → (o g h : List ℕ) → Sampled (widthOf f) (length o) (length g) (length h)
+    → (needed (widthOf f) l n ≤ c → Roomy (widthOf f) (places (levelLeft (widthOf f) l n c) n) (length o) (length g) (length h))
+    → (r : Answer) (o′ g′ h′ : List ℕ) → Open (take c s) (widthOf f) p o g h r o′ g′ h′ → Opened f l n c x o r o′

@@ -1,15 +1,13 @@
--- Lengths of levels that fit each other: those of a pyramid do, they are no more than the depth and no more than 23; and on lengths that fit, `multi_idwt` and
--- `multi_dwt` say that they are done.
+-- Lengths of levels that fit each other: those of a pyramid do, they are no more than the depth and no more than 23; and on lengths that fit, `multi_idwt`,
+-- `multi_dwt` and `dwt` say that they are done.
 -- Assumes nothing, and looks into no filter.
-use mathlib.Core.Bool.{false, not}
 use mathlib.Core.List.{List, [], _∷_, _++_}
 use mathlib.Core.Logic.{⊎-elim}
 use mathlib.Core.Path.{_≡_, refl, ap, _∙_}
-use Prim.Native.Nat.{ℕ, zero, suc, _+_, _-_, _*_, _/_, _%_, _^_, _≤_, _<_}
-use native.Mathlib.Nat.{mul-mod-right, mul-div-right, mul-le-mul-right, le-of-mul-le-mul-left, pow-succ'}
+use Prim.Native.Nat.{ℕ, zero, suc, _+_, _-_, _*_, _/_, _^_, _≤_, _<_}
+use native.Mathlib.Nat.{mul-le-mul-right, le-of-mul-le-mul-left, pow-succ'}
 use native.Mathlib.Omega.{arith}
 use borrow.Author.Tests.{le-ltb, ne-eqb}
-use lib.Dec.{eqb}
 use lib.ListN.{length}
 use lib.Pow.{pow-mono}
 use Rattle.answers.specs.declared.err.Refusal.the-variants.{Done}
@@ -28,7 +26,7 @@ use Rattle.samples.proofs.Words.{length-words}
 use Rattle.dwt.specs.declared.filter.Filter.{Filter}
 use Rattle.dwt.specs.Filters.{widthOf, waveletOf}
 use Rattle.dwt.specs.Pyramids.{lengthsOf}
-use Rattle.dwt.specs.Calls.{multiChecks, sayMulti, Ready}
+use Rattle.dwt.specs.Calls.{multiChecks, sayMulti, dwtChecks, sayDwt, Ready}
 use Rattle.dwt.specs.Backward.{total, bandChecks, roomChecks, wholeChecks, backChecks, sayBack, mostLevels, Fits, Rising}
 use Rattle.dwt.proofs.Cuts.{width-pos}
 use Rattle.trips.proofs.Lengths.{places-total}
@@ -100,7 +98,6 @@ bands-pass w a (m ∷ ms) h =
 
 -- ---- calls on lengths that fit
 
--- b bytes are n samples of k bytes: not ragged, and n
 -- `multi_idwt` on bands whose lengths fit is done: c lengths in ls, and work areas of p and q samples
 pub back-fits : (f : Filter) (a c p q : ℕ) (ls : List ℕ) (b d o u v : ℕ) → b ≡ widthOf f * a → Rising f a (wordsOf 4 ls) d u v o → length ls ≡ 4 * c → 0 < c → u ≡ widthOf f * p → v ≡ widthOf f * q
     → sayBack f b d ls o u v ≡ Done 0 0
@@ -175,6 +172,40 @@ multi-fits f l n p q x o u v r eo eu ev =
           (
             whole-passes k q v ev,
             (le-ltb mostSamples n (r .short), (le-ltb (depthOf (waveletOf f) n) (levelsOf l) (r .deep), (same n n refl, (le-ltb p n up, (le-ltb q n vp, tt))))),
+          ),
+        ),
+      ),
+    ))
+
+-- `dwt` on samples that have the levels, into bands of the last level's lengths, is done: work areas of p and q samples
+pub dwt-fits : (f : Filter) (l n p q x a d u v : ℕ) → Ready f (levelsOf l) n x u v
+    → a ≡ widthOf f * ups (places (levelsOf l - 1) n) → d ≡ widthOf f * downs (places (levelsOf l - 1) n) → u ≡ widthOf f * p → v ≡ widthOf f * q → sayDwt f l x a d u v ≡ Done 0 0
+unfolding sayDwt
+dwt-fits f l n p q x a d u v r ea ed eu ev =
+    let k = widthOf f in
+    let kp = width-pos f in
+    let m = places (levelsOf l - 1) n in
+    let up : n ≤ p = le-of-mul-le-mul-left (rw eu at (r .first)) kp in
+    let vp : n ≤ q = le-of-mul-le-mul-left (rw ev at (r .second)) kp in
+    through (ragged k x ∷ ragged k a ∷ ragged k d ∷ ragged k u ∷ ragged k v ∷ dwtChecks f l (x / k) (a / k) (d / k) (u / k) (v / k)) (Done 0 0)
+    (rw (count-is k n x kp (r .whole), count-is k (ups m) a kp ea, count-is k (downs m) d kp ed, count-is k p u kp eu, count-is k q v kp ev) (
+      whole-passes k n x (r .whole),
+      (
+        whole-passes k (ups m) a ea,
+        (
+          whole-passes k (downs m) d ed,
+          (
+            whole-passes k p u eu,
+            (
+              whole-passes k q v ev,
+              (
+                le-ltb mostSamples n (r .short),
+                (
+                  le-ltb (depthOf (waveletOf f) n) (levelsOf l) (r .deep),
+                  (same (ups m) (ups m) refl, (same (downs m) (downs m) refl, (le-ltb p n up, (le-ltb q n vp, tt)))),
+                ),
+              ),
+            ),
           ),
         ),
       ),

@@ -4,3 +4,5 @@ pub mod Undone
 pub mod Fitting
 pub mod ThereAndBack
 pub mod OneLevel
+pub mod T800Levels
+pub mod T800Calls

@@ -3,13 +3,15 @@
 -- Assumes nothing.
 use mathlib.Core.List.{List, [], _∷_, _++_}
 use mathlib.Core.Logic.{⊎-elim}
-use mathlib.Core.Path.{_≡_, refl, ap, ap₂, _∙_}
+use mathlib.Core.Path.{_≡_, refl, sym, ap, ap₂, subst, _∙_}
 use Prim.Native.Nat.{ℕ, zero, suc, _+_, _-_, _*_, _≤_, _<_}
 use native.Mathlib.Nat.{mul-add, mul-zero}
 use native.Mathlib.Omega.{arith}
 use lib.ListN.{length, getD, take, drop, length-take, length-drop, take-append-drop, List·getD-eq-default}
 use lib.Seq.{length-take-le, getD-take, getD-drop}
 use Rattle.answers.proofs.Order.{lt-or-le}
+use Rattle.sizes.specs.declared.Wavelet.{Wavelet}
+use Rattle.sizes.specs.declared.Wavelet.the-variants.{Cdf53}
 use Rattle.sizes.specs.Bands.{ups, downs, smallestOf}
 use Rattle.sizes.specs.Levels.{depthOf}
 use Rattle.sizes.proofs.Depths.{step, two-below}
@@ -56,6 +58,19 @@ each-width P h Cdf53F32 i = absurd i
 each-width P h Cdf53F64 i = absurd i
 each-width P h Cdf97F32 i = absurd i
 each-width P h Cdf97F64 i = absurd i
+
+-- their lengths are those of the 5/3
+pub wavelet-is : (f : Filter) → Integers f → waveletOf f ≡ Cdf53
+wavelet-is Cdf53I8 i = refl
+wavelet-is Cdf53I16 i = refl
+wavelet-is Cdf53I32 i = refl
+wavelet-is Cdf53F32 i = absurd i
+wavelet-is Cdf53F64 i = absurd i
+wavelet-is Cdf97F32 i = absurd i
+wavelet-is Cdf97F64 i = absurd i
+
+pub own-depth : (f : Filter) → Integers f → (l n : ℕ) → l ≤ depthOf Cdf53 n → l ≤ depthOf (waveletOf f) n
+own-depth f i l n h = subst (λ (w : Wavelet). l ≤ depthOf w n) (sym (wavelet-is f i)) h
 
 undoes-width : (k : ℕ) → Width k → Undoing k (integer.low k) (integer.high k) (integer.back k)
 undoes-width k w = record {

@@ -1,0 +1,107 @@
+-- A section of what a done write left, cut or not, is the band that a done `multi_dwt` gives of the same samples and levels, where it stands in its output.
+use mathlib.Core.Bool.{true, cond}
+use mathlib.Core.List.{List, []}
+use mathlib.Core.Path.{_≡_, sym, ap, subst, _∙_}
+use Prim.Native.Nat.{ℕ, suc, _+_, _-_, _*_, _/_, _^_, _≤_, _<_}
+use native.Mathlib.Nat.{mul-le-mul-left}
+use native.Mathlib.Omega.{arith}
+use lib.ListN.{length, take, drop}
+use Rattle.answers.specs.declared.err.Answer.{Answer}
+use Rattle.answers.specs.declared.err.Refusal.{Refusal}
+use Rattle.answers.specs.Answers.{done}
+use Rattle.answers.proofs.Endings.{is-done}
+use Rattle.sizes.specs.Bands.{downs}
+use Rattle.sizes.specs.Levels.{places, levelsOf}
+use Rattle.sizes.proofs.Counts.{places-le}
+use Rattle.samples.specs.Le.{Bytes}
+use Rattle.dwt.specs.declared.filter.Filter.{Filter}
+use Rattle.dwt.specs.Filters.{widthOf, highOf, Integers}
+use Rattle.dwt.specs.Pyramids.{approxAt}
+use Rattle.dwt.specs.Calls.{sayMulti, Multi}
+use Rattle.trips.proofs.ThereAndBack.{call-approx, call-level}
+use Rattle.pyramid.specs.Files.{headSize, fileOf, fileSize}
+use Rattle.pyramid.specs.Opens.{lengthOf, startOf, sectionIn}
+use Rattle.pyramid.specs.Writes.{sayWrite, Write}
+use Rattle.pyramid.proofs.Heads.{Recording}
+use Rattle.pyramid.proofs.Bands.{upTo, section-found, section-approx, section-details}
+use Rattle.pyramid.proofs.Kept.{recorded, front-in}
+
+-- every section ends within the file
+up-most : (k l n j : ℕ) → j ≤ l → upTo k l n (1 + j) ≤ fileSize k l n
+up-most k l n j h =
+    let e : 1 + j - 1 ≡ j = omega arith in
+    let q = places-le (l + 1 - (1 + j)) n in
+    omega (arith, e, mul-le-mul-left k q)
+
+-- in the first c bytes of a recording's file
+module _ (f : Filter) (l n p : ℕ) (x : List ℕ) (r : Recording f l n p x) (c : ℕ) (e : c ≤ fileSize (widthOf f) l n) where
+  headed : (q : ℕ) → upTo (widthOf f) l n q ≤ c → headSize ≤ c
+  headed q up = omega arith
+
+  found-bytes : (q : ℕ) → 1 ≤ q → q ≤ l + 1 → upTo (widthOf f) l n q ≤ c → let s = take c (fileOf f l p x) in sectionIn s (widthOf f) p q ≡ take (lengthOf s q) (drop (startOf s q) s)
+  unfolding sectionIn
+  found-bytes q h g up =
+      let s = take c (fileOf f l p x) in
+      ap (λ (t : Refusal). cond (done t) (take (lengthOf s q) (drop (startOf s q) s)) []) (section-found f l n p x r c (headed q up) e q h g up)
+
+  file-first : upTo (widthOf f) l n 1 ≤ c → sectionIn (take c (fileOf f l p x)) (widthOf f) p 1 ≡ approxAt f l x
+  file-first up = found-bytes 1 (omega arith) (omega arith) up ∙ section-approx f l n p x r c (headed 1 up) e up
+
+  file-later : (j : ℕ) → 1 ≤ j → j ≤ l → upTo (widthOf f) l n (1 + j) ≤ c → sectionIn (take c (fileOf f l p x)) (widthOf f) p (1 + j) ≡ highOf f (approxAt f (l - j) x)
+  file-later j some most up =
+      let k = widthOf f in
+      let s = take c (fileOf f l p x) in
+      let less : j - 1 < l = omega arith in
+      let eq : j - 1 + 2 ≡ 1 + j = omega arith in
+      let ei : l - 1 - (j - 1) ≡ l - j = omega arith in
+      let up′ : upTo k l n (j - 1 + 2) ≤ c = subst (λ (q : ℕ). upTo k l n q ≤ c) (sym eq) up in
+      found-bytes (1 + j) (omega arith) (omega arith) up
+      ∙ ap (λ (q : ℕ). take (lengthOf s q) (drop (startOf s q) s)) (sym eq)
+      ∙ section-details f l n p x r c (headed (1 + j) up) e (j - 1) less up′
+      ∙ ap (λ (q : ℕ). highOf f (approxAt f q x)) ei
+
+-- both calls are done
+module _ (f : Filter) (i : Integers f) (l p : ℕ) (hp : p < 2 ^ 32) (x : List ℕ) (bx : Bytes x)
+    (b u v : List ℕ) (a : Answer) (b′ u′ v′ : List ℕ) (w : Write f l p x b u v a b′ u′ v′) (z : a .number ≡ 0)
+    (o g h : List ℕ) (r : Answer) (o′ g′ h′ : List ℕ) (m : Multi f l x o g h r o′ g′ h′) (y : r .number ≡ 0) where
+  -- bytes of a sample, samples, levels
+  abbrev k : ℕ
+  k = widthOf f
+
+  abbrev n : ℕ
+  n = length x / widthOf f
+
+  abbrev L : ℕ
+  L = levelsOf l
+
+  written : Recording f L n p x
+  written = recorded f l p x (length b) (length u) (length v) i bx hp (is-done (sayWrite f l (length x) (length b) (length u) (length v)) a (w .answer) z)
+
+  made : done (sayMulti f l (length x) (length o) (length g) (length h)) ≡ true
+  made = is-done (sayMulti f l (length x) (length o) (length g) (length h)) r (m .answer) y
+
+  -- the details of level L + 1 - j in the output
+  level-at : (j : ℕ) → 1 ≤ j → j ≤ L → highOf f (approxAt f (L - j) x) ≡ take (k * downs (places (L - j) n)) (drop (k * places (L + 1 - j) n) o′)
+  level-at j some most =
+      let e : suc (L - j) ≡ L + 1 - j = omega arith in
+      sym (call-level l x m made (L - j) (omega arith)) ∙ ap (λ (q : ℕ). take (k * downs (places (L - j) n)) (drop (k * places q n) o′)) e
+
+  -- cut to c bytes, which have the section whole
+  pub section-in-cut : (c : ℕ) → c ≤ fileSize k L n
+      → (upTo k L n 1 ≤ c → sectionIn (take c b′) k p 1 ≡ take (k * places L n) o′)
+      × ((j : ℕ) → 1 ≤ j → j ≤ L → upTo k L n (1 + j) ≤ c → sectionIn (take c b′) k p (1 + j) ≡ take (k * downs (places (L - j) n)) (drop (k * places (L + 1 - j) n) o′))
+  section-in-cut c e =
+      let front = front-in f l p x i bx hp b u v a b′ u′ v′ w z c e in (
+        λ up. ap (λ (s : List ℕ). sectionIn s k p 1) front ∙ file-first f L n p x written c e up ∙ sym (call-approx l x m made),
+        λ j some most up.
+            ap (λ (s : List ℕ). sectionIn s k p (1 + j)) front
+            ∙ file-later f L n p x written c e j some most up
+            ∙ level-at j some most,
+      )
+
+  -- the whole file: section 1 is the approximations, section 1 + j the details of level L + 1 - j
+  pub section-is-band : (sectionIn (take (fileSize k L n) b′) k p 1 ≡ take (k * places L n) o′)
+      × ((j : ℕ) → 1 ≤ j → j ≤ L → sectionIn (take (fileSize k L n) b′) k p (1 + j) ≡ take (k * downs (places (L - j) n)) (drop (k * places (L + 1 - j) n) o′))
+  section-is-band =
+      let t = section-in-cut (fileSize k L n) (omega arith) in
+      (t .0 (up-most k L n 0 (omega arith)), λ j some most. t .1 j some most (up-most k L n j most))
