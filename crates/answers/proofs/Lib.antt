@@ -1,4 +1,3 @@
-pub mod Order
 pub mod Tells
 pub mod Chain
 pub mod Passed

@@ -11,7 +11,7 @@ use borrow.Author.Tests.{eq-eqb, ne-eqb}
 use lib.Dec.{eqb}
 use lib.IntN.{ℤ}
 use lib.ListN.{length}
-use Rattle.answers.proofs.Order.{lt-or-le}
+use Rattle.order.proofs.Order.{lt-or-le}
 use Rattle.sizes.specs.Bands.{ups, downs}
 use Rattle.samples.specs.Le.{Bytes}
 use Rattle.samples.specs.Words.{wordAt, Holds}

@@ -14,7 +14,7 @@ use lib.ListN.{length}
 use Rattle.samples.specs.Words.{tabulate}
 use Rattle.samples.specs.Integers.{wrap, decode, encode}
 use Rattle.samples.proofs.Diff.{sub-ge}
-use Rattle.answers.proofs.Order.{lt-or-le}
+use Rattle.order.proofs.Order.{lt-or-le}
 use Rattle.samples.proofs.Words.{length-tabulate, getD-tabulate, tabulate-same}
 use Rattle.samples.proofs.IntegerLaws.{length-decode}
 use Rattle.sizes.specs.Bands.{ups, downs}

@@ -11,7 +11,7 @@ use borrow.Author.Tests.{eq-eqb, ne-eqb}
 use lib.IntN.{ℤ, pos, negsuc, subℕ, _+ℤ_, _-ℤ_, negℤ, +ℤ-negℤ-cancel, -ℤ-+ℤ-cancel}
 use lib.ListN.{length}
 use lib.Seq.{ext-getD}
-use Rattle.answers.proofs.Order.{lt-or-le}
+use Rattle.order.proofs.Order.{lt-or-le}
 use Rattle.samples.specs.Words.{tabulate}
 use Rattle.samples.specs.Integers.{val, residue, wrap, Width}
 use Rattle.samples.proofs.LeLaws.{top-pos}

@@ -13,7 +13,7 @@ use lib.Ieee.{Float, nan, Format}
 use lib.IntN.{ℤ, pos, natAbs}
 use lib.ListN.{length, getD}
 use Rattle.sizes.specs.declared.Wavelet.the-variants.{Cdf53}
-use Rattle.answers.proofs.Order.{lt-or-le}
+use Rattle.order.proofs.Order.{lt-or-le}
 use Rattle.samples.specs.Words.{tabulate}
 use Rattle.samples.specs.Halves.{evenOf, oddOf, joined}
 use Rattle.samples.proofs.Words.{length-tabulate, getD-tabulate}

@@ -8,7 +8,7 @@ use lib.Dec.{T, eqb}
 use lib.Ieee.{Float, nan, Format, fits, mul, add}
 use lib.Ieee.Fits.{add-fits, mul-fits, nan-fits, cond-fits}
 use lib.ListN.{length, getD, List·getD-eq-default}
-use Rattle.answers.proofs.Order.{lt-or-le}
+use Rattle.order.proofs.Order.{lt-or-le}
 use Rattle.samples.specs.Halves.{evenOf, oddOf, joined}
 use Rattle.samples.specs.Floats.{width, floatAt, decodeFloats, encodeFloats}
 use Rattle.samples.proofs.Words.{holds}

@@ -9,7 +9,7 @@ use borrow.Author.Tests.{lt-ltb, le-ltb}
 use lib.Dec.{T, ltb}
 use lib.Ieee.{Float, nan, Format, fits}
 use lib.ListN.{length, getD}
-use Rattle.answers.proofs.Order.{lt-or-le}
+use Rattle.order.proofs.Order.{lt-or-le}
 use Rattle.samples.specs.Words.{tabulate, Holds}
 use Rattle.samples.specs.Floats.{width, floatAt, putFloat, decodeFloats, encodeFloats, Plain}
 use Rattle.samples.proofs.Words.{tabulate-same, tabulate-getD, holds-on}

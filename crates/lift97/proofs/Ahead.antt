@@ -9,7 +9,7 @@ use native.Mathlib.Omega.{arith}
 use lib.Dec.{T}
 use lib.Ieee.{Float, nan, Format, binary32, binary64, add, mul, isNan, round}
 use lib.ListN.{length, getD}
-use Rattle.answers.proofs.Order.{lt-or-le}
+use Rattle.order.proofs.Order.{lt-or-le}
 use Rattle.sizes.specs.declared.Wavelet.the-variants.{Cdf97}
 use Rattle.sizes.specs.Bands.{ups, downs}
 use Rattle.samples.specs.Words.{Front}

@@ -13,7 +13,7 @@ use Rattle.answers.specs.declared.err.Refusal.{Refusal}
 use Rattle.answers.specs.declared.err.Refusal.the-variants.{Done, NoSuchPlace}
 use Rattle.answers.specs.Answers.{answerOf, done}
 use Rattle.answers.specs.Checks.{firstOf}
-use Rattle.answers.proofs.Order.{lt-or-le}
+use Rattle.order.proofs.Order.{lt-or-le}
 use Rattle.answers.proofs.Passed.{Passing, passing, both-pass, pass-both, through, say-rest, say-stop}
 use Rattle.answers.proofs.Chain.{by, stop}
 use Rattle.answers.proofs.Endings.{is-done}

@@ -6,7 +6,7 @@ use Prim.Native.Nat.{ℕ, zero, suc, _+_, _-_, _*_, _/_, _^_, _≤_, _<_}
 use native.Mathlib.Nat.{add-mul, one-mul, pow-succ', div-div-eq-div-mul, le-div-iff-mul-le, div-mul-le-self, lt-div-mul-add, div-eq-of-lt-le}
 use native.Mathlib.Omega.{arith}
 use lib.Pow.{pow-pos}
-use Rattle.answers.proofs.Order.{lt-or-le}
+use Rattle.order.proofs.Order.{lt-or-le}
 use Rattle.sizes.specs.Bands.{ups}
 use Rattle.sizes.specs.Levels.{places}
 use Rattle.notes.specs.Notes.{columnOf, spanOf}

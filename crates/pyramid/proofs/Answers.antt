@@ -16,7 +16,7 @@ use Rattle.answers.specs.declared.err.Refusal.{Refusal}
 use Rattle.answers.specs.declared.err.Refusal.the-variants.{Done, NoRoom, CutShort}
 use Rattle.answers.specs.Answers.{answerOf}
 use Rattle.answers.specs.Checks.{firstOf}
-use Rattle.answers.proofs.Order.{lt-or-le}
+use Rattle.order.proofs.Order.{lt-or-le}
 use Rattle.sizes.specs.Bands.{ups}
 use Rattle.sizes.specs.Levels.{places}
 use Rattle.dwt.specs.declared.filter.Filter.{Filter}

@@ -15,9 +15,9 @@ use Rattle.answers.specs.declared.err.Refusal.{Refusal}
 use Rattle.answers.specs.declared.err.Refusal.the-variants.{Done, CutShort}
 use Rattle.answers.specs.Checks.{firstOf}
 use Rattle.answers.proofs.Chain.{by, stop}
-use Rattle.answers.proofs.Order.{lt-or-le}
+use Rattle.order.proofs.Order.{lt-or-le}
 use Rattle.answers.proofs.Passed.{Passing}
-use Rattle.sizes.specs.Bands.{mostBytes, ups, downs}
+use Rattle.sizes.specs.Bands.{ups, downs}
 use Rattle.sizes.specs.Levels.{places}
 use Rattle.sizes.proofs.Counts.{places-le}
 use Rattle.dwt.specs.declared.filter.Filter.{Filter}
@@ -27,7 +27,7 @@ use Rattle.dwt.proofs.Cuts.{split-width}
 use Rattle.trips.proofs.Lengths.{length-low, length-high, length-approx}
 use Rattle.pyramid.specs.declared.walk.Way.{Way}
 use Rattle.pyramid.specs.declared.walk.Way.the-variants.{Short}
-use Rattle.pyramid.specs.Files.{Head, headSize, sectionOf, bodyOf, bodySize, fileOf, fileSize}
+use Rattle.pyramid.specs.Files.{mostBytes, Head, headSize, sectionOf, bodyOf, bodySize, fileOf, fileSize}
 use Rattle.pyramid.specs.Walks.{walkOf, lastCount}
 use Rattle.pyramid.specs.Opens.{headIn, headChecks, wayTo, sectionChecks, numberChecks, lengthOf, endBy, startOf, saySection}
 use Rattle.pyramid.specs.Sees.{wholeIn, reach}

@@ -12,7 +12,7 @@ use lib.Dec.{leb}
 use lib.ListN.{length, take, drop, length-drop, length-append}
 use lib.Seq.{drop-at, take-append-add, drop-append-add, length-take-le}
 use Rattle.answers.proofs.Chain.{by, stop, same}
-use Rattle.answers.proofs.Order.{lt-or-le}
+use Rattle.order.proofs.Order.{lt-or-le}
 use Rattle.sizes.specs.Bands.{ups, downs}
 use Rattle.samples.specs.Le.{leAt, leBytes}
 use Rattle.samples.proofs.LeLaws.{leAt-bytes, leAt-drop, leAt-take}

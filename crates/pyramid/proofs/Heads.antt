@@ -12,12 +12,12 @@ use lib.ListN.{length, take}
 use lib.Seq.{length-take-le, take-append-add}
 use Rattle.answers.specs.declared.err.Refusal.the-variants.{MinFilterSize}
 use Rattle.answers.proofs.Chain.{same}
-use Rattle.answers.proofs.Order.{lt-or-le}
+use Rattle.order.proofs.Order.{lt-or-le}
 use Rattle.answers.proofs.Passed.{Passing}
 use Rattle.sizes.specs.declared.Wavelet.the-variants.{Cdf53}
-use Rattle.sizes.specs.Bands.{mostSamples, mostBytes, ups}
+use Rattle.sizes.specs.Bands.{mostSamples, ups}
 use Rattle.sizes.specs.Levels.{depthOf}
-use Rattle.sizes.proofs.Depths.{too-short, one-more}
+use Rattle.sizes.proofs.Depths.{depth-at-most}
 use Rattle.samples.specs.Le.{Bytes, leAt, leBytes}
 use Rattle.samples.specs.Integers.{isWidth}
 use Rattle.samples.proofs.LeLaws.{leAt-take}
@@ -25,7 +25,7 @@ use Rattle.dwt.specs.declared.filter.Filter.{Filter}
 use Rattle.dwt.specs.declared.filter.Filter.the-variants.{Cdf53I8, Cdf53I16, Cdf53I32, Cdf53F32, Cdf53F64, Cdf97F32, Cdf97F64}
 use Rattle.dwt.specs.Filters.{widthOf, Integers}
 use Rattle.dwt.specs.Calls.{short}
-use Rattle.pyramid.specs.Files.{Head, headCount, headSize, bodyOf, fileOf, fileSize}
+use Rattle.pyramid.specs.Files.{mostBytes, Head, headCount, headSize, bodyOf, fileOf, fileSize}
 use Rattle.pyramid.specs.Opens.{filterOf, headIn, headChecks}
 use Rattle.pyramid.proofs.Sized.{frontOf, front-length, file-parts, file-length}
 
@@ -56,16 +56,6 @@ common Cdf53F32 i = absurd i
 common Cdf53F64 i = absurd i
 common Cdf97F32 i = absurd i
 common Cdf97F64 i = absurd i
-
--- no number of samples has more levels than the power of two above it
-pub depth-at-most : (k n : ℕ) → n ≤ 2 ^ suc k → depthOf Cdf53 n ≤ k
-depth-at-most zero n h = omega (arith, too-short 3 (omega arith) n (omega arith))
-depth-at-most (suc k) n h =
-    let e : 2 ^ suc (suc k) ≡ 2 * 2 ^ suc k = pow-succ' 2 (suc k) in
-    ⊎-elim
-    (λ (g : n < 3). omega (arith, too-short 3 (omega arith) n g))
-    (λ (g : 3 ≤ n). omega (arith, one-more 3 (omega arith) n g, depth-at-most k (ups n) (omega arith)))
-    (lt-or-le n 3)
 
 -- what is left of a file that was cut after section 0: section 0, and of the rest so many bytes less
 pub cut-parts : (f : Filter) (l p n : ℕ) (x : List ℕ) (b : ℕ) → length x ≡ widthOf f * n → headSize ≤ b

@@ -19,7 +19,7 @@ use Rattle.sizes.specs.declared.Wavelet.the-variants.{Cdf53}
 use Rattle.sizes.specs.Bands.{mostSamples, ups, smallestOf}
 use Rattle.sizes.specs.Levels.{places, depthOf}
 use Rattle.sizes.proofs.Counts.{places-le}
-use Rattle.sizes.proofs.Depths.{step, two-below}
+use Rattle.sizes.proofs.Depths.{depth-rest}
 use Rattle.samples.specs.Integers.{isWidth}
 use Rattle.samples.proofs.IntegerLaws.{width-of}
 use Rattle.dwt.specs.declared.filter.Filter.the-variants.{Cdf53I8, Cdf53I16, Cdf53I32}
@@ -44,16 +44,6 @@ filter-wavelet w = pick (eqb w 1) (eqb w 2)
     pick true b = refl
     pick false true = refl
     pick false false = refl
-
--- levels within the depth: those that are left after i of them are within the depth of what is left
-pub depth-rest : (w : Wavelet) (i l n : ℕ) → i ≤ l → l ≤ depthOf w n → l - i ≤ depthOf w (places i n)
-unfolding places
-depth-rest w zero l n h d = omega arith
-depth-rest w (suc i) l n h d =
-    let e : suc (l - 1) ≤ depthOf w n = omega arith in
-    let s = step (smallestOf w) (two-below w) (l - 1) n e in
-    let r = depth-rest w i (l - 1) (ups n) (omega arith) (s .1) in
-    omega (arith, r)
 
 -- what section 0 tells when its checks let by
 pub record Headed (s : List ℕ) (w : ℕ) : Type 0 where

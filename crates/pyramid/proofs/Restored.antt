@@ -9,7 +9,7 @@ use native.Mathlib.Omega.{arith}
 use borrow.Author.Tests.{le-leb, lt-leb}
 use lib.ListN.{length, take, drop}
 use lib.Seq.{take-take, take-at, drop-at, drop-drop, take-append-add}
-use Rattle.answers.proofs.Order.{lt-or-le}
+use Rattle.order.proofs.Order.{lt-or-le}
 use Rattle.sizes.specs.Bands.{ups, downs, smallestOf}
 use Rattle.sizes.specs.Levels.{places, depthOf}
 use Rattle.sizes.proofs.Depths.{step, two-below}

@@ -15,9 +15,8 @@ use Rattle.answers.specs.declared.err.Refusal.{Refusal}
 use Rattle.answers.specs.declared.err.Refusal.the-variants.{Done, CutShort}
 use Rattle.answers.specs.Checks.{Check, firstOf}
 use Rattle.answers.proofs.Chain.{by, stop, same}
-use Rattle.answers.proofs.Order.{lt-or-le}
+use Rattle.order.proofs.Order.{lt-or-le}
 use Rattle.answers.proofs.Passed.{Passing, through}
-use Rattle.sizes.specs.Bands.{mostBytes}
 use Rattle.sizes.specs.Levels.{places}
 use Rattle.samples.specs.Integers.{isWidth}
 use Rattle.dwt.specs.declared.filter.Filter.{Filter}
@@ -26,7 +25,7 @@ use Rattle.dwt.specs.Pyramids.{approxAt}
 use Rattle.dwt.proofs.Cuts.{width-pos}
 use Rattle.trips.proofs.Undone.{undoes, own-depth}
 use Rattle.pyramid.specs.declared.walk.Way.{Way}
-use Rattle.pyramid.specs.Files.{Head, headSize, bodyOf, bodySize, fileOf, fileSize}
+use Rattle.pyramid.specs.Files.{mostBytes, Head, headSize, bodyOf, bodySize, fileOf, fileSize}
 use Rattle.pyramid.specs.Walks.{walkOf, restoredOf}
 use Rattle.pyramid.specs.Opens.{filterOf, headChecks, wayIn, wayChecks, wholeDetails, levelIn, countIn, samplesIn, areaChecks, roomsFor, sayOpen}
 use Rattle.pyramid.specs.Sees.{Sampled, Roomy, OpensTo, needed, wholeOf, wholeIn, reach}

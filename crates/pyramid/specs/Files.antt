@@ -8,6 +8,10 @@ use Rattle.sizes.specs.Bands.{ups, downs}
 use Rattle.dwt.specs.declared.filter.Filter.{Filter}
 use Rattle.dwt.specs.Filters.{widthOf, lowOf, highOf}
 
+-- "at most 67,108,974"
+abbrev pub mostBytes : ℕ
+mostBytes = 67108974
+
 -- a section: its count, then its bytes
 abbrev pub sectionOf : ℕ → List ℕ → List ℕ
 sectionOf c b = leBytes 4 c ++ b

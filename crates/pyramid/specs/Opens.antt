@@ -13,7 +13,7 @@ use Rattle.answers.specs.declared.err.Refusal.the-variants.{Done, MinFilterSize
 use Rattle.answers.specs.Answers.{answerOf, done}
 use Rattle.answers.specs.Checks.{Check, firstOf, ragged, tight, left, Spared}
 use Rattle.sizes.specs.declared.Wavelet.the-variants.{Cdf53}
-use Rattle.sizes.specs.Bands.{mostSamples, mostBytes}
+use Rattle.sizes.specs.Bands.{mostSamples}
 use Rattle.sizes.specs.Levels.{places, depthOf}
 use Rattle.samples.specs.Le.{leAt}
 use Rattle.samples.specs.Integers.{isWidth}
@@ -21,7 +21,7 @@ use Rattle.dwt.specs.declared.filter.Filter.{Filter}
 use Rattle.dwt.specs.declared.filter.Filter.the-variants.{Cdf53I8, Cdf53I16, Cdf53I32}
 use Rattle.pyramid.specs.declared.walk.Way.{Way}
 use Rattle.pyramid.specs.declared.walk.Way.the-variants.{Went, Short, Wrong}
-use Rattle.pyramid.specs.Files.{Head, headCount, headSize}
+use Rattle.pyramid.specs.Files.{mostBytes, Head, headCount, headSize}
 use Rattle.pyramid.specs.Walks.{walkOf, lastCount, restoredOf}
 
 -- the integer filter of a width

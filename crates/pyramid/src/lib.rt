@@ -4,3 +4,6 @@ pub mod restore;
 pub mod section;
 pub mod walk;
 pub mod write;
+
+// The most bytes of a pyramid file.
+pub const MOST_BYTES: usize = 67108974;

@@ -7,7 +7,7 @@ use Prim.Native.Nat.{ℕ, _+_, _*_, _/_, _%_, _≤_, _<_}
 use native.Mathlib.Omega.{arith}
 use borrow.Author.Tests.{eq-eqb, ne-eqb}
 use lib.ListN.{length, getD}
-use Rattle.answers.proofs.Order.{lt-or-le}
+use Rattle.order.proofs.Order.{lt-or-le}
 use Rattle.samples.specs.Words.{tabulate}
 use Rattle.samples.specs.Halves.{evenOf, oddOf, joined}
 use Rattle.samples.proofs.Words.{length-tabulate, getD-tabulate, tabulate-same, tabulate-getD}

@@ -9,7 +9,7 @@ use native.Mathlib.Decide.{ℕ-discrete}
 use native.Mathlib.Omega.{arith}
 use lib.ListN.{length, getD, take, drop, set, length-append, length-set, List·getD-append}
 use lib.Seq.{ext-getD, getD-at, getD-set-same, getD-set-other, set-split, take-nil, drop-nil, take-add, take-all, take-append-add, drop-append-add}
-use Rattle.answers.proofs.Order.{lt-or-le}
+use Rattle.order.proofs.Order.{lt-or-le}
 use Rattle.samples.specs.Le.{leBytes, Bytes}
 use Rattle.samples.specs.Words.{tabulate, wordAt, putAt, wordsOf, bytesOf, Holds}
 use Rattle.samples.proofs.LeLaws.{leAt-skip, leAt-bytes, leAt-lt, length-leBytes, leBytes-at, length-stored, stored-is, stored-read, stored-before, stored-after}

@@ -7,7 +7,7 @@ use native.Mathlib.Nat.{pow-succ'}
 use native.Mathlib.Omega.{arith}
 use borrow.Author.Tests.{le-ltb, lt-ltb}
 use lib.Pow.{pow-pos}
-use Rattle.answers.proofs.Order.{lt-or-le}
+use Rattle.order.proofs.Order.{lt-or-le}
 use Rattle.sizes.specs.declared.Wavelet.{Wavelet}
 use Rattle.sizes.specs.declared.Wavelet.the-variants.{Cdf53, Cdf97}
 use Rattle.sizes.specs.Bands.{smallestOf, ups}
@@ -99,3 +99,23 @@ depth-power (suc k) =
     let p : 2 ≤ 2 ^ suc k = omega (arith, pow-succ' 2 k, pow-pos k) in
     let h : ups (2 ^ suc (suc k)) ≡ 2 ^ suc k = omega arith in
     one-more 3 (omega arith) (2 ^ suc (suc k)) (omega arith) ∙ ap (λ n. suc (depthFrom 3 n)) h ∙ ap suc (depth-power k)
+
+-- no number of samples has more levels than the power of two above it
+pub depth-at-most : (k n : ℕ) → n ≤ 2 ^ suc k → depthOf Cdf53 n ≤ k
+depth-at-most zero n h = omega (arith, too-short 3 (omega arith) n (omega arith))
+depth-at-most (suc k) n h =
+    let e : 2 ^ suc (suc k) ≡ 2 * 2 ^ suc k = pow-succ' 2 (suc k) in
+    ⊎-elim
+    (λ (g : n < 3). omega (arith, too-short 3 (omega arith) n g))
+    (λ (g : 3 ≤ n). omega (arith, one-more 3 (omega arith) n g, depth-at-most k (ups n) (omega arith)))
+    (lt-or-le n 3)
+
+-- levels within the depth: those that are left after i of them are within the depth of what is left
+pub depth-rest : (w : Wavelet) (i l n : ℕ) → i ≤ l → l ≤ depthOf w n → l - i ≤ depthOf w (places i n)
+unfolding places
+depth-rest w zero l n h d = omega arith
+depth-rest w (suc i) l n h d =
+    let e : suc (l - 1) ≤ depthOf w n = omega arith in
+    let s = step (smallestOf w) (two-below w) (l - 1) n e in
+    let r = depth-rest w i (l - 1) (ups n) (omega arith) (s .1) in
+    omega (arith, r)

@@ -8,10 +8,6 @@ use Rattle.sizes.specs.declared.Wavelet.the-variants.{Cdf53, Cdf97}
 abbrev pub mostSamples : ℕ
 mostSamples = 16777216
 
--- "at most 67,108,974"
-abbrev pub mostBytes : ℕ
-mostBytes = 67108974
-
 -- "approximations (ceil(n/2) of them)"
 abbrev pub ups : ℕ → ℕ
 ups n = (n + 1) / 2

@@ -2,8 +2,8 @@
 ghost use mathlib.Core.Path.{_≡_};
 ghost use mathlib.Core.List.{[], _∷_};
 ghost use Prim.Native.Nat.{_<_};
-ghost use Rattle.answers.specs.Checks.{firstOf, ragged};
-ghost use Rattle.sizes.specs.Calls.{forwardChecks, inverseChecks, sayForward, sayInverse};
+ghost use Rattle.answers.specs.Checks.{firstOf, ragged, twoAreas};
+ghost use Rattle.sizes.specs.Calls.{forwardBands, inverseBands, forwardChecks, inverseChecks, sayForward, sayInverse};
 use crate::MOST_SAMPLES;
 use crate::Wavelet;
 use crate::approx_length;
@@ -30,6 +30,47 @@ pub fn check_whole(k: usize, x: usize, y: usize, z: usize) -> Refusal
     Refusal::Done(0, 0)
 }
 
+// Two work areas against what is needed of each.
+pub fn two_areas(u: usize, v: usize, need: usize) -> Refusal
+    ensures { λ r. ⌜ r ≡ firstOf (twoAreas u v need) (Refusal.Done 0 0) ⌝ }
+{
+    if u < need {
+        return Refusal::NoRoom(u, need);
+    }
+    if v < need {
+        return Refusal::NoRoom(v, need);
+    }
+    Refusal::Done(0, 0)
+}
+
+// The lent bands of a forward level of n samples.
+pub fn forward_bands(n: usize, a: usize, d: usize) -> Refusal
+    ensures { λ r. ⌜ r ≡ firstOf (forwardBands n a d) (Refusal.Done 0 0) ⌝ }
+{
+    if a != approx_length(n) {
+        return Refusal::ApproxSizeNotMatches(a, n);
+    }
+    if d != details_length(n) {
+        return Refusal::ApproxSizeNotMatches(d, n);
+    }
+    Refusal::Done(0, 0)
+}
+
+// The bands of an inverse level to n samples.
+pub fn inverse_bands(w: Wavelet, n: usize, a: usize, d: usize) -> Refusal
+    ensures { λ r. ⌜ r ≡ firstOf (inverseBands w n a d) (Refusal.Done 0 0) ⌝ }
+{
+    let size = dwt_size(w, n);
+    let expected = size.approx;
+    if a != expected {
+        return Refusal::ApproxSizeNotMatches(expected, a);
+    }
+    if d != size.details {
+        return Refusal::ApproxSizeNotMatches(expected, a);
+    }
+    Refusal::Done(0, 0)
+}
+
 // Forward by samples: n of the input, a and d of the lent bands.
 fn forward_lengths(w: Wavelet, n: usize, a: usize, d: usize) -> Refusal
     ensures { λ r. ⌜ r ≡ firstOf (forwardChecks w n a d) (Refusal.Done 0 0) ⌝ }
@@ -41,13 +82,7 @@ fn forward_lengths(w: Wavelet, n: usize, a: usize, d: usize) -> Refusal
     if n < least {
         return Refusal::MinFilterSize(n, least);
     }
-    if a != approx_length(n) {
-        return Refusal::ApproxSizeNotMatches(a, n);
-    }
-    if d != details_length(n) {
-        return Refusal::ApproxSizeNotMatches(d, n);
-    }
-    Refusal::Done(0, 0)
+    forward_bands(n, a, d)
 }
 
 // Inverse by samples: a and d of the bands, n of the lent output.
@@ -67,15 +102,7 @@ fn inverse_lengths(w: Wavelet, a: usize, d: usize, n: usize) -> Refusal
     if n != sum {
         return Refusal::OutputSizeIsNotValid(n, sum);
     }
-    let size = dwt_size(w, n);
-    let expected = size.approx;
-    if a != expected {
-        return Refusal::ApproxSizeNotMatches(expected, a);
-    }
-    if d != size.details {
-        return Refusal::ApproxSizeNotMatches(expected, a);
-    }
-    Refusal::Done(0, 0)
+    inverse_bands(w, n, a, d)
 }
 
 // What a forward call says, by byte lengths.

@@ -10,10 +10,8 @@ use answers::err::Answer;
 use answers::err::Refusal;
 use answers::err::numbers;
 
-// The most samples of a recording, and the most bytes of a pyramid file.
+// The most samples of a recording.
 pub const MOST_SAMPLES: usize = 16777216;
-
-pub const MOST_BYTES: usize = 67108974;
 
 // The two wavelets: they differ in the smallest input and in the fewest details of an inverse.
 pub enum Wavelet {

@@ -17,7 +17,7 @@ use lib.Ieee.Digits.{size-reaches}
 use lib.Ieee.Fits.{round-is, nearest-le, down-pos, two}
 use lib.Ieee.Exact.{HasValue, odd-sign, units-val}
 use lib.Ieee.Nearest.{closest}
-use Rattle.answers.proofs.Order.{lt-or-le}
+use Rattle.order.proofs.Order.{lt-or-le}
 use Rattle.samples.specs.Words.{wordAt}
 use Rattle.samples.specs.Floats.{width, floatAt}
 use Rattle.samples.proofs.FloatLaws.{no-nan}

@@ -12,7 +12,7 @@ use lib.ListN.{length}
 use lib.Pow.{pow-mono}
 use Rattle.answers.specs.declared.err.Refusal.the-variants.{Done}
 use Rattle.answers.specs.Checks.{ragged}
-use Rattle.answers.proofs.Order.{lt-or-le}
+use Rattle.order.proofs.Order.{lt-or-le}
 use Rattle.answers.proofs.Chain.{same}
 use Rattle.answers.proofs.Passed.{Passing, pass-both, through}
 use Rattle.sizes.specs.declared.Wavelet.{Wavelet}

@@ -9,7 +9,7 @@ use native.Mathlib.Nat.{mul-add, mul-zero}
 use native.Mathlib.Omega.{arith}
 use lib.ListN.{length, getD, take, drop, length-take, length-drop, take-append-drop, List·getD-eq-default}
 use lib.Seq.{length-take-le, getD-take, getD-drop}
-use Rattle.answers.proofs.Order.{lt-or-le}
+use Rattle.order.proofs.Order.{lt-or-le}
 use Rattle.sizes.specs.declared.Wavelet.{Wavelet}
 use Rattle.sizes.specs.declared.Wavelet.the-variants.{Cdf53}
 use Rattle.sizes.specs.Bands.{ups, downs, smallestOf}

@@ -6,7 +6,7 @@ use Prim.Native.Nat.{ℕ, _+_, _*_, _/_, _<_}
 use native.Mathlib.Omega.{arith}
 use mathlib.Core.Logic.{⊎-elim}
 use lib.ListN.{length}
-use Rattle.answers.proofs.Order.{lt-or-le}
+use Rattle.order.proofs.Order.{lt-or-le}
 use Rattle.samples.proofs.Fronts.{front-at}
 use Rattle.samples.proofs.Words.{holds-on}
 use Rattle.cdf53i.specs.Bands.{Bands, evenWord}

@@ -1,4 +1,4 @@
--- Of two numbers, one is below the other, or it is not. Assumes nothing.
+-- Of two numbers, one is below the other, or it is not.
 use mathlib.Core.Logic.{_⊎_, inl, inr}
 use Prim.Native.Nat.{ℕ, _≤_, _<_}
 use native.Mathlib.Decide.{decLt}

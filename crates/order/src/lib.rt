@@ -1,0 +1,1 @@
+// One law about numbers that every crate's proofs use, and no code.
