@@ -1,20 +1,15 @@
 -- `multi_idwt`: what its checks leave, the two ends of the call, and that two results which the statement allows are equal. Assumes nothing, and looks into no filter.
-use mathlib.Core.Bool.{Bool, true, false, cond, not}
+use mathlib.Core.Bool.{true}
 use mathlib.Core.List.{List, [], _∷_, _++_}
 use mathlib.Core.Path.{_≡_, refl, sym, ap, _∙_}
-use Prim.Native.Nat.{ℕ, _+_, _*_, _/_, _≤_, _<_}
+use Prim.Native.Nat.{ℕ, _+_, _*_, _/_, _<_}
 use native.Mathlib.Nat.{mul-add, mul-le-mul-left}
 use native.Mathlib.Omega.{arith}
 use borrow.Author.Tests.{eqb-false}
-use lib.Dec.{eqb}
-use lib.ListN.{length, drop}
-use Rattle.answers.specs.declared.err.Answer.{Answer}
-use Rattle.answers.specs.declared.err.Refusal.{Refusal}
-use Rattle.answers.specs.declared.err.Refusal.the-variants.{Done, BadCount}
-use Rattle.answers.specs.Answers.{answerOf, done}
-use Rattle.answers.specs.Checks.{Check, Spared}
-use Rattle.answers.proofs.Passed.{Refusing, Passing, passing, both-refuse, both-pass, whole, roomy, right}
-use Rattle.answers.proofs.Endings.{left-done, left-refused, spared, untouched}
+use lib.ListN.{length}
+use Rattle.answers.specs.declared.err.Refusal.the-variants.{Done}
+use Rattle.answers.specs.Answers.{done}
+use Rattle.answers.proofs.Passed.{Passing, passing, both-refuse, both-pass, whole, roomy, right}
 use Rattle.sizes.specs.declared.Wavelet.{Wavelet}
 use Rattle.sizes.specs.Bands.{mostSamples, expectedApprox, expectedDetails}
 use Rattle.sizes.proofs.OneLevel.{expected}
@@ -22,8 +17,8 @@ use Rattle.samples.specs.Words.{wordsOf}
 use Rattle.samples.proofs.Words.{length-words}
 use Rattle.dwt.specs.declared.filter.Filter.{Filter}
 use Rattle.dwt.specs.Filters.{widthOf, waveletOf}
-use Rattle.dwt.specs.Pyramids.{samplesOf}
-use Rattle.dwt.specs.Backward.{total, bandChecks, roomChecks, wholeChecks, backChecks, sayBack, MultiBack, Fits, Rising}
+use Rattle.dwt.specs.Calls.{roomChecks}
+use Rattle.dwt.specs.Backward.{total, bandChecks, wholeChecks, backChecks, sayBack, Fits, Rising}
 use Rattle.dwt.proofs.Rises.{bands-refuse}
 
 -- bands that the checks let by are those of levels
@@ -70,34 +65,3 @@ back-ready f a d ls o u v h =
       ea,
       eo ∙ ap (λ n. k * n) en ∙ mul-add k (a / k) (d / k) ∙ omega (arith, ea, ed),
     )
-
-module _ (f : Filter) (a d ls o u v : List ℕ) where
-  abbrev said : Refusal
-  said = sayBack f (length a) (length d) ls (length o) (length u) (length v)
-
-  -- s is what the checks said, r its numbers, and n the length of the output
-  pub back-done : (s : Refusal) (r : Answer) (n : ℕ) (o′ u′ v′ : List ℕ) → s ≡ said → r ≡ answerOf s → done s ≡ true → n ≡ length a + length d
-      → o′ ≡ samplesOf f a d (wordsOf 4 ls) → drop n u′ ≡ drop n u → drop n v′ ≡ drop n v → MultiBack f a d ls o u v r o′ u′ v′
-  back-done s r n o′ u′ v′ es er z en p hu hv =
-      let t : done said ≡ true = rw es at z in
-      record {
-        answer = er ∙ ap answerOf es;
-        output = p ∙ sym (left-done said (samplesOf f a d (wordsOf 4 ls)) o t);
-        first = spared said (length a + length d) u u′ t (rw en at hu);
-        second = spared said (length a + length d) v v′ t (rw en at hv);
-      }
-
-  pub back-refused : (s : Refusal) (r : Answer) → s ≡ said → r ≡ answerOf s → done s ≡ false → MultiBack f a d ls o u v r o u v
-  back-refused s r es er z =
-      let t : done said ≡ false = rw es at z in
-      record {
-        answer = er ∙ ap answerOf es;
-        output = sym (left-refused said (samplesOf f a d (wordsOf 4 ls)) o t);
-        first = untouched said (length a + length d) u;
-        second = untouched said (length a + length d) v;
-      }
-
-  pub back-decides : (r s : Answer) (o₁ u₁ v₁ o₂ u₂ v₂ : List ℕ) → MultiBack f a d ls o u v r o₁ u₁ v₁ → MultiBack f a d ls o u v s o₂ u₂ v₂
-      → let k = cond (done said) (length a + length d) 0 in (r ≡ s) × (o₁ ≡ o₂) × (drop k u₁ ≡ drop k u₂) × (drop k v₁ ≡ drop k v₂)
-  unfolding Spared
-  back-decides r s o₁ u₁ v₁ o₂ u₂ v₂ p q = (p .answer ∙ sym (q .answer), p .output ∙ sym (q .output), p .first ∙ sym (q .first), p .second ∙ sym (q .second))

@@ -1,6 +1,6 @@
 -- `dwt`: what its checks leave, the two ends of the call, and that two results which the statement allows are equal. Assumes nothing, and looks into no filter.
 use mathlib.Core.Bool.{true, false, cond}
-use mathlib.Core.List.{List, [], _∷_}
+use mathlib.Core.List.{List, _∷_}
 use mathlib.Core.Path.{_≡_, refl, sym, ap, _∙_}
 use Prim.Native.Nat.{ℕ, suc, _-_, _*_, _/_}
 use native.Mathlib.Nat.{mul-le-mul-left}

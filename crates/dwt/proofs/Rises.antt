@@ -1,8 +1,8 @@
 -- The lengths of `multi_idwt`, one at a time from the deepest: their sum, their checks, and one level back. Assumes nothing, and looks into no filter.
-use mathlib.Core.Bool.{Bool, true, false}
+use mathlib.Core.Bool.{true, false}
 use mathlib.Core.Path.{_≡_, refl, sym, ap, _∙_}
-use mathlib.Core.List.{List, [], _∷_, _++_}
-use Prim.Native.Nat.{ℕ, zero, suc, _+_, _-_, _*_, _≤_, _<_}
+use mathlib.Core.List.{List, [], _∷_}
+use Prim.Native.Nat.{ℕ, suc, _+_, _-_, _*_, _≤_, _<_}
 use native.Mathlib.Nat.{mul-add}
 use native.Mathlib.Omega.{arith}
 use lib.ListN.{length, take, drop, getD, drop-of-length-le}
@@ -17,7 +17,8 @@ use Rattle.sizes.specs.Calls.{Level}
 use Rattle.dwt.specs.declared.filter.Filter.{Filter}
 use Rattle.dwt.specs.Filters.{widthOf, waveletOf, backOf}
 use Rattle.dwt.specs.Pyramids.{samplesOf}
-use Rattle.dwt.specs.Backward.{total, levelChecks, bandChecks, Fits, Rising}
+use Rattle.sizes.specs.Calls.{inverseBands}
+use Rattle.dwt.specs.Backward.{total, bandChecks, Fits, Rising}
 
 -- length i and those after it
 pub at-length : (ms : List ℕ) (i m : ℕ) → i < length ms → m ≡ getD ms i 0 → drop i ms ≡ m ∷ drop (i + 1) ms
@@ -34,18 +35,18 @@ unfolding total
 total-end ms i h = ap total (drop-of-length-le ms h)
 
 -- r is what the checks of length i say: they let by, or they refuse
-pub bands-more : (w : Wavelet) (n : ℕ) (ms : List ℕ) (i m : ℕ) {r : Refusal} → i < length ms → m ≡ getD ms i 0 → r ≡ firstOf (levelChecks w n m) (Done 0 0) → done r ≡ true
+pub bands-more : (w : Wavelet) (n : ℕ) (ms : List ℕ) (i m : ℕ) {r : Refusal} → i < length ms → m ≡ getD ms i 0 → r ≡ firstOf (inverseBands w (n + m) n m) (Done 0 0) → done r ≡ true
     → firstOf (bandChecks w n (drop i ms)) (Done 0 0) ≡ firstOf (bandChecks w (n + m) (drop (i + 1) ms)) (Done 0 0)
 unfolding bandChecks
 bands-more w n ms i m h e q t =
     ap (λ (l : List ℕ). firstOf (bandChecks w n l) (Done 0 0)) (at-length ms i m h e)
-    ∙ then-rest (levelChecks w n m) (bandChecks w (n + m) (drop (i + 1) ms)) (Done 0 0) (refl, (refl, tt)) (sym (ap done q) ∙ t)
+    ∙ then-rest (inverseBands w (n + m) n m) (bandChecks w (n + m) (drop (i + 1) ms)) (Done 0 0) (refl, (refl, tt)) (sym (ap done q) ∙ t)
 
-pub bands-stop : (w : Wavelet) (n : ℕ) (ms : List ℕ) (i m : ℕ) {r : Refusal} → i < length ms → m ≡ getD ms i 0 → r ≡ firstOf (levelChecks w n m) (Done 0 0) → done r ≡ false
+pub bands-stop : (w : Wavelet) (n : ℕ) (ms : List ℕ) (i m : ℕ) {r : Refusal} → i < length ms → m ≡ getD ms i 0 → r ≡ firstOf (inverseBands w (n + m) n m) (Done 0 0) → done r ≡ false
     → r ≡ firstOf (bandChecks w n (drop i ms)) (Done 0 0)
 unfolding bandChecks
 bands-stop w n ms i m h e q t =
-    say-stop (levelChecks w n m) (bandChecks w (n + m) (drop (i + 1) ms)) (Done 0 0) q t
+    say-stop (inverseBands w (n + m) n m) (bandChecks w (n + m) (drop (i + 1) ms)) (Done 0 0) q t
     ∙ sym (ap (λ (l : List ℕ). firstOf (bandChecks w n l) (Done 0 0)) (at-length ms i m h e))
 
 pub bands-end : (w : Wavelet) (n : ℕ) (ms : List ℕ) (i : ℕ) → length ms ≤ i → firstOf (bandChecks w n (drop i ms)) (Done 0 0) ≡ Done 0 0

@@ -8,15 +8,15 @@ use lib.Dec.{ltb, eqb}
 use lib.ListN.{length}
 use Rattle.answers.specs.declared.err.Answer.{Answer}
 use Rattle.answers.specs.declared.err.Refusal.{Refusal}
-use Rattle.answers.specs.declared.err.Refusal.the-variants.{Done, OutputSizeIsNotValid, ZeroedBaseSize, TooLong, BadCount}
-use Rattle.answers.specs.Answers.{answerOf}
-use Rattle.answers.specs.Checks.{Check, firstOf, ragged, tight, left, Spared}
+use Rattle.answers.specs.declared.err.Refusal.the-variants.{Done, ZeroedBaseSize, TooLong, BadCount}
+use Rattle.answers.specs.Checks.{Check, firstOf, ragged, Call}
 use Rattle.sizes.specs.declared.Wavelet.{Wavelet}
 use Rattle.sizes.specs.Bands.{mostSamples, ups, downs, smallestOf}
 use Rattle.sizes.specs.Calls.{inverseBands}
 use Rattle.samples.specs.Words.{wordsOf}
 use Rattle.dwt.specs.declared.filter.Filter.{Filter}
 use Rattle.dwt.specs.Filters.{widthOf, waveletOf}
+use Rattle.dwt.specs.Calls.{roomChecks}
 use Rattle.dwt.specs.Pyramids.{samplesOf, lengthsOf}
 
 -- "more than 23 lengths"
@@ -39,18 +39,10 @@ sizeChecks a d c n =
     ∷ (eqb a 0, ZeroedBaseSize)
     ∷ []
 
--- "2 .. as in inverse": a level of a approximations and m details
-abbrev pub levelChecks : Wavelet → ℕ → ℕ → List Check
-levelChecks w a m = inverseBands w (a + m) a m
-
--- "level by level from the deepest": what a level restores is the next one's approximations
+-- "2 level by level from the deepest, as in inverse": what a level restores is the next one's approximations
 unfoldable pub bandChecks : Wavelet → ℕ → List ℕ → List Check
 bandChecks w a [] = []
-bandChecks w a (m ∷ ms) = levelChecks w a m ++ bandChecks w (a + m) ms
-
--- "3, 7, 7": n of the output against all, which is the restored length, u and v of the work areas
-abbrev pub roomChecks : ℕ → ℕ → ℕ → ℕ → List Check
-roomChecks all n u v = (not (eqb n all), OutputSizeIsNotValid n all) ∷ tight u all ∷ tight v all ∷ []
+bandChecks w a (m ∷ ms) = inverseBands w (a + m) a m ++ bandChecks w (a + m) ms
 
 -- all of them; ms are the lengths
 abbrev pub backChecks : Filter → ℕ → ℕ → List ℕ → ℕ → ℕ → ℕ → List Check
@@ -68,11 +60,8 @@ sayBack f a d ls n u v =
     (Done 0 0)
 
 -- the answer r, and the output and the work areas that `multi_idwt` leaves
-pub record MultiBack (f : Filter) (a d ls o u v : List ℕ) (r : Answer) (o′ u′ v′ : List ℕ) : Type 0 where
-  pub answer : r ≡ answerOf (sayBack f (length a) (length d) ls (length o) (length u) (length v))
-  pub output : o′ ≡ left (sayBack f (length a) (length d) ls (length o) (length u) (length v)) (samplesOf f a d (wordsOf 4 ls)) o
-  pub first : Spared (sayBack f (length a) (length d) ls (length o) (length u) (length v)) (length a + length d) u u′
-  pub second : Spared (sayBack f (length a) (length d) ls (length o) (length u) (length v)) (length a + length d) v v′
+abbrev pub MultiBack : Filter → List ℕ → List ℕ → List ℕ → List ℕ → List ℕ → List ℕ → Answer → List ℕ → List ℕ → List ℕ → Type 0
+MultiBack f a d ls o u v = Call (sayBack f (length a) (length d) ls (length o) (length u) (length v)) (length a + length d) (samplesOf f a d (wordsOf 4 ls)) o u v
 
 -- a approximations and details of the lengths ms are the bands of levels, from the deepest
 unfoldable pub Fits : Wavelet → ℕ → List ℕ → Type 0

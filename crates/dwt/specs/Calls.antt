@@ -10,7 +10,7 @@ use Rattle.answers.specs.declared.err.Answer.{Answer}
 use Rattle.answers.specs.declared.err.Refusal.{Refusal}
 use Rattle.answers.specs.declared.err.Refusal.the-variants.{Done, MinFilterSize, OutputSizeIsNotValid, BufferWasTooSmallForLevel, TooLong}
 use Rattle.answers.specs.Answers.{answerOf}
-use Rattle.answers.specs.Checks.{Check, firstOf, ragged, tight, left, Spared}
+use Rattle.answers.specs.Checks.{Check, firstOf, ragged, twoAreas, left, Spared, Call}
 use Rattle.sizes.specs.Bands.{mostSamples, ups, downs}
 use Rattle.sizes.specs.Calls.{Level, Forward, Inverse, forwardBands}
 use Rattle.sizes.specs.Levels.{places, depthOf, levelsOf}
@@ -57,9 +57,13 @@ abbrev pub levelsChecks : Filter → ℕ → ℕ → List Check
 levelsChecks f l n =
     (ltb mostSamples n, TooLong) ∷ (ltb (depthOf (waveletOf f) n) (levelsOf l), cond (leb l 1) (short f n) BufferWasTooSmallForLevel) ∷ []
 
--- "`multi_dwt`: 6; ..; 3; 7, 7", by samples: n of the signal, m of the output, u and v of the work areas
+-- "3, 7, 7", also of `multi_idwt`: n samples are to be put out; m of the output, u and v of the work areas
+abbrev pub roomChecks : ℕ → ℕ → ℕ → ℕ → List Check
+roomChecks n m u v = (not (eqb m n), OutputSizeIsNotValid m n) ∷ twoAreas u v n
+
+-- "`multi_dwt`: 6; ..; 3; 7, 7", by samples: n of the signal
 abbrev pub multiChecks : Filter → ℕ → ℕ → ℕ → ℕ → ℕ → List Check
-multiChecks f l n m u v = levelsChecks f l n ++ ((not (eqb m n), OutputSizeIsNotValid m n) ∷ tight u n ∷ tight v n ∷ [])
+multiChecks f l n m u v = levelsChecks f l n ++ roomChecks n m u v
 
 -- the same by byte lengths
 unfoldable pub sayMulti : Filter → ℕ → ℕ → ℕ → ℕ → ℕ → Refusal
@@ -69,11 +73,8 @@ sayMulti f l n m u v =
     (Done 0 0)
 
 -- the answer r, and the output and the work areas that `multi_dwt` leaves
-pub record Multi (f : Filter) (l : ℕ) (x o u v : List ℕ) (r : Answer) (o′ u′ v′ : List ℕ) : Type 0 where
-  pub answer : r ≡ answerOf (sayMulti f l (length x) (length o) (length u) (length v))
-  pub output : o′ ≡ left (sayMulti f l (length x) (length o) (length u) (length v)) (pyramid f (levelsOf l) x) o
-  pub first : Spared (sayMulti f l (length x) (length o) (length u) (length v)) (length x) u u′
-  pub second : Spared (sayMulti f l (length x) (length o) (length u) (length v)) (length x) v v′
+abbrev pub Multi : Filter → ℕ → List ℕ → List ℕ → List ℕ → List ℕ → Answer → List ℕ → List ℕ → List ℕ → Type 0
+Multi f l x o u v = Call (sayMulti f l (length x) (length o) (length u) (length v)) (length x) (pyramid f (levelsOf l) x) o u v
 
 -- "`dwt`: 6, 4 (n too short, or depth below the levels), 2, 2 as forward with the last level's input length, 7, 7"
 abbrev pub dwtChecks : Filter → ℕ → ℕ → ℕ → ℕ → ℕ → ℕ → List Check
@@ -81,7 +82,7 @@ dwtChecks f l n a d u v =
     let m = places (levelsOf l - 1) n in
     (ltb mostSamples n, TooLong)
     ∷ (ltb (depthOf (waveletOf f) n) (levelsOf l), BufferWasTooSmallForLevel)
-    ∷ (forwardBands m a d ++ (tight u n ∷ tight v n ∷ []))
+    ∷ (forwardBands m a d ++ twoAreas u v n)
 
 unfoldable pub sayDwt : Filter → ℕ → ℕ → ℕ → ℕ → ℕ → ℕ → Refusal
 sayDwt f l n a d u v =

@@ -8,12 +8,13 @@ ghost use Rattle.sizes.specs.Calls.{Level};
 ghost use Rattle.samples.specs.Words.{wordsOf};
 ghost use Rattle.dwt.specs.Filters.{widthOf, waveletOf, backOf};
 ghost use Rattle.dwt.specs.Pyramids.{samplesOf};
-ghost use Rattle.dwt.specs.Backward.{mostLevels, total, sizeChecks, levelChecks, bandChecks, roomChecks, backChecks, sayBack, MultiBack, Rising};
+ghost use Rattle.dwt.specs.Backward.{mostLevels, total, sizeChecks, bandChecks, backChecks, sayBack, MultiBack, Rising};
 use crate::filter::Filter;
 use crate::filter::bytes_of;
 use crate::filter::execute_inverse;
 use crate::filter::wavelet;
 use crate::filter::width;
+use crate::levels::check_room;
 use answers::err::Answer;
 use answers::err::Refusal;
 use answers::err::is_done;
@@ -22,7 +23,7 @@ use samples::le::read_u32;
 use sizes::MOST_SAMPLES;
 use sizes::Wavelet;
 use sizes::checks::check_whole;
-use sizes::dwt_size;
+use sizes::checks::inverse_bands;
 
 // The most levels: the depth of the most samples.
 pub const MOST_LEVELS: usize = 23;
@@ -75,22 +76,6 @@ fn back_sizes(a: usize, d: usize, count: usize, n: usize) -> Refusal
     Refusal::Done(0, 0)
 }
 
-// One level of a approximations and m details, as the inverse expects them.
-fn level_lengths(w: Wavelet, a: usize, m: usize) -> Refusal
-    requires { ⌜ a + m < 2 ^ 63 ⌝ }
-    ensures { λ r. ⌜ r ≡ firstOf (levelChecks w a m) (Refusal.Done 0 0) ⌝ }
-{
-    let size = dwt_size(w, a + m);
-    let expected = size.approx;
-    if a != expected {
-        return Refusal::ApproxSizeNotMatches(expected, a);
-    }
-    if m != size.details {
-        return Refusal::ApproxSizeNotMatches(expected, a);
-    }
-    Refusal::Done(0, 0)
-}
-
 // All levels, from the deepest: what one restores is the next one's approximations.
 fn band_lengths(w: Wavelet, a: usize, lengths: &[u8]) -> Refusal
     requires { ⌜ a + total (wordsOf 4 (now lengths)) < 2 ^ 63 ⌝ }
@@ -101,28 +86,13 @@ fn band_lengths(w: Wavelet, a: usize, lengths: &[u8]) -> Refusal
     let mut i = 0;
     while i < count {
         let m = length_at(lengths, i);
-        let said = level_lengths(w, n, m);
+        let all = n + m;
+        let said = inverse_bands(w, all, n, m);
         if !is_done(said) {
             return said;
         }
-        n += m;
+        n = all;
         i += 1;
-    }
-    Refusal::Done(0, 0)
-}
-
-// The output and the work areas against the restored length.
-fn back_room(all: usize, n: usize, u: usize, v: usize) -> Refusal
-    ensures { λ r. ⌜ r ≡ firstOf (roomChecks all n u v) (Refusal.Done 0 0) ⌝ }
-{
-    if n != all {
-        return Refusal::OutputSizeIsNotValid(n, all);
-    }
-    if u < all {
-        return Refusal::NoRoom(u, all);
-    }
-    if v < all {
-        return Refusal::NoRoom(v, all);
     }
     Refusal::Done(0, 0)
 }
@@ -151,7 +121,7 @@ fn back_lengths(
     if !is_done(fit) {
         return fit;
     }
-    back_room(a + d, n, u, v)
+    check_room(a + d, n, u, v)
 }
 
 // Byte lengths of what is read: samples of k bytes, and lengths of 4.

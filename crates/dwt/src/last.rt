@@ -20,11 +20,11 @@ use answers::err::Refusal;
 use answers::err::is_done;
 use answers::err::numbers;
 use sizes::MOST_SAMPLES;
-use sizes::approx_length;
 use sizes::at_least_one;
 use sizes::checks::check_whole;
+use sizes::checks::forward_bands;
+use sizes::checks::two_areas;
 use sizes::depth;
-use sizes::details_length;
 use sizes::places_of;
 
 // The approximations of the n samples in front of `from`, to the front of `to`.
@@ -110,19 +110,11 @@ fn dwt_lengths(
         return Refusal::BufferWasTooSmallForLevel;
     }
     let m = places_of(l - 1, n);
-    if a != approx_length(m) {
-        return Refusal::ApproxSizeNotMatches(a, m);
+    let said = forward_bands(m, a, d);
+    if !is_done(said) {
+        return said;
     }
-    if d != details_length(m) {
-        return Refusal::ApproxSizeNotMatches(d, m);
-    }
-    if u < n {
-        return Refusal::NoRoom(u, n);
-    }
-    if v < n {
-        return Refusal::NoRoom(v, n);
-    }
-    Refusal::Done(0, 0)
+    two_areas(u, v, n)
 }
 
 // What `dwt` says, by byte lengths.

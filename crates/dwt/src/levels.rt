@@ -7,7 +7,7 @@ ghost use Rattle.answers.specs.Checks.{firstOf};
 ghost use Rattle.sizes.specs.Bands.{mostSamples, ups, downs, smallestOf};
 ghost use Rattle.dwt.specs.Filters.{widthOf, waveletOf, lowOf, highOf};
 ghost use Rattle.dwt.specs.Pyramids.{pyramid};
-ghost use Rattle.dwt.specs.Calls.{short, multiChecks, sayMulti, Multi, Room, Ready, Cut};
+ghost use Rattle.dwt.specs.Calls.{short, levelsChecks, roomChecks, multiChecks, sayMulti, Multi, Room, Ready, Cut};
 use crate::filter::Filter;
 use crate::filter::execute_forward;
 use crate::filter::wavelet;
@@ -20,6 +20,7 @@ use sizes::MOST_SAMPLES;
 use sizes::approx_length;
 use sizes::at_least_one;
 use sizes::checks::check_whole;
+use sizes::checks::two_areas;
 use sizes::depth;
 
 // The byte at which the details of n samples start, where the approximations stand before them.
@@ -88,7 +89,7 @@ fn run(
 }
 
 // An input too short for one level: the integer filters say 1, the float filters 4, as in the Rust.
-pub fn short_of(f: Filter, n: usize) -> Refusal
+fn short_of(f: Filter, n: usize) -> Refusal
     ensures { λ r. ⌜ r ≡ short f n ⌝ }
 {
     match f {
@@ -102,9 +103,9 @@ pub fn short_of(f: Filter, n: usize) -> Refusal
     }
 }
 
-// By samples: n of the signal, m of the output, u and v of the work areas.
-fn multi_lengths(f: Filter, levels: usize, n: usize, m: usize, u: usize, v: usize) -> Refusal
-    ensures { λ r. ⌜ r ≡ firstOf (multiChecks f levels n m u v) (Refusal.Done 0 0) ⌝ }
+// The levels asked for of n samples.
+pub fn check_levels(f: Filter, levels: usize, n: usize) -> Refusal
+    ensures { λ r. ⌜ r ≡ firstOf (levelsChecks f levels n) (Refusal.Done 0 0) ⌝ }
 {
     if MOST_SAMPLES < n {
         return Refusal::TooLong;
@@ -115,16 +116,28 @@ fn multi_lengths(f: Filter, levels: usize, n: usize, m: usize, u: usize, v: usiz
         }
         return Refusal::BufferWasTooSmallForLevel;
     }
+    Refusal::Done(0, 0)
+}
+
+// Room for n samples: m of the output, u and v of the work areas.
+pub fn check_room(n: usize, m: usize, u: usize, v: usize) -> Refusal
+    ensures { λ r. ⌜ r ≡ firstOf (roomChecks n m u v) (Refusal.Done 0 0) ⌝ }
+{
     if m != n {
         return Refusal::OutputSizeIsNotValid(m, n);
     }
-    if u < n {
-        return Refusal::NoRoom(u, n);
+    two_areas(u, v, n)
+}
+
+// By samples: n of the signal, m of the output, u and v of the work areas.
+fn multi_lengths(f: Filter, levels: usize, n: usize, m: usize, u: usize, v: usize) -> Refusal
+    ensures { λ r. ⌜ r ≡ firstOf (multiChecks f levels n m u v) (Refusal.Done 0 0) ⌝ }
+{
+    let said = check_levels(f, levels, n);
+    if is_done(said) {
+        return check_room(n, m, u, v);
     }
-    if v < n {
-        return Refusal::NoRoom(v, n);
-    }
-    Refusal::Done(0, 0)
+    said
 }
 
 // What `multi_dwt` says, by byte lengths.

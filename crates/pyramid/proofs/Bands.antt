@@ -1,7 +1,7 @@
 -- Looking a section up in a file that was cut anywhere: a section that is whole is found, and its bytes are its band: section 1 the deepest approximations, the
 -- others the details of their level. One that is not whole is 10. Each of the integer filters.
 -- Assumes nothing.
-use mathlib.Core.Bool.{Bool, cond, _||_}
+use mathlib.Core.Bool.{Bool, cond}
 use mathlib.Core.List.{List, [], _++_, append-assoc, append-nil}
 use mathlib.Core.Logic.{⊎-elim}
 use mathlib.Core.Path.{_≡_, sym, ap, ap₂, subst, _∙_}

@@ -2,20 +2,18 @@
 -- Assumes nothing.
 use mathlib.Core.Bool.{true, not}
 use mathlib.Core.List.{List, [], _++_, append-nil}
-use mathlib.Core.Logic.{⊎-elim}
 use mathlib.Core.Path.{_≡_, refl, sym, ap, _∙_}
-use Prim.Native.Nat.{ℕ, zero, suc, _+_, _-_, _*_, _^_, _≤_, _<_}
-use native.Mathlib.Nat.{pow-succ', mul-le-mul-right}
+use Prim.Native.Nat.{ℕ, _+_, _-_, _*_, _^_, _≤_, _<_}
+use native.Mathlib.Nat.{mul-le-mul-right}
 use native.Mathlib.Omega.{arith}
 use borrow.Author.Tests.{le-ltb, ne-eqb}
 use lib.ListN.{length, take}
 use lib.Seq.{length-take-le, take-append-add}
 use Rattle.answers.specs.declared.err.Refusal.the-variants.{MinFilterSize}
 use Rattle.answers.proofs.Chain.{same}
-use Rattle.order.proofs.Order.{lt-or-le}
 use Rattle.answers.proofs.Passed.{Passing}
 use Rattle.sizes.specs.declared.Wavelet.the-variants.{Cdf53}
-use Rattle.sizes.specs.Bands.{mostSamples, ups}
+use Rattle.sizes.specs.Bands.{mostSamples}
 use Rattle.sizes.specs.Levels.{depthOf}
 use Rattle.sizes.proofs.Depths.{depth-at-most}
 use Rattle.samples.specs.Le.{Bytes, leAt, leBytes}

@@ -77,7 +77,7 @@ module _ (f : Filter) (l p : ℕ) (x : List ℕ) (i : Integers f) (bx : Bytes x)
       let size = fileSize k (levelsOf l) n in
       let d : done s ≡ true = is-done s a (w .answer) z in
       let r = recorded f l p x (length b) (length u) (length v) i bx hp d in
-      ap (take size) (w .file ∙ left-done s (file ++ drop size b) b d) ∙ take-at file (drop size b) size (file-length f (levelsOf l) p n x (r .size))
+      ap (take size) (w .output ∙ left-done s (file ++ drop size b) b d) ∙ take-at file (drop size b) size (file-length f (levelsOf l) p n x (r .size))
 
   -- and its first c bytes are the file's
   pub front-in : (b u v : List ℕ) (a : Answer) (b′ u′ v′ : List ℕ) → Write f l p x b u v a b′ u′ v′ → a .number ≡ 0

@@ -1,7 +1,6 @@
 pub mod Ways
 pub mod Parts
 pub mod Opening
-pub mod Opened
 pub mod Writing
 pub mod Sized
 pub mod CutWalk

@@ -1,24 +1,22 @@
 -- Looking a section up: what its checks leave, and that the part lies in the file. Assumes nothing.
 use mathlib.Core.Bool.{Bool, true, false, cond}
-use mathlib.Core.List.{List, [], _∷_, _++_}
+use mathlib.Core.List.{List, [], _++_}
 use mathlib.Core.Path.{_≡_, refl, sym, ap, _∙_}
-use Prim.Native.Nat.{ℕ, _+_, _-_, _*_, _≤_, _<_}
+use Prim.Native.Nat.{ℕ, _+_, _-_, _≤_}
 use native.Mathlib.Nat.{add-comm, mul-le-mul-left}
 use native.Mathlib.Omega.{arith}
 use lib.Dec.{eqb}
 use lib.ListN.{length, take, drop}
 use denote.Ref.{RefT}
-use Rattle.answers.specs.declared.err.Refusal.{Refusal}
 use Rattle.answers.specs.declared.err.Refusal.the-variants.{Done}
 use Rattle.answers.specs.Answers.{done}
-use Rattle.answers.specs.Checks.{firstOf}
 use Rattle.answers.proofs.Passed.{Refusing, Passing, passing, through, both-refuse, both-pass}
 use Rattle.sizes.specs.Bands.{downs}
 use Rattle.sizes.specs.Levels.{places}
 use Rattle.pyramid.specs.declared.walk.Way.{Way}
 use Rattle.pyramid.specs.declared.walk.Way.the-variants.{Went, Short, Wrong}
-use Rattle.pyramid.specs.Files.{headSize, bodySize}
-use Rattle.pyramid.specs.Walks.{walkOf, lastCount}
+use Rattle.pyramid.specs.Files.{headSize}
+use Rattle.pyramid.specs.Walks.{lastCount}
 use Rattle.pyramid.specs.Opens.{headIn, headChecks, wayTo, sectionChecks, numberChecks, lengthOf, startOf, endBy, saySection, sectionIn, sectionAt}
 use Rattle.pyramid.proofs.Ways.{walk-size}
 use Rattle.pyramid.proofs.Opening.{head-refuses, head-passes}

@@ -1,14 +1,14 @@
 -- Where a walk that went on stands. Assumes nothing.
 use mathlib.Core.Bool.{Bool, true, false, cond, not}
-use mathlib.Core.List.{List, []}
+use mathlib.Core.List.{List}
 use mathlib.Core.Logic.{_⊎_, inl, inr, ⊎-elim}
-use mathlib.Core.Path.{_≡_, refl, sym, ap, subst, _∙_}
-use Prim.Native.Nat.{ℕ, zero, suc, _+_, _-_, _*_, _/_, _≤_, _<_}
+use mathlib.Core.Path.{_≡_, refl, sym, ap, _∙_}
+use Prim.Native.Nat.{ℕ, zero, suc, _+_, _-_, _*_, _≤_, _<_}
 use native.Mathlib.Nat.{mul-le-mul-right}
 use native.Mathlib.Omega.{arith}
-use borrow.Author.Tests.{ltb-false, eq-eqb, ne-eqb}
-use lib.Dec.{ltb, eqb, eqb·suc-zero}
-use lib.ListN.{length, take, drop}
+use borrow.Author.Tests.{ltb-false}
+use lib.Dec.{ltb, eqb}
+use lib.ListN.{length}
 use Rattle.samples.specs.Le.{leAt}
 use Rattle.sizes.specs.Bands.{ups, downs}
 use Rattle.sizes.specs.Levels.{places}
@@ -16,7 +16,7 @@ use Rattle.dwt.proofs.Cuts.{split-width}
 use Rattle.pyramid.specs.declared.walk.Way.{Way}
 use Rattle.pyramid.specs.declared.walk.Way.the-variants.{Went, Short, Wrong}
 use Rattle.pyramid.specs.Files.{bodySize}
-use Rattle.pyramid.specs.Walks.{oneOf, goOn, walkOf, lastCount}
+use Rattle.pyramid.specs.Walks.{oneOf, goOn, walkOf}
 
 -- a byte times a u32 is small
 pub small : (k n : ℕ) → k < 256 → n < 4294967296 → k * n < 9223372036854775808

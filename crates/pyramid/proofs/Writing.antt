@@ -1,7 +1,7 @@
 -- Writing a file: numbers stored one after the other, sections, sizes, what a done call has passed, its two ends, and that two results which its statement allows are
 -- equal, the fronts of the work areas apart.
 -- Assumes nothing, and looks into no filter but for its width.
-use mathlib.Core.Bool.{true, false, cond}
+use mathlib.Core.Bool.{true}
 use mathlib.Core.Path.{_≡_, refl, sym, ap, _∙_}
 use mathlib.Core.List.{List, [], _∷_, _++_, append-assoc}
 use Prim.Native.Nat.{ℕ, suc, _+_, _-_, _*_, _/_, _≤_, _<_}
@@ -10,13 +10,11 @@ use native.Mathlib.Omega.{arith}
 use lib.Dec.{leb}
 use lib.ListN.{length, take, drop, set, length-append, length-set}
 use lib.Seq.{take-at, drop-at, drop-drop, length-take-le}
-use Rattle.answers.specs.declared.err.Answer.{Answer}
 use Rattle.answers.specs.declared.err.Refusal.{Refusal}
 use Rattle.answers.specs.declared.err.Refusal.the-variants.{Done}
-use Rattle.answers.specs.Answers.{answerOf, done}
-use Rattle.answers.specs.Checks.{firstOf, ragged, Spared}
+use Rattle.answers.specs.Answers.{done}
+use Rattle.answers.specs.Checks.{firstOf, ragged}
 use Rattle.answers.proofs.Passed.{passing, whole, roomy}
-use Rattle.answers.proofs.Endings.{left-done, left-refused, spared, untouched}
 use Rattle.samples.specs.Le.{leBytes, stored}
 use Rattle.samples.proofs.Words.{holds}
 use Rattle.samples.proofs.LeLaws.{length-leBytes, length-stored, stored-is}
@@ -34,7 +32,7 @@ use Rattle.dwt.proofs.Lists.{put-end, later}
 use Rattle.trips.proofs.Lengths.{length-lengths, places-total}
 use Rattle.trips.proofs.Fitting.{lengths-fit, few-lengths}
 use Rattle.pyramid.specs.Files.{sectionOf, headCount, headSize, bodyOf, bodySize, fileSize, fileOf}
-use Rattle.pyramid.specs.Writes.{writeChecks, sayWrite, Write}
+use Rattle.pyramid.specs.Writes.{writeChecks, sayWrite}
 
 -- ---- numbers that fit
 
@@ -176,39 +174,3 @@ write-ready f l x b u v h =
 -- the same of i levels and k bytes, which are the ones asked for
 pub ready-for : (f : Filter) (l x b u v i k : ℕ) → i ≡ levelsOf l → k ≡ widthOf f → done (sayWrite f l x b u v) ≡ true → Ready f i (x / k) x u v × (fileSize (widthOf f) i (x / k) ≤ b)
 ready-for f l x b u v i k ei ek h = rw (ei, ek) (write-ready f l x b u v h)
-
-module _ (f : Filter) (l p : ℕ) (x b u v : List ℕ) where
-  abbrev said : Refusal
-  said = sayWrite f l (length x) (length b) (length u) (length v)
-
-  abbrev made : ℕ → List ℕ
-  made n = fileOf f (levelsOf l) p x ++ drop (fileSize (widthOf f) (levelsOf l) n) b
-
-  -- s is what the checks said, r its numbers, and n the number of samples
-  pub write-done : (s : Refusal) (r : Answer) (n : ℕ) (b′ u′ v′ : List ℕ) → s ≡ said → r ≡ answerOf s → done s ≡ true → n ≡ length x / widthOf f
-      → b′ ≡ made n → drop (widthOf f * n) u′ ≡ drop (widthOf f * n) u → drop (widthOf f * n) v′ ≡ drop (widthOf f * n) v → Write f l p x b u v r b′ u′ v′
-  write-done s r n b′ u′ v′ es er z en h hu hv =
-      let t : done said ≡ true = rw es at z in
-      let w : widthOf f * n ≡ length x = ap (λ (i : ℕ). widthOf f * i) en ∙ sym (write-ready f l (length x) (length b) (length u) (length v) t .0 .whole) in
-      record {
-        answer = er ∙ ap answerOf es;
-        file = h ∙ ap made en ∙ sym (left-done said (made (length x / widthOf f)) b t);
-        first = spared said (length x) u u′ t (rw w at hu);
-        second = spared said (length x) v v′ t (rw w at hv);
-      }
-
-  pub write-refused : (s : Refusal) (r : Answer) → s ≡ said → r ≡ answerOf s → done s ≡ false → Write f l p x b u v r b u v
-  write-refused s r es er z =
-      let t : done said ≡ false = rw es at z in
-      record {
-        answer = er ∙ ap answerOf es;
-        file = sym (left-refused said (made (length x / widthOf f)) b t);
-        first = untouched said (length x) u;
-        second = untouched said (length x) v;
-      }
-
-  -- two results that the statement allows are equal, the fronts of the work areas apart
-  pub write-decides : (r s : Answer) (b₁ u₁ v₁ b₂ u₂ v₂ : List ℕ) → Write f l p x b u v r b₁ u₁ v₁ → Write f l p x b u v s b₂ u₂ v₂
-      → let k = cond (done said) (length x) 0 in (r ≡ s) × (b₁ ≡ b₂) × (drop k u₁ ≡ drop k u₂) × (drop k v₁ ≡ drop k v₂)
-  unfolding Spared
-  write-decides r s b₁ u₁ v₁ b₂ u₂ v₂ h g = (h .answer ∙ sym (g .answer), h .file ∙ sym (g .file), h .first ∙ sym (g .first), h .second ∙ sym (g .second))

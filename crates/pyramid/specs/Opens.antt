@@ -1,8 +1,7 @@
 -- Opening a file, from document 01, "Opening checks": the checks as one list in its order, and what the call promises.
 -- Assumes nothing: these are definitions.
-use mathlib.Core.Bool.{Bool, true, cond, not}
+use mathlib.Core.Bool.{true, cond, not}
 use mathlib.Core.List.{List, [], _∷_, _++_}
-use mathlib.Core.Path.{_≡_}
 use Prim.Native.Nat.{ℕ, _+_, _-_, _*_, _/_}
 use lib.Dec.{ltb, eqb}
 use lib.ListN.{length, take, drop}
@@ -10,8 +9,8 @@ use denote.Ref.{RefT}
 use Rattle.answers.specs.declared.err.Answer.{Answer}
 use Rattle.answers.specs.declared.err.Refusal.{Refusal}
 use Rattle.answers.specs.declared.err.Refusal.the-variants.{Done, MinFilterSize, BufferWasTooSmallForLevel, TooLong, OtherWidth, BadCount, CutShort, OtherPoint, Trailing, NoSuchPlace}
-use Rattle.answers.specs.Answers.{answerOf, done}
-use Rattle.answers.specs.Checks.{Check, firstOf, ragged, tight, left, Spared}
+use Rattle.answers.specs.Answers.{done}
+use Rattle.answers.specs.Checks.{Check, firstOf, ragged, tight, Call}
 use Rattle.sizes.specs.declared.Wavelet.the-variants.{Cdf53}
 use Rattle.sizes.specs.Bands.{mostSamples}
 use Rattle.sizes.specs.Levels.{places, depthOf}
@@ -95,11 +94,8 @@ unfoldable pub sayOpen : List ℕ → ℕ → ℕ → ℕ → ℕ → ℕ → Re
 sayOpen s w p o u v = firstOf (areaChecks w o u v ++ (headChecks s w p ++ (wayChecks (wayIn s) (length s) ++ roomsFor w (countIn s) o u v))) (Done (levelIn s) (countIn s))
 
 -- the answer r, and the output and the work areas that opening leaves: "output past the count is unchanged"
-pub record Open (s : List ℕ) (w p : ℕ) (o u v : List ℕ) (r : Answer) (o′ u′ v′ : List ℕ) : Type 0 where
-  pub answer : r ≡ answerOf (sayOpen s w p (length o) (length u) (length v))
-  pub output : o′ ≡ left (sayOpen s w p (length o) (length u) (length v)) (samplesIn s ++ drop (w * countIn s) o) o
-  pub first : Spared (sayOpen s w p (length o) (length u) (length v)) (w * countIn s) u u′
-  pub second : Spared (sayOpen s w p (length o) (length u) (length v)) (w * countIn s) v v′
+abbrev pub Open : List ℕ → ℕ → ℕ → List ℕ → List ℕ → List ℕ → Answer → List ℕ → List ℕ → List ℕ → Type 0
+Open s w p o u v = Call (sayOpen s w p (length o) (length u) (length v)) (w * countIn s) (samplesIn s ++ drop (w * countIn s) o) o u v
 
 -- ---- one section
 

@@ -1,15 +1,13 @@
 -- Writing a file, from document 01: "writing checks as integer `multi_dwt` without its 3, then 7 (file area; need: the size), 7, 7. Bytes past the size are unchanged. Levels 0
 -- is stored as 1."
 -- Assumes nothing: these are definitions.
-use mathlib.Core.List.{List, [], _∷_, _++_}
-use mathlib.Core.Path.{_≡_}
+use mathlib.Core.List.{List, _∷_, _++_}
 use Prim.Native.Nat.{ℕ, _/_}
 use lib.ListN.{length, drop}
 use Rattle.answers.specs.declared.err.Answer.{Answer}
 use Rattle.answers.specs.declared.err.Refusal.{Refusal}
 use Rattle.answers.specs.declared.err.Refusal.the-variants.{Done}
-use Rattle.answers.specs.Answers.{answerOf}
-use Rattle.answers.specs.Checks.{Check, firstOf, ragged, tight, left, Spared}
+use Rattle.answers.specs.Checks.{Check, firstOf, ragged, tight, twoAreas, Call}
 use Rattle.sizes.specs.Levels.{levelsOf}
 use Rattle.dwt.specs.declared.filter.Filter.{Filter}
 use Rattle.dwt.specs.Filters.{widthOf}
@@ -18,15 +16,13 @@ use Rattle.pyramid.specs.Files.{fileSize, fileOf}
 
 -- by samples: n of the signal, u and v of the work areas; b bytes of the file area
 abbrev pub writeChecks : Filter → ℕ → ℕ → ℕ → ℕ → ℕ → List Check
-writeChecks f l n b u v = levelsChecks f l n ++ (tight b (fileSize (widthOf f) (levelsOf l) n) ∷ tight u n ∷ tight v n ∷ [])
+writeChecks f l n b u v = levelsChecks f l n ++ (tight b (fileSize (widthOf f) (levelsOf l) n) ∷ twoAreas u v n)
 
 -- by byte lengths: the file area may have any
 unfoldable pub sayWrite : Filter → ℕ → ℕ → ℕ → ℕ → ℕ → Refusal
 sayWrite f l x b u v = firstOf (ragged (widthOf f) x ∷ ragged (widthOf f) u ∷ ragged (widthOf f) v ∷ writeChecks f l (x / widthOf f) b (u / widthOf f) (v / widthOf f)) (Done 0 0)
 
 -- the answer r, and the file area b′ and the work areas that writing the samples x for point p leaves
-pub record Write (f : Filter) (l p : ℕ) (x b u v : List ℕ) (r : Answer) (b′ u′ v′ : List ℕ) : Type 0 where
-  pub answer : r ≡ answerOf (sayWrite f l (length x) (length b) (length u) (length v))
-  pub file : b′ ≡ left (sayWrite f l (length x) (length b) (length u) (length v)) (fileOf f (levelsOf l) p x ++ drop (fileSize (widthOf f) (levelsOf l) (length x / widthOf f)) b) b
-  pub first : Spared (sayWrite f l (length x) (length b) (length u) (length v)) (length x) u u′
-  pub second : Spared (sayWrite f l (length x) (length b) (length u) (length v)) (length x) v v′
+abbrev pub Write : Filter → ℕ → ℕ → List ℕ → List ℕ → List ℕ → List ℕ → Answer → List ℕ → List ℕ → List ℕ → Type 0
+Write f l p x b u v =
+    Call (sayWrite f l (length x) (length b) (length u) (length v)) (length x) (fileOf f (levelsOf l) p x ++ drop (fileSize (widthOf f) (levelsOf l) (length x / widthOf f)) b) b u v

@@ -17,15 +17,13 @@ use answers::err::numbers;
 use dwt::filter::Filter;
 use dwt::filter::bytes_of;
 use dwt::filter::execute_forward;
-use dwt::filter::wavelet;
 use dwt::filter::width;
+use dwt::levels::check_levels;
 use dwt::levels::cut_of;
-use dwt::levels::short_of;
 use samples::le::write_u32;
-use sizes::MOST_SAMPLES;
 use sizes::at_least_one;
 use sizes::checks::check_whole;
-use sizes::depth;
+use sizes::checks::two_areas;
 
 // The bytes of the sections after the head.
 fn body_size(f: Filter, levels: usize, n: usize) -> usize
@@ -121,27 +119,15 @@ fn lay_file(
 fn write_lengths(f: Filter, levels: usize, n: usize, b: usize, u: usize, v: usize) -> Refusal
     ensures { λ r. ⌜ r ≡ firstOf (writeChecks f levels n b u v) (Refusal.Done 0 0) ⌝ }
 {
-    if MOST_SAMPLES < n {
-        return Refusal::TooLong;
+    let said = check_levels(f, levels, n);
+    if !is_done(said) {
+        return said;
     }
-    let l = at_least_one(levels);
-    if depth(wavelet(f), n) < l {
-        if levels <= 1 {
-            return short_of(f, n);
-        }
-        return Refusal::BufferWasTooSmallForLevel;
-    }
-    let need = 14 + body_size(f, l, n);
+    let need = 14 + body_size(f, at_least_one(levels), n);
     if b < need {
         return Refusal::NoRoom(b, need);
     }
-    if u < n {
-        return Refusal::NoRoom(u, n);
-    }
-    if v < n {
-        return Refusal::NoRoom(v, n);
-    }
-    Refusal::Done(0, 0)
+    two_areas(u, v, n)
 }
 
 // What `write` says, by byte lengths.

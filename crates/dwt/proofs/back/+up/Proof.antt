@@ -7,12 +7,11 @@ use borrow.Author.Needs.{needs}
 use denote.Ref.{now}
 use lib.ListN.{length, take, drop, drop-of-length-le}
 use lib.Seq.{length-take-le, length-front, take-at, drop-at}
-use Rattle.sizes.specs.Calls.{Level}
 use Rattle.samples.specs.Words.{wordsOf}
 use Rattle.samples.proofs.Words.{length-words}
-use Rattle.dwt.specs.Filters.{widthOf, waveletOf, backOf}
+use Rattle.dwt.specs.Filters.{widthOf, backOf}
 use Rattle.dwt.specs.Pyramids.{samplesOf}
-use Rattle.dwt.specs.Backward.{total, Rising}
+use Rattle.dwt.specs.Backward.{Rising}
 use Rattle.dwt.proofs.Lists.{later, end-is, length-end}
 use Rattle.dwt.proofs.Rises.{at-length, level-at, rise-front, rise-level, rise-room, rise-next, rise-last, samples-next, samples-last}
 use borrow.Fn.Kinds.{In}

@@ -1,8 +1,8 @@
 -- `back_lengths` meets its contract: the checks in three parts, and the sum of the lengths between them. Assumes nothing.
 use borrow.Author.Needs.{needs}
 use borrow.Author.Tests.{not-true, not-false}
-use mathlib.Core.Bool.{Bool, true, false, not}
-use mathlib.Core.List.{List, [], _∷_, _++_}
+use mathlib.Core.Bool.{not}
+use mathlib.Core.List.{List, _∷_, _++_}
 use mathlib.Core.Path.{_≡_, refl, _∙_, sym, ap}
 use Prim.Native.Nat.{ℕ, _+_, _/_, _≤_}
 use native.Mathlib.Omega.{arith}
@@ -19,7 +19,8 @@ use Rattle.samples.specs.Words.{wordsOf}
 use Rattle.samples.proofs.Words.{length-words}
 use Rattle.dwt.specs.declared.filter.Filter.{Filter}
 use Rattle.dwt.specs.Filters.{waveletOf}
-use Rattle.dwt.specs.Backward.{mostLevels, total, sizeChecks, bandChecks, roomChecks}
+use Rattle.dwt.specs.Calls.{roomChecks}
+use Rattle.dwt.specs.Backward.{mostLevels, total, sizeChecks, bandChecks}
 use Rattle.dwt.proofs.Rises.{bands-refuse}
 use Rattle.dwt.proofs.back.back_lengths.Statement.{statement}
 use Rattle.dwt.proofs.back.back_lengths.Tie as tie
@@ -85,7 +86,7 @@ returns-4 c =
     let a = c .before .before .before .before .before .before .before .before .before .before .before .args in
     let ms = wordsOf 4 (a .lengths .now) in
     past2 (c .before .before .before .before .before) (below (a .f) (a .a) (a .d) ms (a .n) (a .u) (a .v))
-    (say-rest (bandChecks (waveletOf (a .f)) (a .a) ms) (roomChecks (a .a + a .d) (a .n) (a .u) (a .v)) (Done 0 0) (bands-refuse (waveletOf (a .f)) (a .a) ms) (levels (c .before .before .before)) (sym (c .before .before .is-done2 .ensures) ∙ not-false _ (c .before .if3 .left)) (c .back-room .ensures))
+    (say-rest (bandChecks (waveletOf (a .f)) (a .a) ms) (roomChecks (a .a + a .d) (a .n) (a .u) (a .v)) (Done 0 0) (bands-refuse (waveletOf (a .f)) (a .a) ms) (levels (c .before .before .before)) (sym (c .before .before .is-done2 .ensures) ∙ not-false _ (c .before .if3 .left)) (c .check-room .ensures))
 
 pub back-lengths-spec : {M : Type 1} → statement M
 back-lengths-spec =

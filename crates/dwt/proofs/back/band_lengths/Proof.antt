@@ -1,11 +1,10 @@
 -- `band_lengths` meets its contract. The invariant: what is left of the lengths decides. Assumes nothing.
 use borrow.Author.Needs.{needs}
 use borrow.Author.Tests.{not-true, not-false}
-use Prim.Native.Nat.{_+_, _-_, _/_, _≤_, _<_}
+use Prim.Native.Nat.{_+_, _-_, _≤_, _<_}
 use mathlib.Core.Path.{_≡_, refl, sym, _∙_}
-use mathlib.Core.Bool.{true, false}
 use native.Mathlib.Omega.{arith}
-use lib.ListN.{length, drop, getD}
+use lib.ListN.{length, drop}
 use Rattle.answers.specs.declared.err.Refusal.the-variants.{Done}
 use Rattle.answers.specs.Checks.{firstOf}
 use Rattle.samples.specs.Words.{wordsOf}
@@ -35,7 +34,7 @@ left c = omega (arith, c .before .before .loop .inv, total-more (wordsOf 4 (c .b
 returns : tie.Need-returns Inv-loop μ-loop
 returns c =
     let l = c .before .before .before .before .before .loop in
-    bands-stop (c .before .before .before .before .before .before .before .args .w) (l .n) (wordsOf 4 (c .before .before .before .before .before .before .before .args .lengths .now)) (l .i) (c .before .before .before .length-at .result) (there (c .before .before .before)) (c .before .before .before .length-at .ensures .0) (c .before .before .level-lengths .ensures) (sym (c .before .is-done .ensures) ∙ not-true _ (c .if1 .taken))
+    bands-stop (c .before .before .before .before .before .before .before .args .w) (l .n) (wordsOf 4 (c .before .before .before .before .before .before .before .args .lengths .now)) (l .i) (c .before .before .before .length-at .result) (there (c .before .before .before)) (c .before .before .before .length-at .ensures .0) (c .before .before .inverse-bands .ensures) (sym (c .before .is-done .ensures) ∙ not-true _ (c .if1 .taken))
     ∙ sym (l .inv .2)
 
 loop-again : tie.Need-loop-again Inv-loop μ-loop
@@ -43,7 +42,7 @@ loop-again c =
     let l = c .before .before .before .before .before .loop in (
       omega arith,
       left (c .before .before .before),
-      l .inv .2 ∙ bands-more (c .before .before .before .before .before .before .before .args .w) (l .n) (wordsOf 4 (c .before .before .before .before .before .before .before .args .lengths .now)) (l .i) (c .before .before .before .length-at .result) (there (c .before .before .before)) (c .before .before .before .length-at .ensures .0) (c .before .before .level-lengths .ensures) (sym (c .before .is-done .ensures) ∙ not-false _ (c .if1 .left)),
+      l .inv .2 ∙ bands-more (c .before .before .before .before .before .before .before .args .w) (l .n) (wordsOf 4 (c .before .before .before .before .before .before .before .args .lengths .now)) (l .i) (c .before .before .before .length-at .result) (there (c .before .before .before)) (c .before .before .before .length-at .ensures .0) (c .before .before .inverse-bands .ensures) (sym (c .before .is-done .ensures) ∙ not-false _ (c .if1 .left)),
     )
 
 returns-2 : tie.Need-returns-2 Inv-loop μ-loop
@@ -57,7 +56,5 @@ band-lengths-spec =
     tie.close
     (tie.spec
     Inv-loop μ-loop (λ c. (omega arith, refl, refl)) (λ c κs. search needs)
-    (λ c κs. omega (arith, left c, c .before .before .before .before .pre)) (λ c κs. search needs)
-    returns
-    (λ c. omega (arith, left (c .before .before .before), c .before .before .before .before .before .before .before .pre))
-    (λ c. search needs) (λ c. omega arith) loop-again returns-2)
+    (λ c. omega (arith, left c, c .before .before .before .before .pre)) (λ c κs. search needs) (λ c κs. search needs)
+    returns (λ c. search needs) (λ c. omega arith) loop-again returns-2)

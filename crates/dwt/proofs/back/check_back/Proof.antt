@@ -2,17 +2,15 @@
 use borrow.Author.Needs.{needs}
 use borrow.Author.Tests.{not-true, not-false}
 use mathlib.Core.List.{List, [], _∷_, _++_}
-use mathlib.Core.Path.{_≡_, refl, _∙_, sym, ap}
+use mathlib.Core.Path.{_≡_, refl, _∙_, sym}
 use Prim.Native.Nat.{ℕ, _/_}
 use lib.ListN.{length}
 use Rattle.answers.specs.declared.err.Refusal.{Refusal}
 use Rattle.answers.specs.declared.err.Refusal.the-variants.{Done}
-use Rattle.answers.specs.Answers.{done}
 use Rattle.answers.specs.Checks.{Check, firstOf, ragged}
 use Rattle.answers.proofs.Passed.{say-rest, say-stop}
 use Rattle.samples.specs.Words.{wordsOf}
 use Rattle.dwt.specs.declared.filter.Filter.{Filter}
-use Rattle.dwt.specs.Filters.{widthOf}
 use Rattle.dwt.specs.Backward.{backChecks, sayBack}
 use Rattle.dwt.proofs.back.check_back.Statement.{statement}
 use Rattle.dwt.proofs.back.check_back.Tie as tie

@@ -1,19 +1,18 @@
 -- `multi_idwt` meets its contract: the checks, then the levels where they let by. Assumes nothing, and looks into no filter.
 use borrow.Author.Needs.{needs}
-use mathlib.Core.Bool.{true}
-use mathlib.Core.List.{List, _++_}
+use mathlib.Core.List.{List}
 use mathlib.Core.Path.{_≡_, _∙_, sym, ap}
 use Prim.Native.Nat.{ℕ, _+_, _*_, _/_, _<_, _≤_}
 use native.Mathlib.Omega.{arith}
 use lib.ListN.{length, take, drop}
-use Rattle.answers.specs.Answers.{done}
+use Rattle.answers.proofs.Endings.{call-done, call-refused}
 use Rattle.samples.specs.Words.{wordsOf}
 use Rattle.dwt.specs.Filters.{widthOf}
 use Rattle.dwt.specs.Pyramids.{samplesOf}
 use Rattle.dwt.specs.Backward.{Rising}
 use Rattle.dwt.proofs.Lists.{copied-front, copied-after}
 use Rattle.dwt.proofs.Rises.{rise-front}
-use Rattle.dwt.proofs.Backs.{back-ready, back-done, back-refused}
+use Rattle.dwt.proofs.Backs.{back-ready}
 use Rattle.dwt.proofs.back.multi_idwt.Statement.{statement}
 use Rattle.dwt.proofs.back.multi_idwt.Tie as tie
 
@@ -42,16 +41,13 @@ returns c =
     let r = ready (c .before .before .before .before .before .before .before .before .before .before .before .before .before .before .before) in
     let e = c .before .before .before .before .before .before .up .ensures in
     let front : widthOf (a .f) * (length x / c .before .before .before .before .before .before .before .before .before .before .width .result) ≡ length x = ap (λ j. widthOf (a .f) * (length x / j)) (c .before .before .before .before .before .before .before .before .before .before .width .ensures .0) ∙ sym (r .2) in
-    back-done (a .f) x (a .details .now) (a .lengths .now) (a .out .now) (a .one .now) (a .two .now) (c .before .before .before .before .before .before .before .before .before .before .before .before .before .before .before .before .before .before .check-back .result) _ (length (a .out .now)) _ _ _ (c .before .before .before .before .before .before .before .before .before .before .before .before .before .before .before .before .before .before .check-back .ensures) (c .before .before .before .before .before .before .before .before .before .before .before .before .before .before .before .before .before .numbers .ensures)
-    (sym (c .before .before .before .before .before .before .before .before .before .before .before .before .before .before .before .before .is-done .ensures) ∙ c .before .before .before .before .before .before .before .before .before .before .before .before .before .before .before .if1 .taken) (r .3)
+    call-done (c .before .before .before .before .before .before .before .before .before .before .before .before .before .before .before .before .before .before .check-back .ensures) (c .before .before .before .before .before .before .before .before .before .before .before .before .before .before .before .before .before .numbers .ensures) (sym (c .before .before .before .before .before .before .before .before .before .before .before .before .before .before .before .before .is-done .ensures) ∙ c .before .before .before .before .before .before .before .before .before .before .before .before .before .before .before .if1 .taken)
     (e .0 ∙ ap (λ (s : List ℕ). samplesOf (a .f) s (a .details .now) (wordsOf 4 (a .lengths .now))) (ap (take (widthOf (a .f) * (length x / c .before .before .before .before .before .before .before .before .before .before .width .result))) (c .before .before .before .before .before .before .before .before .before .before .before .before .before .copy .ensures .1) ∙ copied-front x (a .one .now) _ front))
-    (e .1 .0 ∙ ap (drop (length (a .out .now))) (c .before .before .before .before .before .before .before .before .before .before .before .before .before .copy .ensures .1) ∙ copied-after x (a .one .now) (length (a .out .now)) (omega (arith, r .3)))
-    (e .1 .1)
+    (rw (r .3) at (e .1 .0 ∙ ap (drop (length (a .out .now))) (c .before .before .before .before .before .before .before .before .before .before .before .before .before .copy .ensures .1) ∙ copied-after x (a .one .now) (length (a .out .now)) (omega (arith, r .3))))
+    (rw (r .3) at (e .1 .1))
 
 returns-2 : tie.Need-returns-2
-returns-2 c =
-    let a = c .before .before .before .before .before .before .before .before .before .before .args in
-    back-refused (a .f) (a .approx .now) (a .details .now) (a .lengths .now) (a .out .now) (a .one .now) (a .two .now) (c .before .before .before .check-back .result) _ (c .before .before .before .check-back .ensures) (c .before .before .numbers .ensures) (sym (c .before .is-done .ensures) ∙ c .if1 .left)
+returns-2 c = call-refused (c .before .before .before .check-back .ensures) (c .before .before .numbers .ensures) (sym (c .before .is-done .ensures) ∙ c .if1 .left)
 
 pub multi-idwt-spec : {M : Type 1} → statement M
 multi-idwt-spec =

@@ -1,6 +1,5 @@
 -- `restore` meets its contract: lengths that fit are not refused. Assumes nothing, and looks into no filter.
 use borrow.Author.Needs.{needs}
-use lib.ListN.{length}
 use Rattle.sizes.proofs.OneLevel.{inverse-ran}
 use Rattle.dwt.specs.Filters.{widthOf, waveletOf, backOf}
 use Rattle.dwt.proofs.Cuts.{width-pos}

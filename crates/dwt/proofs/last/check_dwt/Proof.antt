@@ -1,8 +1,8 @@
 -- `check_dwt` meets its contract: the byte lengths, then the lengths in samples. Assumes nothing.
 use borrow.Author.Needs.{needs}
 use borrow.Author.Tests.{not-true, not-false}
-use mathlib.Core.List.{List, [], _∷_, _++_}
-use mathlib.Core.Path.{_≡_, refl, _∙_, sym, ap}
+use mathlib.Core.List.{List, [], _∷_}
+use mathlib.Core.Path.{_≡_, refl, _∙_, sym}
 use Prim.Native.Nat.{ℕ, _/_}
 use Rattle.answers.specs.declared.err.Refusal.{Refusal}
 use Rattle.answers.specs.declared.err.Refusal.the-variants.{Done}
@@ -10,7 +10,6 @@ use Rattle.answers.specs.Checks.{Check, firstOf, ragged}
 use Rattle.answers.proofs.Chain.{by, stop, same, other}
 use Rattle.answers.proofs.Passed.{say-rest, say-stop}
 use Rattle.dwt.specs.declared.filter.Filter.{Filter}
-use Rattle.dwt.specs.Filters.{widthOf}
 use Rattle.dwt.specs.Calls.{dwtChecks, sayDwt}
 use Rattle.dwt.proofs.last.check_dwt.Statement.{statement}
 use Rattle.dwt.proofs.last.check_dwt.Tie as tie

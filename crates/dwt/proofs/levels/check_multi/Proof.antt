@@ -1,16 +1,14 @@
 -- `check_multi` meets its contract: the byte lengths, then the lengths in samples. Assumes nothing.
 use borrow.Author.Needs.{needs}
-use mathlib.Core.Bool.{true, false}
+use mathlib.Core.Bool.{true}
 use mathlib.Core.List.{List, [], _∷_}
 use mathlib.Core.Path.{_≡_, refl, _∙_, sym, ap}
 use Prim.Native.Nat.{ℕ, _/_}
-use Rattle.answers.specs.declared.err.Refusal.{Refusal}
 use Rattle.answers.specs.declared.err.Refusal.the-variants.{Done}
 use Rattle.answers.specs.Answers.{done}
 use Rattle.answers.specs.Checks.{Check, firstOf, ragged}
 use Rattle.answers.proofs.Chain.{by, stop, same, other}
 use Rattle.answers.proofs.Passed.{then-rest, then-stop}
-use Rattle.dwt.specs.Filters.{widthOf}
 use Rattle.dwt.specs.Calls.{multiChecks, sayMulti}
 use Rattle.dwt.proofs.levels.check_multi.Statement.{statement}
 use Rattle.dwt.proofs.levels.check_multi.Tie as tie

@@ -3,12 +3,10 @@ use borrow.Author.Needs.{needs}
 use mathlib.Core.Path.{_≡_, _∙_, sym, ap}
 use Prim.Native.Nat.{_*_, _/_}
 use lib.ListN.{length}
-use Rattle.answers.specs.Answers.{done}
-use Rattle.sizes.specs.Levels.{levelsOf}
+use Rattle.answers.proofs.Endings.{call-done, call-refused}
 use Rattle.dwt.specs.Filters.{widthOf}
 use Rattle.dwt.specs.Pyramids.{pyramid}
-use Rattle.dwt.specs.Calls.{Ready, sayMulti}
-use Rattle.dwt.proofs.Multi.{multi-ready, multi-done, multi-refused}
+use Rattle.dwt.proofs.Multi.{multi-ready}
 use Rattle.dwt.proofs.levels.multi_dwt.Statement.{statement}
 use Rattle.dwt.proofs.levels.multi_dwt.Tie as tie
 
@@ -27,15 +25,12 @@ returns c =
     let t = sym (c .before .before .before .before .before .before .before .before .before .before .before .before .before .is-done .ensures) ∙ c .before .before .before .before .before .before .before .before .before .before .before .before .if1 .taken in
     let ready = multi-ready (a .f) (a .levels) x (length (a .out .now)) (length (a .one .now)) (length (a .two .now)) (rw (c .before .before .before .before .before .before .before .before .before .before .before .before .before .before .before .check-multi .ensures) at t) in
     let e = c .before .before .before .before .before .before .run .ensures in
-    multi-done (a .f) (a .levels) (a .signal .now) (a .out .now) (a .one .now) (a .two .now) (c .before .before .before .before .before .before .before .before .before .before .before .before .before .before .before .check-multi .result) _ n _ _ _ (c .before .before .before .before .before .before .before .before .before .before .before .before .before .before .before .check-multi .ensures) (c .before .before .before .before .before .before .before .before .before .before .before .before .before .before .numbers .ensures) t
-    (ap (λ k. widthOf (a .f) * (x / k)) (c .before .before .before .before .before .before .before .before .before .before .before .width .ensures .0) ∙ sym (ready .0 .whole))
-    (e .0 ∙ ap (λ l. pyramid (a .f) l (a .signal .now)) (c .before .before .before .before .before .before .before .before .before .before .at-least-one .ensures)) (e .1 .0) (e .1 .1)
+    let w : widthOf (a .f) * n ≡ x = ap (λ k. widthOf (a .f) * (x / k)) (c .before .before .before .before .before .before .before .before .before .before .before .width .ensures .0) ∙ sym (ready .0 .whole) in
+    call-done (c .before .before .before .before .before .before .before .before .before .before .before .before .before .before .before .check-multi .ensures) (c .before .before .before .before .before .before .before .before .before .before .before .before .before .before .numbers .ensures) t
+    (e .0 ∙ ap (λ l. pyramid (a .f) l (a .signal .now)) (c .before .before .before .before .before .before .before .before .before .before .at-least-one .ensures)) (rw w at (e .1 .0)) (rw w at (e .1 .1))
 
 returns-2 : tie.Need-returns-2
-returns-2 c =
-    let a = c .before .before .before .before .before .before .before .before .args in
-    multi-refused (a .f) (a .levels) (a .signal .now) (a .out .now) (a .one .now) (a .two .now) (c .before .before .before .check-multi .result) _ (c .before .before .before .check-multi .ensures) (c .before .before .numbers .ensures)
-    (sym (c .before .is-done .ensures) ∙ c .if1 .left)
+returns-2 c = call-refused (c .before .before .before .check-multi .ensures) (c .before .before .numbers .ensures) (sym (c .before .is-done .ensures) ∙ c .if1 .left)
 
 pub multi-dwt-spec : {M : Type 1} → statement M
 multi-dwt-spec =

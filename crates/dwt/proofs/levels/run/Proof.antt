@@ -1,5 +1,5 @@
 -- `run` meets its contract: one level, and the levels below it. Assumes nothing, and looks into no filter.
-use mathlib.Core.Path.{_≡_, refl, sym, ap, _∙_}
+use mathlib.Core.Path.{_≡_, sym, ap, _∙_}
 use mathlib.Core.List.{List, _++_}
 use Prim.Native.Nat.{ℕ, suc, _*_, _-_, _≤_}
 use native.Mathlib.Omega.{arith}
@@ -15,11 +15,6 @@ use Rattle.sizes.proofs.Depths.{step, two-below}
 use borrow.Author.Needs.{needs}
 use Rattle.dwt.proofs.levels.run.Statement.{statement}
 use Rattle.dwt.proofs.levels.run.Tie as tie
-use Rattle.dwt.proofs.levels.run.Reads as reads
-use Rattle.dwt.proofs.levels.run.Lts as lts
-use Rattle.dwt.proofs.levels.cut_of.Reads as cut-of-reads
-use Rattle.dwt.proofs.levels.down.Reads as down-reads
-use Rattle.dwt.proofs.levels.level.Reads as level-reads
 
 level-requires : tie.Need-level-requires
 level-requires c κs =

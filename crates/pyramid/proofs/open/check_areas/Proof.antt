@@ -1,9 +1,5 @@
 -- `check_areas` meets its contract. Assumes nothing.
-use mathlib.Core.Bool.{cond, true, false}
-use mathlib.Core.List.{List, [], _∷_}
-use mathlib.Core.Path.{_≡_, refl, sym, ap, _∙_}
-use Rattle.answers.specs.declared.err.Refusal.the-variants.{Done}
-use Rattle.answers.specs.Checks.{Check, firstOf, ragged}
+use mathlib.Core.Path.{sym, _∙_}
 use Rattle.samples.proofs.IntegerLaws.{width-of}
 use borrow.Author.Needs.{needs}
 use Rattle.pyramid.proofs.open.check_areas.Statement.{statement}

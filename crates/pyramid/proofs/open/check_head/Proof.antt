@@ -1,6 +1,6 @@
 -- `check_head` meets its contract: the start, then the fields. Assumes nothing.
 use borrow.Author.Tests.{not-true, not-false}
-use mathlib.Core.Path.{_≡_, refl, sym, ap, _∙_}
+use mathlib.Core.Path.{refl, sym, ap, _∙_}
 use Prim.Native.Nat.{_≤_}
 use lib.ListN.{length}
 use Rattle.answers.specs.declared.err.Refusal.the-variants.{Done}

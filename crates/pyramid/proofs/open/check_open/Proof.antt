@@ -1,6 +1,5 @@
 -- `check_open` meets its contract: the areas, section 0, the way and the room, one after the other. Assumes nothing.
 use borrow.Author.Tests.{not-true, not-false}
-use mathlib.Core.Bool.{true}
 use mathlib.Core.List.{List, _++_}
 use mathlib.Core.Path.{_≡_, refl, sym, ap, _∙_}
 use Prim.Native.Nat.{ℕ, _-_, _≤_}
@@ -10,10 +9,9 @@ use Rattle.answers.specs.declared.err.Refusal.{Refusal}
 use Rattle.answers.specs.declared.err.Refusal.the-variants.{Done}
 use Rattle.answers.specs.Answers.{done}
 use Rattle.answers.specs.Checks.{Check, firstOf}
-use Rattle.answers.proofs.Passed.{Passing, passing, say-rest, say-stop}
+use Rattle.answers.proofs.Passed.{passing, say-rest, say-stop}
 use Rattle.sizes.specs.Levels.{places}
 use Rattle.samples.proofs.IntegerLaws.{width-of}
-use Rattle.pyramid.specs.Files.{headSize}
 use Rattle.pyramid.specs.Opens.{headIn, headChecks, wayIn, wayChecks, wholeDetails, levelIn, countIn, areaChecks, roomsFor, sayOpen}
 use Rattle.pyramid.proofs.Opening.{Headed, head-refuses, head-passes, way-refuses, way-passes, area-refuses}
 use borrow.Author.Needs.{needs}

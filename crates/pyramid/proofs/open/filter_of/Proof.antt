@@ -2,7 +2,6 @@
 use borrow.Author.Tests.{eq-eqb, ne-eqb}
 use mathlib.Core.Path.{refl}
 use Rattle.answers.proofs.Chain.{by, stop}
-use borrow.Author.Needs.{needs}
 use Rattle.pyramid.proofs.open.filter_of.Statement.{statement}
 use Rattle.pyramid.proofs.open.filter_of.Tie as tie
 

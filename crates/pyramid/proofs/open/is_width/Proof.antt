@@ -1,7 +1,5 @@
 -- `is_width` meets its contract. Assumes nothing.
 use borrow.Author.Tests.{eq-eqb, ne-eqb}
-use mathlib.Core.Path.{refl}
-use borrow.Author.Needs.{needs}
 use Rattle.pyramid.proofs.open.is_width.Statement.{statement}
 use Rattle.pyramid.proofs.open.is_width.Tie as tie
 

@@ -1,13 +1,12 @@
 -- `open` meets its contract: the checks, then the levels where they let by. Assumes nothing, and looks into no filter.
-use mathlib.Core.List.{List, _++_}
+use mathlib.Core.List.{_++_}
 use mathlib.Core.Path.{_≡_, refl, sym, ap, _∙_}
-use Prim.Native.Nat.{ℕ, _+_, _-_, _*_, _≤_}
+use Prim.Native.Nat.{ℕ, _+_, _-_, _*_}
 use native.Mathlib.Omega.{arith}
-use lib.ListN.{length, take, drop}
-use Rattle.answers.specs.Answers.{done}
+use lib.ListN.{length, drop}
 use Rattle.sizes.specs.Levels.{places}
-use Rattle.dwt.specs.Filters.{widthOf, waveletOf}
-use Rattle.pyramid.specs.Files.{headSize, bodySize}
+use Rattle.dwt.specs.Filters.{widthOf}
+use Rattle.pyramid.specs.Files.{headSize}
 use Rattle.pyramid.specs.Walks.{restoredOf}
 use Rattle.pyramid.specs.Opens.{filterOf, headIn, wayIn, wholeDetails, levelIn, countIn, samplesIn}
 use Rattle.pyramid.proofs.Opening.{Opening, open-ready, filter-width, filter-wavelet}

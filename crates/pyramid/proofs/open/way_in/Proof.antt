@@ -1,9 +1,6 @@
 -- `way_in` meets its contract: a byte and a u32 are small, whatever they say. Assumes nothing.
-use mathlib.Core.Path.{_≡_, sym, ap, _∙_}
-use Prim.Native.Nat.{ℕ, _*_, _<_, _≤_}
+use mathlib.Core.Path.{sym}
 use native.Mathlib.Omega.{arith}
-use Rattle.pyramid.specs.Files.{headSize}
-use Rattle.pyramid.specs.Walks.{walkOf}
 use Rattle.pyramid.proofs.Ways.{small}
 use borrow.Author.Needs.{needs}
 use Rattle.pyramid.proofs.open.way_in.Statement.{statement}

@@ -10,7 +10,6 @@ use Rattle.sizes.specs.Bands.{ups, downs, smallestOf}
 use Rattle.sizes.specs.Levels.{depthOf}
 use Rattle.sizes.proofs.Depths.{step, two-below}
 use Rattle.dwt.specs.Filters.{widthOf, waveletOf, backOf}
-use Rattle.dwt.specs.Calls.{Cut}
 use Rattle.dwt.proofs.Cuts.{split-width}
 use Rattle.dwt.proofs.Lists.{later}
 use Rattle.pyramid.specs.Files.{bodySize}

@@ -4,20 +4,13 @@ use mathlib.Core.Path.{_≡_, ap, sym, _∙_}
 use Prim.Native.Nat.{ℕ, _*_, _+_, _-_}
 use native.Mathlib.Omega.{arith}
 use lib.ListN.{length, take, drop}
-use lib.Seq.{take-all, length-take-le}
+use lib.Seq.{length-take-le}
 use Rattle.sizes.specs.Bands.{ups, downs}
-use Rattle.dwt.specs.Filters.{widthOf, waveletOf, backOf}
-use Rattle.dwt.specs.Calls.{Cut}
-use Rattle.pyramid.specs.Walks.{bytesAt}
+use Rattle.dwt.specs.Filters.{widthOf, backOf}
 use Rattle.pyramid.proofs.Parts.{piece, piece-length}
 use borrow.Author.Needs.{needs}
 use Rattle.pyramid.proofs.restore.build.Statement.{statement}
 use Rattle.pyramid.proofs.restore.build.Tie as tie
-use Rattle.pyramid.proofs.restore.build.Reads as reads
-use Rattle.pyramid.proofs.restore.build.Lts as lts
-use Rattle.dwt.proofs.levels.cut_of.Reads as cut-of-reads
-use Rattle.dwt.proofs.back.restore.Reads as restore-reads
-use Rattle.dwt.proofs.filter.bytes_of.Reads as bytes-of-reads
 
 bytes-of-requires : tie.Need-bytes-of-requires
 bytes-of-requires c κs = search needs

@@ -1,6 +1,6 @@
 -- `fetch` meets its contract. Assumes nothing.
 use mathlib.Core.List.{List, _++_}
-use mathlib.Core.Path.{_≡_, ap, sym, _∙_}
+use mathlib.Core.Path.{_≡_, ap, _∙_}
 use Prim.Native.Nat.{ℕ, _*_, _+_, _-_}
 use native.Mathlib.Omega.{arith}
 use lib.ListN.{length, take, drop}
@@ -10,10 +10,6 @@ use Rattle.pyramid.proofs.Parts.{piece, piece-length}
 use borrow.Author.Needs.{needs}
 use Rattle.pyramid.proofs.restore.fetch.Statement.{statement}
 use Rattle.pyramid.proofs.restore.fetch.Tie as tie
-use Rattle.pyramid.proofs.restore.fetch.Reads as reads
-use Rattle.pyramid.proofs.restore.fetch.Lts as lts
-use Rattle.bytes.proofs.copy.Reads as copy-reads
-use Rattle.dwt.proofs.filter.bytes_of.Reads as bytes-of-reads
 
 bytes-of-requires : tie.Need-bytes-of-requires
 bytes-of-requires c κs = search needs

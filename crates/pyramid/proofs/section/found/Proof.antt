@@ -1,13 +1,13 @@
 -- `found` meets its contract, case by case. Assumes nothing.
 use mathlib.Core.Path.{_≡_, refl, sym, ap, _∙_}
-use Prim.Native.Nat.{ℕ, _-_, _≤_}
+use Prim.Native.Nat.{ℕ, _-_}
 use native.Mathlib.Omega.{arith}
 use lib.ListN.{length}
 use Rattle.answers.specs.declared.err.Refusal.{Refusal}
 use Rattle.answers.specs.declared.err.Refusal.the-variants.{Done}
 use Rattle.answers.specs.Checks.{firstOf}
 use Rattle.pyramid.specs.declared.walk.Way.{Way}
-use Rattle.pyramid.specs.declared.walk.Way.the-variants.{Went, Short, Wrong}
+use Rattle.pyramid.specs.declared.walk.Way.the-variants.{Went, Wrong}
 use Rattle.pyramid.specs.Opens.{wayTo, sectionChecks, lengthOf, endBy}
 use Rattle.pyramid.proofs.Sections.{ends}
 use borrow.Author.Needs.{needs}

@@ -3,7 +3,6 @@ use borrow.Author.Tests.{eq-eqb, ne-eqb}
 use mathlib.Core.Path.{refl}
 use native.Mathlib.Omega.{arith}
 use Rattle.answers.proofs.Chain.{by, stop}
-use borrow.Author.Needs.{needs}
 use Rattle.pyramid.proofs.section.last_count.Statement.{statement}
 use Rattle.pyramid.proofs.section.last_count.Tie as tie
 

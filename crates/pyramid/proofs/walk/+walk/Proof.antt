@@ -1,13 +1,11 @@
 -- The proof of the cycle of calls {walk}. The measure is the levels. Assumes nothing.
-use mathlib.Core.Path.{_≡_, refl, sym, ap, _∙_}
-use Prim.Native.Nat.{_*_, _-_, _+_, _≤_}
+use mathlib.Core.Path.{sym, _∙_}
+use Prim.Native.Nat.{_-_, _+_, _≤_}
 use native.Mathlib.Nat.{mul-le-mul-left}
 use native.Mathlib.Omega.{arith}
 use borrow.Author.Needs.{needs}
 use Rattle.sizes.specs.Bands.{ups, downs}
-use Rattle.pyramid.specs.declared.walk.Way.{Way}
 use Rattle.pyramid.specs.declared.walk.Way.the-variants.{Went, Short, Wrong}
-use Rattle.pyramid.specs.Walks.{oneOf, goOn, walkOf}
 use Rattle.pyramid.proofs.Ways.{walk-none, walk-more, walk-size}
 use Prim.Native.Nat.{ℕ, _<_}
 use borrow.Fn.Kinds.{In}

@@ -1,10 +1,10 @@
 -- `one` meets its contract: a link for each test. Assumes nothing.
 use borrow.Author.Needs.{needs}
 use borrow.Author.Tests.{lt-ltb, le-ltb}
-use mathlib.Core.Path.{_≡_, refl, sym, ap, _∙_}
+use mathlib.Core.Path.{refl, sym, ap, _∙_}
 use Prim.Native.Nat.{ℕ}
 use Rattle.answers.proofs.Chain.{by, stop, same, other}
-use Rattle.pyramid.specs.declared.walk.Way.the-variants.{Went, Short, Wrong}
+use Rattle.pyramid.specs.declared.walk.Way.the-variants.{Wrong}
 use Rattle.pyramid.specs.Walks.{oneOf}
 use Rattle.pyramid.proofs.walk.one.Statement.{statement}
 use Rattle.pyramid.proofs.walk.one.Tie as tie

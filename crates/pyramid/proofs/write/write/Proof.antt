@@ -1,12 +1,14 @@
 -- `write` meets its contract: the checks, then the file where they let by. Assumes nothing, and looks into no filter.
 use borrow.Author.Needs.{needs}
 use mathlib.Core.List.{_++_}
-use mathlib.Core.Path.{_∙_, sym, ap}
-use Prim.Native.Nat.{ℕ, _/_}
+use mathlib.Core.Path.{_≡_, _∙_, sym, ap}
+use Prim.Native.Nat.{ℕ, _*_, _/_}
 use lib.ListN.{length, drop}
+use Rattle.answers.proofs.Endings.{call-done, call-refused}
+use Rattle.sizes.specs.Levels.{levelsOf}
 use Rattle.dwt.specs.Filters.{widthOf}
 use Rattle.pyramid.specs.Files.{fileSize, fileOf}
-use Rattle.pyramid.proofs.Writing.{ready-for, write-done, write-refused}
+use Rattle.pyramid.proofs.Writing.{write-ready, ready-for}
 use Rattle.pyramid.proofs.write.write.Statement.{statement}
 use Rattle.pyramid.proofs.write.write.Tie as tie
 
@@ -24,16 +26,17 @@ returns c =
     let n = x / k .result in
     let e = c .before .before .before .before .before .before .lay-file .ensures in
     let said = c .before .before .before .before .before .before .before .before .before .before .before .before .before .before .before .check-write in
-    write-done (a .f) (a .levels) (a .point) (a .signal .now) (a .file .now) (a .one .now) (a .two .now) (said .result) _ n _ _ _ (said .ensures) (c .before .before .before .before .before .before .before .before .before .before .before .before .before .before .numbers .ensures)
-    (sym (c .before .before .before .before .before .before .before .before .before .before .before .before .before .is-done .ensures) ∙ c .before .before .before .before .before .before .before .before .before .before .before .before .if1 .taken)
-    (ap (λ (i : ℕ). x / i) (k .ensures .0))
-    (e .0 ∙ ap (λ (l : ℕ). fileOf (a .f) l (a .point) (a .signal .now) ++ drop (fileSize (widthOf (a .f)) l n) (a .file .now)) (c .before .before .before .before .before .before .before .before .before .before .at-least-one .ensures)) (e .1 .0) (e .1 .1)
+    let t = sym (c .before .before .before .before .before .before .before .before .before .before .before .before .before .is-done .ensures) ∙ c .before .before .before .before .before .before .before .before .before .before .before .before .if1 .taken in
+    let ready = write-ready (a .f) (a .levels) x (length (a .file .now)) (length (a .one .now)) (length (a .two .now)) (rw (said .ensures) at t) in
+    let en : n ≡ x / widthOf (a .f) = ap (λ (i : ℕ). x / i) (k .ensures .0) in
+    let w : widthOf (a .f) * n ≡ x = ap (λ (i : ℕ). widthOf (a .f) * i) en ∙ sym (ready .0 .whole) in
+    call-done (said .ensures) (c .before .before .before .before .before .before .before .before .before .before .before .before .before .before .numbers .ensures) t
+    (e .0 ∙ ap (λ (l : ℕ). fileOf (a .f) l (a .point) (a .signal .now) ++ drop (fileSize (widthOf (a .f)) l n) (a .file .now)) (c .before .before .before .before .before .before .before .before .before .before .at-least-one .ensures)
+    ∙ ap (λ (i : ℕ). fileOf (a .f) (levelsOf (a .levels)) (a .point) (a .signal .now) ++ drop (fileSize (widthOf (a .f)) (levelsOf (a .levels)) i) (a .file .now)) en)
+    (rw w at (e .1 .0)) (rw w at (e .1 .1))
 
 returns-2 : tie.Need-returns-2
-returns-2 c =
-    let a = c .before .before .before .before .before .before .before .before .args in
-    write-refused (a .f) (a .levels) (a .point) (a .signal .now) (a .file .now) (a .one .now) (a .two .now) (c .before .before .before .check-write .result) _ (c .before .before .before .check-write .ensures) (c .before .before .numbers .ensures)
-    (sym (c .before .is-done .ensures) ∙ c .if1 .left)
+returns-2 c = call-refused (c .before .before .before .check-write .ensures) (c .before .before .numbers .ensures) (sym (c .before .is-done .ensures) ∙ c .if1 .left)
 
 pub write-spec : {M : Type 1} → statement M
 write-spec =
