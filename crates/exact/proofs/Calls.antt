@@ -50,22 +50,22 @@ module _ (f : Format) (l : ℕ) (x : List ℕ) {o u v : List ℕ} {r : Answer} {
       trip .0,
       record {
         levels-are = λ j h m z. dwt-level f j x m z (levelsOf l) isExact h;
-        deepest-are = rw (call-approx l x call isDone) (level-exact f (levelsOf l) x isExact (levelsOf l) (levels-pos l) (omega arith) .approximations-are);
+        deepest-are = rw (call-approx (filter53 f) l x call isDone) (level-exact f (levelsOf l) x isExact (levelsOf l) (levels-pos l) (omega arith) .approximations-are);
         details-are = λ i h.
-            subst (λ (s : List ℕ). Are (3 * suc i) (2 ^ prec f) (decodeFloats f s) (times 4 (details2 (after8 i (numbersIn f x))))) (sym (call-level l x call isDone i h))
+            subst (λ (s : List ℕ). Are (3 * suc i) (2 ^ prec f) (decodeFloats f s) (times 4 (details2 (after8 i (numbersIn f x))))) (sym (call-level (filter53 f) l x call isDone i h))
             (highs-are f (levelsOf l) x (numbersIn f x) isExact i h);
         back = subst (SameNumbers f x) (sym (trip .1)) (trip-same f (levelsOf l) x isExact (deep .1));
       },
     )
       where
         deep : (levelsOf l ≤ depthOf (waveletOf (filter53 f)) (samplesIn f x)) × (length x ≡ widthOf (filter53 f) * samplesIn f x)
-        deep = call-depth l x call isDone
+        deep = call-depth (filter53 f) l x call isDone
 
         isExact : Exact f (levelsOf l) (decodeFloats f x) (numbersIn f x)
         isExact = samples-exact f (levelsOf l) x (deep .0) few inputs
 
         trip : (q ≡ answerOf (Done 0 0)) × (p′ ≡ roundTrip (filter53 f) (levelsOf l) x)
-        trip = trip-call l x call isDone lengths output first second back
+        trip = trip-call (filter53 f) l x call isDone lengths output first second back
 
 -- ---- in document 01's numbers
 

@@ -1,18 +1,19 @@
 -- Opening: what each part of the checks leaves when it lets by, and that the levels which a cut left can be restored. Assumes nothing.
+use Rattle.answers.specs.declared.err.Refusal.{Refusal}
 use mathlib.Core.Bool.{Bool, true, false, cond}
-use mathlib.Core.List.{List, [], _∷_, _++_}
+use mathlib.Core.List.{List, [], _∷_, _++_, append-assoc, append-nil}
 use mathlib.Core.Logic.{⊎-elim}
-use mathlib.Core.Path.{_≡_, refl, sym, ap}
+use mathlib.Core.Path.{_≡_, refl, sym, ap, subst, _∙_}
 use Prim.Native.Nat.{ℕ, _+_, _-_, _*_, _/_, _≤_}
 use native.Mathlib.Nat.{mul-le-mul-left}
 use native.Mathlib.Omega.{arith}
 use borrow.Author.Tests.{eqb-false, not-false}
-use lib.Dec.{eqb}
+use lib.Dec.{eqb, T}
 use lib.ListN.{length}
 use Rattle.answers.specs.declared.err.Refusal.the-variants.{Done}
 use Rattle.answers.specs.Answers.{done}
-use Rattle.answers.specs.Checks.{ragged}
-use Rattle.answers.proofs.Passed.{Refusing, Passing, passing, both-refuse, both-pass, whole, roomy, right}
+use Rattle.answers.specs.Checks.{ragged, Check, firstOf}
+use Rattle.answers.proofs.Passed.{Refusing, Passing, passing, both-refuse, both-pass, whole, roomy, right, through}
 use Rattle.sizes.specs.declared.Wavelet.the-variants.{Cdf53}
 use Rattle.sizes.specs.Bands.{mostSamples}
 use Rattle.sizes.specs.Levels.{places, depthOf}
@@ -26,7 +27,7 @@ use Rattle.pyramid.specs.declared.walk.Way.{Way}
 use Rattle.pyramid.specs.declared.walk.Way.the-variants.{Went, Short, Wrong}
 use Rattle.pyramid.specs.Files.{headSize, bodySize}
 use Rattle.pyramid.specs.Walks.{walkOf}
-use Rattle.pyramid.specs.Opens.{filterOf, headIn, headChecks, wayIn, wayChecks, wholeDetails, levelIn, countIn, areaChecks, roomsFor, sayOpen}
+use Rattle.pyramid.specs.Opens.{filterOf, headIn, headChecks, wayIn, wayChecks, wholeDetails, levelIn, countIn, areaChecks, roomsFor, sayOpen, fileChecks, sayFile}
 use Rattle.pyramid.proofs.Ways.{walk-size, walk-short}
 
 -- the integer filter of a width has that width
@@ -88,6 +89,48 @@ way-passes s k l n (Short j) e h q =
     (omega (arith, i .most, two), rw (sym a) (omega (arith, z)))
 way-passes s k l n (Wrong j found) e h q = absurd (let z : _≡_ {A = ℕ} 0 1 = ap (λ b. cond b 0 1) (q .0) in omega arith)
 
+-- ---- the file alone
+
+-- checks that all pass leave the rest to decide; where one refuses, it has decided
+pass-on : (l m : List Check) (e : Refusal) → Passing l → firstOf (l ++ m) e ≡ firstOf m e
+pass-on [] m e h = refl
+pass-on (p ∷ l) m e h = ap (λ t. cond t (p .1) (firstOf (l ++ m) e)) (h .0) ∙ pass-on l m e (h .1)
+
+stop-there : (l m : List Check) (d e : Refusal) → done d ≡ true → done (firstOf l d) ≡ false → firstOf (l ++ m) e ≡ firstOf l d
+stop-there [] m d e z h = let w : true ≡ false = sym z ∙ h in absurd (subst T w tt)
+stop-there (p ∷ l) m d e z h = pick (p .0) (λ g. stop-there l m d e z g) h
+  where
+    pick : (t : Bool) → (done (firstOf l d) ≡ false → firstOf (l ++ m) e ≡ firstOf l d) → done (cond t (p .1) (firstOf l d)) ≡ false → cond t (p .1) (firstOf (l ++ m) e) ≡ cond t (p .1) (firstOf l d)
+    pick true f h = refl
+    pick false f h = f h
+
+pub other-end : (l : List Check) (d e : Refusal) → done d ≡ true → done (firstOf l d) ≡ false → firstOf l e ≡ firstOf l d
+other-end l d e z h = ap (λ (m : List Check). firstOf m e) (sym (append-nil l)) ∙ stop-there l [] d e z h
+
+module _ (s : List ℕ) (w p : ℕ) where
+  file-refuses : Refusing (fileChecks s w p)
+  file-refuses = both-refuse (headChecks s w p) (wayChecks (wayIn s) (length s)) (head-refuses s w p) (way-refuses (wayIn s) (length s))
+
+  file-passes : done (sayFile s w p) ≡ true → Passing (fileChecks s w p)
+  unfolding sayFile
+  file-passes h = passing (fileChecks s w p) (Done (levelIn s) (countIn s)) file-refuses h
+
+  -- a file that is taken: what is said of it, what its section 0 tells, and that the rest of a list decides
+  pub file-says : done (sayFile s w p) ≡ true → sayFile s w p ≡ Done (levelIn s) (countIn s)
+  unfolding sayFile
+  file-says h = through (fileChecks s w p) (Done (levelIn s) (countIn s)) (file-passes h)
+
+  pub file-headed : done (sayFile s w p) ≡ true → Headed s w
+  file-headed h = head-passes s w p (both-pass (headChecks s w p) (wayChecks (wayIn s) (length s)) (file-passes h) .0)
+
+  pub file-rest : (m : List Check) (e : Refusal) → done (sayFile s w p) ≡ true → firstOf (headChecks s w p ++ (wayChecks (wayIn s) (length s) ++ m)) e ≡ firstOf m e
+  file-rest m e h = ap (λ (l : List Check). firstOf l e) (sym (append-assoc (headChecks s w p) (wayChecks (wayIn s) (length s)) m)) ∙ pass-on (fileChecks s w p) m e (file-passes h)
+
+  -- a file that is refused: that is what is said
+  pub file-stop : (m : List Check) (e : Refusal) → done (sayFile s w p) ≡ false → firstOf (headChecks s w p ++ (wayChecks (wayIn s) (length s) ++ m)) e ≡ sayFile s w p
+  unfolding sayFile
+  file-stop m e h = ap (λ (l : List Check). firstOf l e) (sym (append-assoc (headChecks s w p) (wayChecks (wayIn s) (length s)) m)) ∙ stop-there (fileChecks s w p) m (Done (levelIn s) (countIn s)) e refl h
+
 -- the areas and their room
 pub area-refuses : (w o u v : ℕ) → Refusing (areaChecks w o u v)
 area-refuses w o u v = pick (isWidth w)
@@ -110,6 +153,13 @@ pub record Opening (s : List ℕ) (w o u v : ℕ) : Type 0 where
   pub first : w * countIn s ≤ u
   pub second : w * countIn s ≤ v
 
+open-refuses : (s : List ℕ) (w p o u v : ℕ) → Refusing (areaChecks w o u v ++ (headChecks s w p ++ (wayChecks (wayIn s) (length s) ++ roomsFor w (countIn s) o u v)))
+open-refuses s w p o u v =
+    let heads = headChecks s w p in
+    let ways = wayChecks (wayIn s) (length s) in
+    let rooms = roomsFor w (countIn s) o u v in
+    both-refuse (areaChecks w o u v) (heads ++ (ways ++ rooms)) (area-refuses w o u v) (both-refuse heads (ways ++ rooms) (head-refuses s w p) (both-refuse ways rooms (way-refuses (wayIn s) (length s)) (refl, (refl, (refl, tt)))))
+
 pub open-ready : (s : List ℕ) (w p o u v : ℕ) → done (sayOpen s w p o u v) ≡ true → Opening s w o u v
 unfolding sayOpen
 open-ready s w p o u v h =
@@ -117,10 +167,7 @@ open-ready s w p o u v h =
     let heads = headChecks s w p in
     let ways = wayChecks (wayIn s) (length s) in
     let rooms = roomsFor w (countIn s) o u v in
-    let ra = area-refuses w o u v in
-    let rh = head-refuses s w p in
-    let rw′ = way-refuses (wayIn s) (length s) in
-    let q = passing (areas ++ (heads ++ (ways ++ rooms))) (Done (levelIn s) (countIn s)) (both-refuse areas (heads ++ (ways ++ rooms)) ra (both-refuse heads (ways ++ rooms) rh (both-refuse ways rooms rw′ (refl, (refl, (refl, tt)))))) h in
+    let q = passing (areas ++ (heads ++ (ways ++ rooms))) (Done (levelIn s) (countIn s)) (open-refuses s w p o u v) h in
     let qa = both-pass areas (heads ++ (ways ++ rooms)) q in
     let qh = both-pass heads (ways ++ rooms) (qa .1) in
     let qw = both-pass ways rooms (qh .1) in
@@ -146,3 +193,15 @@ open-ready s w p o u v h =
       first = omega (arith, lu, ar .1);
       second = omega (arith, lv, ar .2);
     }
+
+-- a call that is done says the level and the count, for which there is room
+pub open-says : (s : List ℕ) (w p o u v : ℕ) → done (sayOpen s w p o u v) ≡ true → (sayOpen s w p o u v ≡ Done (levelIn s) (countIn s)) × (countIn s ≤ o / w)
+unfolding sayOpen
+open-says s w p o u v h =
+    let areas = areaChecks w o u v in
+    let heads = headChecks s w p in
+    let ways = wayChecks (wayIn s) (length s) in
+    let rooms = roomsFor w (countIn s) o u v in
+    let q = passing (areas ++ (heads ++ (ways ++ rooms))) (Done (levelIn s) (countIn s)) (open-refuses s w p o u v) h in
+    let qr = both-pass ways rooms (both-pass heads (ways ++ rooms) (both-pass areas (heads ++ (ways ++ rooms)) q .1) .1) .1 in
+    (through (areas ++ (heads ++ (ways ++ rooms))) (Done (levelIn s) (countIn s)) q, roomy (o / w) (countIn s) (qr .0))

@@ -84,7 +84,7 @@ module _ (f : Filter) (i : Integers f) (l p : ℕ) (hp : p < 2 ^ 32) (x : List �
   level-at : (j : ℕ) → 1 ≤ j → j ≤ L → highOf f (approxAt f (L - j) x) ≡ take (k * downs (places (L - j) n)) (drop (k * places (L + 1 - j) n) o′)
   level-at j some most =
       let e : suc (L - j) ≡ L + 1 - j = omega arith in
-      sym (call-level l x m made (L - j) (omega arith)) ∙ ap (λ (q : ℕ). take (k * downs (places (L - j) n)) (drop (k * places q n) o′)) e
+      sym (call-level f l x m made (L - j) (omega arith)) ∙ ap (λ (q : ℕ). take (k * downs (places (L - j) n)) (drop (k * places q n) o′)) e
 
   -- cut to c bytes, which have the section whole
   pub section-in-cut : (c : ℕ) → c ≤ fileSize k L n
@@ -92,7 +92,7 @@ module _ (f : Filter) (i : Integers f) (l p : ℕ) (hp : p < 2 ^ 32) (x : List �
       × ((j : ℕ) → 1 ≤ j → j ≤ L → upTo k L n (1 + j) ≤ c → sectionIn (take c b′) k p (1 + j) ≡ take (k * downs (places (L - j) n)) (drop (k * places (L + 1 - j) n) o′))
   section-in-cut c e =
       let front = front-in f l p x i bx hp b u v a b′ u′ v′ w z c e in (
-        λ up. ap (λ (s : List ℕ). sectionIn s k p 1) front ∙ file-first f L n p x written c e up ∙ sym (call-approx l x m made),
+        λ up. ap (λ (s : List ℕ). sectionIn s k p 1) front ∙ file-first f L n p x written c e up ∙ sym (call-approx f l x m made),
         λ j some most up.
             ap (λ (s : List ℕ). sectionIn s k p (1 + j)) front
             ∙ file-later f L n p x written c e j some most up

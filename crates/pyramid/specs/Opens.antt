@@ -64,6 +64,10 @@ wayChecks (Went p) b = (ltb p b, Trailing (b - p)) ∷ []
 wayChecks (Short j) b = (eqb j 1, CutShort b) ∷ []
 wayChecks (Wrong j found) b = (true, BadCount j found) ∷ []
 
+-- section 0 and the walk: what is checked of the file alone, without areas
+abbrev pub fileChecks : List ℕ → ℕ → ℕ → List Check
+fileChecks s w p = headChecks s w p ++ wayChecks (wayIn s) (length s)
+
 -- how many detail sections are whole, of l levels
 abbrev pub wholeDetails : Way → ℕ → ℕ
 wholeDetails (Went p) l = l
@@ -77,6 +81,10 @@ levelIn s = let h = headIn s in h .levels - wholeDetails (wayIn s) (h .levels)
 abbrev pub countIn : List ℕ → ℕ
 countIn s = places (levelIn s) (headIn s .samples)
 
+-- "it returns level and count": what is said of the file alone
+unfoldable pub sayFile : List ℕ → ℕ → ℕ → Refusal
+sayFile s w p = firstOf (fileChecks s w p) (Done (levelIn s) (countIn s))
+
 -- the samples of that level
 unfoldable pub samplesIn : List ℕ → List ℕ
 samplesIn s = let h = headIn s in restoredOf (filterOf (h .width)) s (wholeDetails (wayIn s) (h .levels)) (countIn s) headSize
@@ -89,13 +97,20 @@ areaChecks w o u v = cond (isWidth w) (ragged w o ∷ ragged w u ∷ ragged w v 
 abbrev pub roomsFor : ℕ → ℕ → ℕ → ℕ → ℕ → List Check
 roomsFor w c o u v = tight (o / w) c ∷ tight (u / w) c ∷ tight (v / w) c ∷ []
 
--- "it returns level and count"
+-- the areas, the file, and the room for what it gives back
 unfoldable pub sayOpen : List ℕ → ℕ → ℕ → ℕ → ℕ → ℕ → Refusal
 sayOpen s w p o u v = firstOf (areaChecks w o u v ++ (headChecks s w p ++ (wayChecks (wayIn s) (length s) ++ roomsFor w (countIn s) o u v))) (Done (levelIn s) (countIn s))
 
 -- the answer r, and the output and the work areas that opening leaves: "output past the count is unchanged"
 abbrev pub Open : List ℕ → ℕ → ℕ → List ℕ → List ℕ → List ℕ → Answer → List ℕ → List ℕ → List ℕ → Type 0
 Open s w p o u v = Call (sayOpen s w p (length o) (length u) (length v)) (w * countIn s) (samplesIn s ++ drop (w * countIn s) o) o u v
+
+-- a file's own width and point: what its section 0 says, and 1 and 0 where it has none
+unfoldable pub ownWidth : List ℕ → ℕ
+ownWidth s = cond (ltb (length s) headSize) 1 (headIn s .width)
+
+unfoldable pub ownPoint : List ℕ → ℕ
+ownPoint s = cond (ltb (length s) headSize) 0 (headIn s .point)
 
 -- ---- one section
 

@@ -5,7 +5,7 @@ ghost use lib.ListN.{length};
 ghost use Rattle.answers.specs.Checks.{firstOf};
 ghost use Rattle.samples.specs.Integers.{isWidth};
 ghost use Rattle.pyramid.specs.Files.{headSize};
-ghost use Rattle.pyramid.specs.Opens.{filterOf, headIn, startChecks, fieldChecks, headChecks, wayIn, wayChecks, wholeDetails, areaChecks, roomsFor, sayOpen, Open};
+ghost use Rattle.pyramid.specs.Opens.{filterOf, headIn, startChecks, fieldChecks, headChecks, wayIn, wayChecks, wholeDetails, sayFile, areaChecks, roomsFor, sayOpen, Open};
 use crate::MOST_BYTES;
 use crate::restore::restore;
 use crate::walk::Way;
@@ -211,14 +211,10 @@ fn check_rooms(w: usize, level: usize, count: usize, o: usize, u: usize, v: usiz
     Refusal::Done(level, count)
 }
 
-// What opening says.
-fn check_open(s: &[u8], w: usize, p: usize, o: usize, u: usize, v: usize) -> Refusal
-    ensures { λ r. ⌜ r ≡ sayOpen (now (s .entry)) w p o u v ⌝ }
+// What is said of the file alone: level and count, or a refusal.
+pub fn check_file(s: &[u8], w: usize, p: usize) -> Refusal
+    ensures { λ r. ⌜ r ≡ sayFile (now (s .entry)) w p ⌝ }
 {
-    let areas = check_areas(w, o, u, v);
-    if !is_done(areas) {
-        return areas;
-    }
     let head = check_head(s, w, p);
     if !is_done(head) {
         return head;
@@ -230,7 +226,23 @@ fn check_open(s: &[u8], w: usize, p: usize, o: usize, u: usize, v: usize) -> Ref
     }
     let l = levels_in(s);
     let level = l - whole_details(way, l);
-    check_rooms(w, level, places_of(level, samples_in(s)), o, u, v)
+    Refusal::Done(level, places_of(level, samples_in(s)))
+}
+
+// What opening says.
+fn check_open(s: &[u8], w: usize, p: usize, o: usize, u: usize, v: usize) -> Refusal
+    ensures { λ r. ⌜ r ≡ sayOpen (now (s .entry)) w p o u v ⌝ }
+{
+    let areas = check_areas(w, o, u, v);
+    if !is_done(areas) {
+        return areas;
+    }
+    let file = check_file(s, w, p);
+    if !is_done(file) {
+        return file;
+    }
+    let a = numbers(file);
+    check_rooms(w, a.first as usize, a.second as usize, o, u, v)
 }
 
 // The samples of the finest level that the file lets see, to the front of the output.
@@ -240,10 +252,8 @@ pub fn open(s: &[u8], w: usize, p: usize, out: &mut [u8], one: &mut [u8], two: &
     let said = check_open(s, w, p, out.len(), one.len(), two.len());
     let r = numbers(said);
     if is_done(said) {
-        let l = levels_in(s);
-        let m = whole_details(way_in(s), l);
-        let count = places_of(l - m, samples_in(s));
-        restore(filter_of(w), s, m, count, 14, out, one);
+        let m = levels_in(s) - r.first as usize;
+        restore(filter_of(w), s, m, r.second as usize, 14, out, one);
     }
     r
 }

@@ -26,8 +26,8 @@ use Rattle.samples.proofs.Words.{length-words}
 use Rattle.dwt.specs.declared.filter.Filter.{Filter}
 use Rattle.dwt.specs.Filters.{widthOf, waveletOf}
 use Rattle.dwt.specs.Pyramids.{lengthsOf}
-use Rattle.dwt.specs.Calls.{multiChecks, sayMulti, dwtChecks, sayDwt, Ready}
-use Rattle.dwt.specs.Backward.{total, bandChecks, roomChecks, wholeChecks, backChecks, sayBack, mostLevels, Fits, Rising}
+use Rattle.dwt.specs.Calls.{roomChecks, multiChecks, sayMulti, dwtChecks, sayDwt, Ready}
+use Rattle.dwt.specs.Backward.{total, bandChecks, wholeChecks, backChecks, sayBack, mostLevels, Fits, Rising}
 use Rattle.dwt.proofs.Cuts.{width-pos}
 use Rattle.trips.proofs.Lengths.{places-total}
 

@@ -21,7 +21,7 @@ use Rattle.samples.specs.Le.{Bytes}
 use Rattle.samples.specs.Words.{tabulate, wordsOf, bytesOf}
 use Rattle.samples.proofs.Words.{tabulate-same, tabulate-getD, length-words, length-bytes, words-bytes}
 use Rattle.dwt.specs.declared.filter.Filter.{Filter}
-use Rattle.dwt.specs.Filters.{widthOf, waveletOf, lowOf, highOf, Integers}
+use Rattle.dwt.specs.Filters.{widthOf, waveletOf, highOf, Integers}
 use Rattle.dwt.specs.Pyramids.{approxAt, pyramid, samplesOf, detailsAt, lengthsOf, roundTrip}
 use Rattle.dwt.specs.Calls.{sayMulti, Multi, sayDwt, Dwt, Ready}
 use Rattle.dwt.specs.Backward.{total, sayBack, MultiBack, Area, LengthsIn}
@@ -62,7 +62,7 @@ lengths-in l n h =
 
 -- ---- `multi_dwt` is done with the samples x
 
-module _ {f : Filter} (l : ℕ) (x : List ℕ) {o u v : List ℕ} {r : Answer} {o′ u′ v′ : List ℕ} (call : Multi f l x o u v r o′ u′ v′)
+module _ (f : Filter) (l : ℕ) (x : List ℕ) {o u v : List ℕ} {r : Answer} {o′ u′ v′ : List ℕ} (call : Multi f l x o u v r o′ u′ v′)
     (isDone : done (sayMulti f l (length x) (length o) (length u) (length v)) ≡ true) where
   -- the samples of x, and where the details start in the output
   abbrev count : ℕ
@@ -151,7 +151,7 @@ module _ {f : Filter} (l : ℕ) (x : List ℕ) {o u v : List ℕ} {r : Answer} {
 some-levels : (c : ℕ) → 0 < c → levelsOf c ≡ c
 some-levels c h = rw (ne-eqb c 0 (λ z. omega arith))
 
-module _ {f : Filter} (a d ls : List ℕ) {o u v : List ℕ} {r : Answer} {o′ u′ v′ : List ℕ} (call : MultiBack f a d ls o u v r o′ u′ v′)
+module _ (f : Filter) (a d ls : List ℕ) {o u v : List ℕ} {r : Answer} {o′ u′ v′ : List ℕ} (call : MultiBack f a d ls o u v r o′ u′ v′)
     (isDone : done (sayBack f (length a) (length d) ls (length o) (length u) (length v)) ≡ true) where
   -- `multi_dwt` on its output, with as many levels as there are lengths, into an output as long, is done and of an integer filter gives the bands
   pub again-call : {p s t : List ℕ} {q : Answer} {p′ s′ t′ : List ℕ} → Integers f → Bytes a → Bytes d → length p ≡ length o′ → Area (widthOf f) (length o′) s → Area (widthOf f) (length o′) t
