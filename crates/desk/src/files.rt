@@ -1,0 +1,76 @@
+// Pyramid files: writing, opening, and where a section is.
+ghost use mathlib.Core.Path.{_≡_};
+ghost use Rattle.answers.specs.Answers.{answerOf};
+ghost use Rattle.pyramid.specs.Writes.{Write};
+ghost use Rattle.pyramid.specs.Opens.{Open, saySection};
+use answers::err::Answer;
+use dwt::filter::Filter;
+use pyramid::open::open;
+use pyramid::section::section_answer;
+use pyramid::write::write;
+
+// The pyramid file.
+
+#[no_mangle]
+pub extern "C" fn bk_pyramid_write_i8(
+    x: &[u8],
+    levels: u32,
+    point: u32,
+    file: &mut [u8],
+    one: &mut [u8],
+    two: &mut [u8],
+) -> Answer
+    ensures { λ r. ⌜ Write Filter.Cdf53I8 levels point (now (x .entry)) (now (file .entry)) (now (one .entry)) (now (two .entry)) r (now (file .exit)) (now (one .exit)) (now (two .exit)) ⌝ }
+{
+    write(Filter::Cdf53I8, levels as usize, point, x, file, one, two)
+}
+
+#[no_mangle]
+pub extern "C" fn bk_pyramid_write_i16(
+    x: &[u8],
+    levels: u32,
+    point: u32,
+    file: &mut [u8],
+    one: &mut [u8],
+    two: &mut [u8],
+) -> Answer
+    ensures { λ r. ⌜ Write Filter.Cdf53I16 levels point (now (x .entry)) (now (file .entry)) (now (one .entry)) (now (two .entry)) r (now (file .exit)) (now (one .exit)) (now (two .exit)) ⌝ }
+{
+    write(Filter::Cdf53I16, levels as usize, point, x, file, one, two)
+}
+
+#[no_mangle]
+pub extern "C" fn bk_pyramid_write_i32(
+    x: &[u8],
+    levels: u32,
+    point: u32,
+    file: &mut [u8],
+    one: &mut [u8],
+    two: &mut [u8],
+) -> Answer
+    ensures { λ r. ⌜ Write Filter.Cdf53I32 levels point (now (x .entry)) (now (file .entry)) (now (one .entry)) (now (two .entry)) r (now (file .exit)) (now (one .exit)) (now (two .exit)) ⌝ }
+{
+    write(Filter::Cdf53I32, levels as usize, point, x, file, one, two)
+}
+
+#[no_mangle]
+pub extern "C" fn bk_pyramid_open(
+    file: &[u8],
+    width: u32,
+    point: u32,
+    out: &mut [u8],
+    one: &mut [u8],
+    two: &mut [u8],
+) -> Answer
+    ensures { λ r. ⌜ Open (now (file .entry)) width point (now (out .entry)) (now (one .entry)) (now (two .entry)) r (now (out .exit)) (now (one .exit)) (now (two .exit)) ⌝ }
+{
+    open(file, width as usize, point as usize, out, one, two)
+}
+
+// Where a section starts after its count, and how long it is: a part of the caller's own file.
+#[no_mangle]
+pub extern "C" fn bk_pyramid_section(file: &[u8], width: u32, point: u32, number: u32) -> Answer
+    ensures { λ r. ⌜ r ≡ answerOf (saySection (now (file .entry)) width point number) ⌝ }
+{
+    section_answer(file, width as usize, point as usize, number as usize)
+}
