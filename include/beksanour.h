@@ -140,8 +140,8 @@ bk_answer bk_cdf97_forward_f64(const uint8_t *input, size_t input_bytes, uint8_t
  * of the factors changed (a scaling with its two factors exchanged), into `output`: the bits are what these steps give, each
  * addition and each multiplication rounded once. In 5/3 the bands of whole numbers of size at most 2^20 (f32) or 2^49 (f64)
  * give these numbers back exactly, except that a zero may change sign. Nothing is promised of how near other samples come back:
- * rounding and overflow are the caller's to bear. For example 3e38, 0, 3e38 in f32 comes back from 5/3 as three NaN, since 3e38
- * + 3e38 is too large for f32.
+ * rounding and overflow are the caller's to bear. For example 3e38, 0, 3e38 in f32 comes back from 5/3 as three NaN, since twice
+ * 3e38 is too large for f32.
  *
  * Refused, in this order:
  *   9 (0, length)        a slice's byte length is no multiple of the width: the first of approx, details, output
