@@ -112,9 +112,12 @@ bk_answer bk_cdf53_inverse_i32(const uint8_t *approx, size_t approx_bytes, const
 
 /*
  * One level of float 5/3 or 9/7 of the samples in `input`, 32 or 64 bits each, IEEE 754, little-endian: their ceil(n/2)
- * approximations into `approx`, their floor(n/2) details into `details`. Each addition and each multiplication is rounded once,
- * to nearest even, and none is fused, so that the bits are the same on every machine. Every bit pattern is taken. A result that
- * is NaN is written as 7FC00000 or 7FF8000000000000.
+ * approximations into `approx`, their floor(n/2) details into `details`. 5/3 is d[i] = (x[2i] + x[2i+2]) * -0.5 + x[2i+1], then
+ * a[i] = (d[i-1] + d[i]) * 0.25 + x[2i], where an even sample after the last is the last, d[-1] is d[0], and a detail after the
+ * last is the last; 9/7 is four such steps and then a scaling of both bands, with osclet's six factors. Each addition and each
+ * multiplication is rounded once, to nearest even, and none is fused: the bits are what these steps give, the same on every
+ * machine. Every bit pattern is taken, and nothing is refused for what a sample is. A result that is NaN is written as 7FC00000
+ * or 7FF8000000000000.
  *
  * Refused, in this order:
  *   9 (0, length)   a slice's byte length is no multiple of the width: the first of input, approx, details
@@ -133,9 +136,12 @@ bk_answer bk_cdf97_forward_f64(const uint8_t *input, size_t input_bytes, uint8_t
                                uint8_t *details, size_t details_bytes);
 
 /*
- * The samples whose approximations are in `approx` and details in `details`, into `output`: the same steps, last first. What
- * comes back is near the samples that went forward and not always equal to them. It is equal in 5/3 for whole numbers of size
- * at most 2^20 (f32) or 2^49 (f64), except that a zero may change sign.
+ * What the same steps make of the approximations in `approx` and the details in `details`, last step first and with the signs
+ * of the factors changed (a scaling with its two factors exchanged), into `output`: the bits are what these steps give, each
+ * addition and each multiplication rounded once. In 5/3 the bands of whole numbers of size at most 2^20 (f32) or 2^49 (f64)
+ * give these numbers back exactly, except that a zero may change sign. Nothing is promised of how near other samples come back:
+ * rounding and overflow are the caller's to bear. For example 3e38, 0, 3e38 in f32 comes back from 5/3 as three NaN, since twice
+ * 3e38 is too large for f32.
  *
  * Refused, in this order:
  *   9 (0, length)        a slice's byte length is no multiple of the width: the first of approx, details, output
@@ -228,10 +234,11 @@ bk_answer bk_cdf97_multi_dwt_f64(const uint8_t *signal, size_t signal_bytes, uin
 /*
  * The samples of a recording back from its many levels: the deepest approximations in `approx`, the details of all levels in
  * `details`, deepest first, and in `lengths` how many details each level has, in that order, each a u32, little-endian. Into
- * `output` n samples, as many as there are in `approx` and `details` together. Integers come back as they went into multi_dwt,
- * floats come back near; in 5/3 of L levels they come back equal for whole numbers of size at most 2^(24-4L), L to 6 (f32), or
- * 2^(53-4L), L to 13 (f64), except that a zero may change sign. `work1` and `work2` are room for n samples each; what their
- * first n samples hold after a done call is not said, and what is beyond them is as it was.
+ * `output` n samples, as many as there are in `approx` and `details` together. Integers come back as they went into multi_dwt.
+ * Floats are what the inverse of each level gives, to the bit; in 5/3 of L levels whole numbers of size at most 2^(24-4L), L to
+ * 6 (f32), or 2^(53-4L), L to 13 (f64), come back exactly, except that a zero may change sign, and of other floats nothing is
+ * promised of how near they come back: rounding and overflow are the caller's to bear. `work1` and `work2` are room for n
+ * samples each; what their first n samples hold after a done call is not said, and what is beyond them is as it was.
  *
  * Refused, in this order:
  *   9 (0, length)        a slice's byte length is no multiple of the width, or that of lengths of 4: the first of approx,
