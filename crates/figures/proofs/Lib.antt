@@ -1,3 +1,5 @@
 pub mod Files
 pub mod Table
+pub mod Fused
+pub mod Done
 pub mod ShutOut

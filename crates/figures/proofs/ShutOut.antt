@@ -10,7 +10,7 @@ use Rattle.answers.specs.Answers.{answerOf}
 use Rattle.answers.specs.Checks.{left}
 use Rattle.sizes.specs.declared.Wavelet.the-variants.{Cdf53}
 use Rattle.sizes.specs.Calls.{sayForward, sayInverse}
-use Rattle.sizes.specs.Levels.{places, depthWithin, depthFrom, sayDepth}
+use Rattle.sizes.specs.Levels.{places, depthWithin, depthFrom}
 use Rattle.notes.specs.Notes.{spanOf, sayColumn, saySpan}
 use Rattle.notes.specs.Windows.{sayWindow}
 use Rattle.samples.specs.Le.{leAt, leBytes}
@@ -24,12 +24,13 @@ use Rattle.dwt.specs.Pyramids.{approxAt, pyramid, samplesOf}
 use Rattle.dwt.specs.Calls.{sayDwt, sayMulti, OneForward, OneInverse, Dwt, Multi}
 use Rattle.dwt.specs.Backward.{total, bandChecks, sayBack, MultiBack}
 use Rattle.pyramid.specs.Sees.{OpensTo}
-use Rattle.pyramid.specs.Writes.{sayWrite}
 use Rattle.pyramid.specs.Walks.{oneOf, walkOf}
 use Rattle.pyramid.specs.Opens.{countIn, samplesIn, Open, saySection, sectionIn}
 use Rattle.figures.specs.Worked.{five, thirtyOne}
 use Rattle.figures.specs.ShutOut.{splitOnly, restSplit, detailsUp, three, one0, two0, three0, five0, lengths, NotAllRefused, ShutOut}
 use Rattle.figures.proofs.Files.{p6-to-p10}
+use Rattle.figures.proofs.Fused.{fused-differs}
+use Rattle.figures.proofs.Done.{deep, each-done}
 
 -- lists that differ at place i
 differ : {x y : List ℕ} (i : ℕ) → (getD x i 0 ≡ getD y i 0 → ⊥) → x ≡ y → ⊥
@@ -56,14 +57,6 @@ says-down = refl
 says-back : sayBack Cdf53I8 2 3 lengths 5 5 5 ≡ Done 0 0
 unfolding sayBack total bandChecks leAt tabulate wordAt wordsOf
 says-back = refl
-
-says-write : sayWrite Cdf53I8 2 5 31 5 5 ≡ Done 0 0
-unfolding sayWrite depthFrom depthWithin
-says-write = refl
-
-says-depth : sayDepth Cdf53 5 ≡ Done 2 0
-unfolding depthFrom depthWithin
-says-depth = refl
 
 says-column : sayColumn 5 1 3 ≡ Done 1 0
 unfolding sayColumn depthFrom depthWithin
@@ -92,10 +85,6 @@ section-two = rw says-section refl
 says-short : (sayMulti Cdf53I8 1 2 2 2 2 ≡ MinFilterSize 2 3) × (sayMulti Cdf53F32 1 8 8 8 8 ≡ BufferWasTooSmallForLevel)
 unfolding sayMulti depthFrom depthWithin
 says-short = (refl, refl)
-
--- the number of a done answer
-number-of : {r : Answer} {a b : ℕ} → r ≡ answerOf (Done a b) → r .number ≡ 0
-number-of e = ap (λ (q : Answer). q .number) e
 
 -- ---- what is left, of calls that are done with the inputs
 
@@ -140,21 +129,7 @@ opened {s} e m = (
 )
 
 not-all-refused : NotAllRefused
-not-all-refused =
-    record {
-      forward = λ m. number-of (m .answer ∙ ap answerOf says-forward);
-      inverse = λ m. number-of (m .answer ∙ ap answerOf says-inverse);
-      last = λ m. number-of (m .answer ∙ ap answerOf says-last);
-      down = λ m. number-of (m .answer ∙ ap answerOf says-down);
-      back = λ m. number-of (m .answer ∙ ap answerOf says-back);
-      writes = λ m. number-of (m .answer ∙ ap answerOf says-write);
-      opens = λ m. number-of (opened (p6-to-p10 .p10) m .0);
-      depth = says-depth;
-      section = says-section;
-      column = says-column;
-      span = says-span;
-      window = says-window;
-    }
+not-all-refused = record { calls = each-done; depth = λ w. ap (λ l. Done l 0) (deep w); section = says-section; column = says-column; span = says-span; window = says-window }
 
 pub shut-out : ShutOut
 unfolding leAt leBytes tabulate wordAt wordsOf bytesOf val residue wrap decode encode detail details approx approxs low high approxAt evenOf oddOf splitOnly restSplit detailsUp
@@ -174,6 +149,7 @@ shut-out =
       section-is = section-two;
       toward-zero = λ m e. differ 0 (λ h. omega arith) (sym (ap (take 2) (levels m)) ∙ e);
       before-the-wrap = λ m e. differ 0 (λ h. omega arith) (sym (wrapped m) ∙ e);
+      fused = fused-differs;
       short-integer = says-short .0;
       short-float = says-short .1;
     }

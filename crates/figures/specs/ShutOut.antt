@@ -1,22 +1,31 @@
 -- Document 01, "Programs to be shut out": for each an input on which what the statement allows is not what that program would give. Samples are 8 bits wide, so
--- a byte is a sample; the inputs are those of P1 and P5.
+-- a byte is a sample, and the inputs are those of P1 and P5, unless a filter is named.
 -- Assumes nothing: these are definitions.
 use mathlib.Core.List.{List, [], _∷_, _++_}
 use mathlib.Core.Path.{_≡_}
-use Prim.Native.Nat.{ℕ, zero, suc}
-use lib.ListN.{take}
+use Prim.Native.Nat.{ℕ, zero, suc, _*_}
+use lib.Ieee.{Float, nan, inf, fin, binary32, unlike, add, mul}
+use lib.IntN.{_+ℤ_}
+use lib.ListN.{length, take}
 use Rattle.answers.specs.declared.err.Answer.{Answer}
 use Rattle.answers.specs.declared.err.Refusal.the-variants.{Done, MinFilterSize, BufferWasTooSmallForLevel}
-use Rattle.sizes.specs.declared.Wavelet.the-variants.{Cdf53}
+use Rattle.sizes.specs.declared.Wavelet.{Wavelet}
+use Rattle.sizes.specs.declared.Wavelet.the-variants.{Cdf97}
 use Rattle.sizes.specs.Levels.{sayDepth}
 use Rattle.notes.specs.Notes.{sayColumn, saySpan}
 use Rattle.notes.specs.Windows.{sayWindow}
 use Rattle.samples.specs.Halves.{evenOf, oddOf}
-use Rattle.dwt.specs.declared.filter.Filter.the-variants.{Cdf53I8, Cdf53F32}
-use Rattle.dwt.specs.Filters.{lowOf, highOf}
+use Rattle.samples.specs.Le.{Bytes}
+use Rattle.samples.specs.Floats.{decodeFloats, encodeFloats}
+use Rattle.floats.specs.Steps.{Step, oddly, evenly, scaling, odds, evens, scaled}
+use Rattle.floats.specs.Filters.{stepsOf}
+use Rattle.dwt.specs.declared.filter.Filter.{Filter}
+use Rattle.dwt.specs.declared.filter.Filter.the-variants.{Cdf53I8, Cdf53F32, Cdf97F32}
+use Rattle.dwt.specs.Filters.{widthOf, lowOf, highOf, Integers}
 use Rattle.dwt.specs.Pyramids.{approxAt}
 use Rattle.dwt.specs.Calls.{OneForward, OneInverse, Dwt, sayMulti, Multi}
 use Rattle.dwt.specs.Backward.{MultiBack}
+use Rattle.pyramid.specs.Files.{fileSize, fileOf}
 use Rattle.pyramid.specs.Writes.{Write}
 use Rattle.pyramid.specs.Opens.{Open, saySection, sectionIn}
 use Rattle.figures.specs.Worked.{five, thirtyOne}
@@ -36,6 +45,38 @@ restSplit l x = splitOnly l (lowOf Cdf53I8 x) ++ highOf Cdf53I8 x
 unfoldable pub detailsUp : ℕ → List ℕ → List ℕ
 detailsUp zero x = []
 detailsUp (suc l) x = highOf Cdf53I8 x ++ detailsUp l (lowOf Cdf53I8 x)
+
+-- the product of two floats, of any number of digits: a fused step does not round it
+unfoldable pub product : Float → Float → Float
+product nan y = nan
+product (inf s) y = mul binary32 (inf s) y
+product (fin s m e) nan = nan
+product (fin s m e) (inf t) = mul binary32 (fin s m e) (inf t)
+product (fin s m e) (fin t n d) = fin (unlike s t) (m * n) (e +ℤ d)
+
+-- (l + r) * c + x as a fused step: the sum l + r is rounded, the product is not, and the sum with x is
+unfoldable pub fusedLift : Float → Float → Float → Float → Float
+fusedLift c l r x = add binary32 (product (add binary32 l r) c) x
+
+-- the two lists after a schedule of such steps
+unfoldable pub fusedA : List Step → List Float → List Float → List Float
+fusedA [] a d = a
+fusedA (oddly c ∷ ss) a d = fusedA ss a (odds (fusedLift c) nan a d)
+fusedA (evenly c ∷ ss) a d = fusedA ss (evens (fusedLift c) nan a d) d
+fusedA (scaling p q ∷ ss) a d = fusedA ss (scaled binary32 p a) (scaled binary32 q d)
+
+unfoldable pub fusedD : List Step → List Float → List Float → List Float
+fusedD [] a d = d
+fusedD (oddly c ∷ ss) a d = fusedD ss a (odds (fusedLift c) nan a d)
+fusedD (evenly c ∷ ss) a d = fusedD ss (evens (fusedLift c) nan a d) d
+fusedD (scaling p q ∷ ss) a d = fusedD ss (scaled binary32 p a) (scaled binary32 q d)
+
+-- one level of 9/7 in f32 by them, on bytes
+unfoldable pub fusedLow : List ℕ → List ℕ
+fusedLow x = encodeFloats binary32 (fusedA (stepsOf binary32 Cdf97) (evenOf nan (decodeFloats binary32 x)) (oddOf nan (decodeFloats binary32 x)))
+
+unfoldable pub fusedHigh : List ℕ → List ℕ
+fusedHigh x = encodeFloats binary32 (fusedD (stepsOf binary32 Cdf97) (evenOf nan (decodeFloats binary32 x)) (oddOf nan (decodeFloats binary32 x)))
 
 -- ---- the inputs
 
@@ -60,17 +101,38 @@ five0 = 0 ∷ 0 ∷ 0 ∷ 0 ∷ 0 ∷ []
 abbrev pub lengths : List ℕ
 lengths = 1 ∷ 0 ∷ 0 ∷ 0 ∷ 2 ∷ 0 ∷ 0 ∷ 0 ∷ []
 
--- ---- "one that refuses everything": each call is done with these
+-- 0, 1, 0, 1 in f32, and two lent bands of two samples
+abbrev pub fourFloats : List ℕ
+fourFloats = 0 ∷ 0 ∷ 0 ∷ 0 ∷ 0 ∷ 0 ∷ 0x80 ∷ 0x3F ∷ 0 ∷ 0 ∷ 0 ∷ 0 ∷ 0 ∷ 0 ∷ 0x80 ∷ 0x3F ∷ []
+
+abbrev pub eight0 : List ℕ
+eight0 = 0 ∷ 0 ∷ 0 ∷ 0 ∷ 0 ∷ 0 ∷ 0 ∷ 0 ∷ []
+
+-- ---- "one that refuses everything"
+
+-- s is as long as n samples of f
+abbrev pub Long : Filter → ℕ → List ℕ → Type 0
+Long f n s = length s ≡ widthOf f * n
+
+-- the lengths of details of two levels of eight samples, 2 and 4, as u32 numbers
+abbrev pub twoFour : List ℕ
+twoFour = 2 ∷ 0 ∷ 0 ∷ 0 ∷ 4 ∷ 0 ∷ 0 ∷ 0 ∷ []
+
+-- one level and two levels of any eight samples, in lent slices that are just as long as they have to be: each call of the filter is done
+pub record EachDone (f : Filter) : Type 0 where
+  pub forward : {x a d : List ℕ} {r : Answer} {a′ d′ : List ℕ} → Long f 8 x → Long f 4 a → Long f 4 d → OneForward f x a d r a′ d′ → r .number ≡ 0
+  pub inverse : {a d o : List ℕ} {r : Answer} {o′ : List ℕ} → Long f 4 a → Long f 4 d → Long f 8 o → OneInverse f a d o r o′ → r .number ≡ 0
+  pub last : {x a d u v : List ℕ} {r : Answer} {a′ d′ u′ v′ : List ℕ} → Long f 8 x → Long f 2 a → Long f 2 d → Long f 8 u → Long f 8 v → Dwt f 2 x a d u v r a′ d′ u′ v′ → r .number ≡ 0
+  pub down : {x o u v : List ℕ} {r : Answer} {o′ u′ v′ : List ℕ} → Long f 8 x → Long f 8 o → Long f 8 u → Long f 8 v → Multi f 2 x o u v r o′ u′ v′ → r .number ≡ 0
+  pub back : {a d o u v : List ℕ} {r : Answer} {o′ u′ v′ : List ℕ} → Long f 2 a → Long f 6 d → Long f 8 o → Long f 8 u → Long f 8 v → MultiBack f a d twoFour o u v r o′ u′ v′ → r .number ≡ 0
+  pub writes : Integers f → {x b u v : List ℕ} {r : Answer} {b′ u′ v′ : List ℕ} → Long f 8 x → length b ≡ fileSize (widthOf f) 2 8 → Long f 8 u → Long f 8 v → Write f 2 14 x b u v r b′ u′ v′
+      → r .number ≡ 0
+  pub opens : Integers f → {x o u v : List ℕ} {r : Answer} {o′ u′ v′ : List ℕ} → Bytes x → Long f 8 x → Long f 8 o → Long f 8 u → Long f 8 v → Open (fileOf f 2 14 x) (widthOf f) 14 o u v r o′ u′ v′
+      → r .number ≡ 0
 
 pub record NotAllRefused : Type 0 where
-  pub forward : {r : Answer} {a d : List ℕ} → OneForward Cdf53I8 three two0 one0 r a d → r .number ≡ 0
-  pub inverse : {r : Answer} {o : List ℕ} → OneInverse Cdf53I8 (3 ∷ 4 ∷ []) (4 ∷ []) three0 r o → r .number ≡ 0
-  pub last : {r : Answer} {a d u v : List ℕ} → Dwt Cdf53I8 2 five two0 one0 five0 five0 r a d u v → r .number ≡ 0
-  pub down : {r : Answer} {o u v : List ℕ} → Multi Cdf53I8 2 five five0 five0 five0 r o u v → r .number ≡ 0
-  pub back : {r : Answer} {o u v : List ℕ} → MultiBack Cdf53I8 (255 ∷ 3 ∷ []) (248 ∷ 5 ∷ 0 ∷ []) lengths five0 five0 five0 r o u v → r .number ≡ 0
-  pub writes : {r : Answer} {s u v : List ℕ} → Write Cdf53I8 2 14 five thirtyOne five0 five0 r s u v → r .number ≡ 0
-  pub opens : {r : Answer} {o u v : List ℕ} → Open thirtyOne 1 14 five0 five0 five0 r o u v → r .number ≡ 0
-  pub depth : sayDepth Cdf53 5 ≡ Done 2 0
+  pub calls : (f : Filter) → EachDone f
+  pub depth : (w : Wavelet) → sayDepth w 8 ≡ Done 2 0
   pub section : saySection thirtyOne 1 14 2 ≡ Done 24 1
   pub column : sayColumn 5 1 3 ≡ Done 1 0
   pub span : saySpan 5 1 1 ≡ Done 2 3
@@ -104,6 +166,8 @@ pub record ShutOut : Type 0 where
   pub toward-zero : {r : Answer} {o u v : List ℕ} → Multi Cdf53I8 2 five five0 five0 five0 r o u v → take 2 o ≡ 0 ∷ 4 ∷ [] → ⊥
   -- "updating evens from details before they wrapped": P3's -255 would leave 127 - 127, 0
   pub before-the-wrap : {r : Answer} {a d : List ℕ} → OneForward Cdf53I8 (127 ∷ 128 ∷ 127 ∷ []) two0 one0 r a d → a ≡ two0 → ⊥
+  -- a fused step, one rounding where document 01 has two: both bands differ, in each of their floats
+  pub fused : {r : Answer} {a d : List ℕ} → OneForward Cdf97F32 fourFloats eight0 eight0 r a d → (a ≡ fusedLow fourFloats → ⊥) × (d ≡ fusedHigh fourFloats → ⊥)
   -- 4 where one level of a short integer input is 1, or 1 where it is 4 in the float filters
   pub short-integer : sayMulti Cdf53I8 1 2 2 2 2 ≡ MinFilterSize 2 3
   pub short-float : sayMulti Cdf53F32 1 8 8 8 8 ≡ BufferWasTooSmallForLevel

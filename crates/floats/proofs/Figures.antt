@@ -1,8 +1,8 @@
 -- Document 01's figure of a float filter, by computing: f32 1, 5, 2: a 2.75, 3.75; d 3.5. And back. Assumes nothing.
-use mathlib.Core.Bool.{false, true}
+use mathlib.Core.Bool.{false}
 use mathlib.Core.List.{List, [], _∷_}
 use mathlib.Core.Path.{_≡_, refl}
-use lib.Ieee.{Float, binary32, binary64, add, mul, round}
+use lib.Ieee.{Float, binary32, add, mul, round}
 use Rattle.sizes.specs.declared.Wavelet.the-variants.{Cdf53}
 use Rattle.samples.specs.Words.{tabulate}
 use Rattle.samples.specs.Halves.{evenOf, oddOf, joined}
@@ -22,14 +22,3 @@ high = decimal binary32 false 35 1 ∷ []
 pub figure : (approxs binary32 Cdf53 samples ≡ low) × (details binary32 Cdf53 samples ≡ high) × (restored binary32 Cdf53 low high ≡ samples)
 unfolding approxs details restored steps53 back53 decimal tabulate evenOf oddOf joined odds evens oddAt evenAt lift add mul round
 figure = (refl, refl, refl)
-
--- ---- what another rounding would give
-
--- 1 + 2^-12 squared, less 1: the product, rounded, loses its last bit, which a fused step would keep
-abbrev near : Float
-near = decimal binary32 false 1000244140625 12
-
-pub fused-differs : (add binary32 (mul binary32 near near) (decimal binary32 true 1 0) ≡ decimal binary32 false 48828125 11)
-    × (add binary32 (mul binary64 near near) (decimal binary32 true 1 0) ≡ decimal binary32 false 488340854644775390625 24)
-unfolding decimal add mul round
-fused-differs = (refl, refl)

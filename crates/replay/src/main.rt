@@ -1,22 +1,21 @@
-// The Rust's stored answers, asked of the desk's functions again. data/README says how a list of them is laid out.
+// The Rust's stored answers, asked of the calls behind the desk's functions again. data/README says how a list of them is laid out.
 ghost use Prim.Native.Nat.{_+_, _≤_, _<_};
 ghost use mathlib.Core.Path.{_≡_};
 ghost use lib.ListN.{length};
 ghost use Rattle.io.specs.Counts.{Counts};
 use answers::err::Answer;
 use check::same;
+use dwt::back::multi_idwt;
+use dwt::filter::Filter;
+use dwt::filter::execute_forward;
+use dwt::filter::execute_inverse;
+use dwt::last::dwt;
+use dwt::levels::multi_dwt;
 use libc::STDOUT_FILENO;
 use samples::le::read_u16;
 use samples::le::read_u32;
 
-// A record's filter.
-const INTEGER53: u8 = 0;
-
-const FLOAT53: u8 = 1;
-
-const FLOAT97: u8 = 2;
-
-// A record gone through: where the next one starts, or 0 where it does not fit; whether the desk says and leaves the same.
+// A record gone through: where the next one starts, or 0 where it does not fit; whether the call says and leaves the same.
 struct Step {
     next: usize,
     same: bool,
@@ -70,61 +69,26 @@ fn no_such_call() -> Answer {
     }
 }
 
-// The forward call of a filter and a width.
-fn ask_forward(
-    filter: u8,
-    width: u8,
-    input: &[u8],
-    approx: &mut [u8],
-    details: &mut [u8],
-) -> Answer {
-    match filter {
-        INTEGER53 => match width {
-            1 => desk::bk_cdf53_forward_i8(input, approx, details),
-            2 => desk::bk_cdf53_forward_i16(input, approx, details),
-            4 => desk::bk_cdf53_forward_i32(input, approx, details),
-            _ => no_such_call(),
-        },
-        FLOAT53 => match width {
-            4 => desk::bk_cdf53_forward_f32(input, approx, details),
-            8 => desk::bk_cdf53_forward_f64(input, approx, details),
-            _ => no_such_call(),
-        },
-        FLOAT97 => match width {
-            4 => desk::bk_cdf97_forward_f32(input, approx, details),
-            8 => desk::bk_cdf97_forward_f64(input, approx, details),
-            _ => no_such_call(),
-        },
-        _ => no_such_call(),
+// A record's filter, of whose numbers the last stands for every other byte too: no list has one.
+fn filter_of(b: u8) -> Filter {
+    match b {
+        0 => Filter::Cdf53I8,
+        1 => Filter::Cdf53I16,
+        2 => Filter::Cdf53I32,
+        3 => Filter::Cdf53F32,
+        4 => Filter::Cdf53F64,
+        5 => Filter::Cdf97F32,
+        _ => Filter::Cdf97F64,
     }
 }
 
-// The inverse call of a filter and a width.
-fn ask_inverse(filter: u8, width: u8, approx: &[u8], details: &[u8], output: &mut [u8]) -> Answer {
-    match filter {
-        INTEGER53 => match width {
-            1 => desk::bk_cdf53_inverse_i8(approx, details, output),
-            2 => desk::bk_cdf53_inverse_i16(approx, details, output),
-            4 => desk::bk_cdf53_inverse_i32(approx, details, output),
-            _ => no_such_call(),
-        },
-        FLOAT53 => match width {
-            4 => desk::bk_cdf53_inverse_f32(approx, details, output),
-            8 => desk::bk_cdf53_inverse_f64(approx, details, output),
-            _ => no_such_call(),
-        },
-        FLOAT97 => match width {
-            4 => desk::bk_cdf97_inverse_f32(approx, details, output),
-            8 => desk::bk_cdf97_inverse_f64(approx, details, output),
-            _ => no_such_call(),
-        },
-        _ => no_such_call(),
-    }
-}
-
-// A byte as the number of an answer.
+// A byte as the number of an answer, and as levels.
 fn wide(b: u8) -> u32 {
     b as u32
+}
+
+fn levels_of(b: u8) -> usize {
+    b as usize
 }
 
 // Whether an answer is the one that stands at a place.
@@ -140,15 +104,52 @@ fn same_answer(s: &[u8], at: usize, a: Answer) -> bool
     a.second == read_u32(s, at + 5) as u64
 }
 
-// A forward record from its width on: the input, and the two bands, which are lent.
-fn forward(filter: u8, s: &[u8], at: usize) -> Step
-    requires { ⌜ (at ≤ length (now s)) × (length (now s) ≤ 65536) ⌝ }
+// A call by its number, which reads up to three slices and is lent up to two. Work areas are as long as any slice.
+fn call(
+    verb: u8,
+    f: Filter,
+    levels: usize,
+    x: &[u8],
+    y: &[u8],
+    z: &[u8],
+    a: &mut [u8],
+    d: &mut [u8],
+) -> Answer {
+    let mut one = [0u8; 256];
+    let mut two = [0u8; 256];
+    match verb {
+        1 => execute_forward(f, x, a, d),
+        2 => execute_inverse(f, x, y, a),
+        3 => dwt(f, levels, x, a, d, &mut one, &mut two),
+        4 => multi_dwt(f, levels, x, a, &mut one, &mut two),
+        5 => multi_idwt(f, x, y, z, a, &mut one, &mut two),
+        _ => no_such_call(),
+    }
+}
+
+// The call of the record at a place: its number, filter and levels stand there, then the three slices that it reads, which end at x, y and z.
+fn ask(s: &[u8], at: usize, x: usize, y: usize, z: usize, a: &mut [u8], d: &mut [u8]) -> Answer
+    requires { ⌜ (at + 5 ≤ x) × (x + 2 ≤ y) × (y + 2 ≤ z) × (z ≤ length (now s)) × (length (now s) ≤ 65536) ⌝ }
+{
+    let f = filter_of(s[at + 1]);
+    let levels = levels_of(s[at + 2]);
+    let first = &s[at + 5..x];
+    let second = &s[x + 2..y];
+    let third = &s[y + 2..z];
+    call(s[at], f, levels, first, second, third, a, d)
+}
+
+// A record: its call, filter and levels, three slices, two that are lent, the answer, and the two as they are left.
+fn replay(s: &[u8], at: usize) -> Step
+    requires { ⌜ (at < length (now s)) × (length (now s) ≤ 65536) ⌝ }
     ensures { λ r. ⌜ r .next ≤ length (now (s .entry)) ⌝ }
 {
-    let x_end = slice_end(s, at + 1);
-    let a_end = slice_end(s, x_end);
+    let x_end = slice_end(s, at + 3);
+    let y_end = slice_end(s, x_end);
+    let z_end = slice_end(s, y_end);
+    let a_end = slice_end(s, z_end);
     let d_end = slice_end(s, a_end);
-    let a_len = a_end - x_end - 2;
+    let a_len = a_end - z_end - 2;
     let d_len = d_end - a_end - 2;
     let after = d_end + 9;
     let middle = after + a_len;
@@ -162,62 +163,17 @@ fn forward(filter: u8, s: &[u8], at: usize) -> Step
     if 256 < d_len {
         return cut();
     }
-    let mut first = loaded(s, x_end + 2, a_len);
+    let mut first = loaded(s, z_end + 2, a_len);
     let mut second = loaded(s, a_end + 2, d_len);
     let a: &mut [u8] = &mut first[..a_len];
     let d: &mut [u8] = &mut second[..d_len];
-    let answer = ask_forward(filter, s[at], &s[at + 3..x_end], a, d);
+    let answer = ask(s, at, x_end, y_end, z_end, a, d);
     let said = same_answer(s, d_end, answer);
     let same_a = same(a, &s[after..middle]);
     let same_d = same(d, &s[middle..next]);
     Step {
         next,
         same: said && same_a && same_d,
-    }
-}
-
-// An inverse record from its width on: the two bands, and the output, which is lent.
-fn inverse(filter: u8, s: &[u8], at: usize) -> Step
-    requires { ⌜ (at ≤ length (now s)) × (length (now s) ≤ 65536) ⌝ }
-    ensures { λ r. ⌜ r .next ≤ length (now (s .entry)) ⌝ }
-{
-    let a_end = slice_end(s, at + 1);
-    let d_end = slice_end(s, a_end);
-    let x_end = slice_end(s, d_end);
-    let x_len = x_end - d_end - 2;
-    let after = x_end + 9;
-    let next = after + x_len;
-    if s.len() < next {
-        return cut();
-    }
-    if 256 < x_len {
-        return cut();
-    }
-    let mut space = loaded(s, d_end + 2, x_len);
-    let x: &mut [u8] = &mut space[..x_len];
-    let answer = ask_inverse(filter, s[at], &s[at + 3..a_end], &s[a_end + 2..d_end], x);
-    let said = same_answer(s, x_end, answer);
-    let same_x = same(x, &s[after..next]);
-    Step {
-        next,
-        same: said && same_x,
-    }
-}
-
-// A record, by the number of its call. Lists of other calls add theirs here.
-fn replay(s: &[u8], at: usize) -> Step
-    requires { ⌜ (at < length (now s)) × (length (now s) ≤ 65536) ⌝ }
-    ensures { λ r. ⌜ r .next ≤ length (now (s .entry)) ⌝ }
-{
-    let call = s[at];
-    match call {
-        1 => forward(INTEGER53, s, at + 1),
-        2 => inverse(INTEGER53, s, at + 1),
-        3 => forward(FLOAT53, s, at + 1),
-        4 => inverse(FLOAT53, s, at + 1),
-        5 => forward(FLOAT97, s, at + 1),
-        6 => inverse(FLOAT97, s, at + 1),
-        _ => cut(),
     }
 }
 
@@ -283,4 +239,5 @@ fn replay_file(path: &[u8]) {
 fn main() {
     replay_file(b"integer.bin");
     replay_file(b"floats.bin");
+    replay_file(b"levels.bin");
 }
