@@ -5,7 +5,7 @@ ghost use lib.ListN.{length};
 ghost use Rattle.answers.specs.Checks.{firstOf};
 ghost use Rattle.samples.specs.Integers.{isWidth};
 ghost use Rattle.pyramid.specs.Files.{headSize};
-ghost use Rattle.pyramid.specs.Opens.{filterOf, headIn, startChecks, fieldChecks, headChecks, wayIn, wayChecks, wholeDetails, sayFile, areaChecks, roomsFor, sayOpen, Open};
+ghost use Rattle.pyramid.specs.Opens.{filterOf, headIn, startChecks, fieldChecks, headChecks, wayIn, wayChecks, wholeDetails, sayFile, areaChecks, roomsFor, sayOpen, Open, ownWidth, ownPoint};
 use crate::MOST_BYTES;
 use crate::restore::restore;
 use crate::walk::Way;
@@ -55,6 +55,25 @@ pub fn point_in(s: &[u8]) -> usize
     ensures { λ r. ⌜ r ≡ headIn (now (s .entry)) .point ⌝ }
 {
     read_u32(s, 10) as usize
+}
+
+// A file's own width and point: 1 and 0 where it has no section 0.
+pub fn own_width(s: &[u8]) -> usize
+    ensures { λ r. ⌜ r ≡ ownWidth (now (s .entry)) ⌝ }
+{
+    if s.len() < 14 {
+        return 1;
+    }
+    width_in(s)
+}
+
+pub fn own_point(s: &[u8]) -> usize
+    ensures { λ r. ⌜ r ≡ ownPoint (now (s .entry)) ⌝ }
+{
+    if s.len() < 14 {
+        return 0;
+    }
+    point_in(s)
 }
 
 // Whether a sample can have so many bytes.

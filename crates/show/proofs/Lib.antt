@@ -1,3 +1,2 @@
 pub mod Shown
-pub mod Owned
 pub mod Signs

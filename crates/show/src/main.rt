@@ -4,14 +4,15 @@ ghost use Prim.Native.Nat.{_/_, _^_, _≤_, _<_};
 ghost use lib.ListN.{length};
 ghost use Rattle.samples.specs.Integers.{Width, val};
 ghost use Rattle.pyramid.specs.Files.{headSize};
-ghost use Rattle.pyramid.specs.Opens.{Open};
+ghost use Rattle.pyramid.specs.Opens.{Open, ownWidth, ownPoint};
 ghost use Rattle.show.specs.Numbers.{numberOf};
-ghost use Rattle.show.specs.Own.{ownWidth, ownPoint};
 use answers::err::Answer;
 use libc::STDIN_FILENO;
 use libc::STDOUT_FILENO;
 use pyramid::open::levels_in;
 use pyramid::open::open;
+use pyramid::open::own_point;
+use pyramid::open::own_width;
 use pyramid::open::point_in;
 use pyramid::open::samples_in;
 use pyramid::open::width_in;
@@ -113,10 +114,7 @@ fn print_samples(k: usize, s: &[u8], n: usize)
 fn open_own(s: &[u8], out: &mut [u8], one: &mut [u8], two: &mut [u8]) -> Answer
     ensures { λ r. ⌜ Open (now (s .entry)) (ownWidth (now (s .entry))) (ownPoint (now (s .entry))) (now (out .entry)) (now (one .entry)) (now (two .entry)) r (now (out .exit)) (now (one .exit)) (now (two .exit)) ⌝ }
 {
-    if s.len() < 14 {
-        return open(s, 1, 0, out, one, two);
-    }
-    open(s, width_in(s), point_in(s), out, one, two)
+    open(s, own_width(s), own_point(s), out, one, two)
 }
 
 // What opening the file s gives, by way of three areas.

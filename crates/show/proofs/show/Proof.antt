@@ -1,12 +1,16 @@
 -- `show` is safe: a file that is opened has section 0, samples of a known width, and as many in the output as are printed. Assumes nothing.
 use borrow.Author.Needs.{needs}
 use native.Mathlib.Omega.{arith}
+use Rattle.pyramid.specs.Opens.{ownWidth, ownPoint}
 use Rattle.show.proofs.Shown.{Shown, shown}
 use Rattle.show.proofs.show.Statement.{statement}
 use Rattle.show.proofs.show.Tie as tie
 
 opened : (c : tie.Else1) → let d = c .before .before .before .before .before .before .before .before in Shown (d .before .before .before .before .before .before .before .before .args .s .now) (d .before .before .before .before .before .before .before .before .args .out .now) (d .open-own .result)
-opened c = shown (c .before .before .before .before .before .before .before .before .open-own .ensures) (c .if1 .left)
+opened c =
+    let d = c .before .before .before .before .before .before .before .before in
+    let s = d .before .before .before .before .before .before .before .before .args .s .now in
+    shown s (ownWidth s) (ownPoint s) (d .open-own .ensures) (c .if1 .left)
 
 print-samples-requires : tie.Need-print-samples-requires
 print-samples-requires c κs =

@@ -1,6 +1,5 @@
 -- `signed` meets its contract: the lower half of the words, and the upper. Assumes nothing.
 use borrow.Author.Needs.{needs}
-use native.Mathlib.Omega.{arith}
 use Rattle.show.proofs.Signs.{lower, upper}
 use Rattle.show.proofs.signed.Statement.{statement}
 use Rattle.show.proofs.signed.Tie as tie
