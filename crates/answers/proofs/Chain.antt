@@ -1,5 +1,4 @@
 -- A call that makes its checks in a row says `firstOf` of their list: one link for each check that lets by, and one for the check that refuses.
--- Assumes nothing.
 use mathlib.Core.Bool.{Bool, true, false, cond, not}
 use mathlib.Core.Path.{_≡_, sym, ap, _∙_}
 use Prim.Native.Nat.{ℕ}

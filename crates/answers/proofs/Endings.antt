@@ -1,4 +1,4 @@
--- The two ends of a call, done and refused; and from "refused" to "nothing changed". Assumes nothing.
+-- The two ends of a call, done and refused; and from "refused" to "nothing changed".
 use mathlib.Core.Bool.{true, false, cond}
 use mathlib.Core.List.{List}
 use mathlib.Core.Path.{_≡_, refl, sym, ap, _∙_}

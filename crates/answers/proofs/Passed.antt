@@ -1,4 +1,4 @@
--- From "done" to the facts: a call that is done has passed each of its checks. Assumes nothing.
+-- From "done" to the facts: a call that is done has passed each of its checks.
 use mathlib.Core.Bool.{Bool, true, false, cond, not}
 use mathlib.Core.List.{List, [], _∷_, _++_}
 use mathlib.Core.Path.{_≡_, refl, sym, ap, subst, _∙_}

@@ -1,5 +1,4 @@
 -- Document 01, "Numbers of refusal": the number and the two values that each case gives to the desk. A reader holds this against the table.
--- Assumes nothing: these are definitions.
 use mathlib.Core.Bool.{Bool}
 use mathlib.Core.List.{List, [], _∷_}
 use Prim.Native.Nat.{ℕ}

@@ -1,5 +1,4 @@
 -- The order of a call's checks, and what a call leaves in what it was lent. Each call's own file has its list of checks.
--- Assumes nothing: these are definitions.
 use mathlib.Core.Bool.{Bool, cond, not}
 use mathlib.Core.List.{List, [], _∷_}
 use mathlib.Core.Path.{_≡_}

@@ -1,5 +1,4 @@
 -- The inverse of 9/7 as one loop makes it: the bands scaled, then four lifting steps, by the set t with signs changed. Over the format.
--- Assumes nothing: these are definitions.
 use mathlib.Core.Bool.{Bool}
 use mathlib.Core.List.{List}
 use mathlib.Core.Path.{_≡_}

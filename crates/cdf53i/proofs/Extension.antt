@@ -1,5 +1,4 @@
 -- What T.800's periodic symmetric extension of n samples, two or more, gives at the places that the 5-3 filter reads: from -2 to n + 1.
--- Assumes nothing.
 use mathlib.Core.List.{List}
 use mathlib.Core.Logic.{⊎-elim}
 use mathlib.Core.Path.{_≡_, ap, _∙_}

@@ -1,5 +1,4 @@
 -- How many bytes the bands of the integer 5/3 filter have, and the samples of two bands; and that each is a list of bytes. Once over the width.
--- Assumes nothing.
 use mathlib.Core.List.{List, [], _∷_, _++_}
 use mathlib.Core.Path.{_≡_, ap, _∙_}
 use Prim.Native.Nat.{ℕ, zero, suc, _+_, _*_, _/_, _<_}

@@ -1,4 +1,4 @@
--- What the checks leave is what the steps ask. Assumes nothing.
+-- What the checks leave is what the steps ask.
 use mathlib.Core.List.{List}
 use Prim.Native.Nat.{ℕ, _/_}
 use lib.ListN.{length}

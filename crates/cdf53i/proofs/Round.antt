@@ -1,6 +1,5 @@
 -- There and back on bytes, once over the width: the inverse of the transform is the samples' own bytes, the transform of the inverse the bands' own bytes;
 -- and where no coefficient wraps, the bands and the samples are T.800's own numbers.
--- Assumes nothing.
 use mathlib.Core.Bool.{Bool, true, false, cond}
 use mathlib.Core.Path.{_≡_, ap, _∙_}
 use mathlib.Core.List.{List}

@@ -1,6 +1,5 @@
 -- The lifting steps on words, once over the width: 4 Q words stand for the numbers from -2 Q to 2 Q - 1. The code adds 2 Q to a word (its bias),
 -- so that the order and the sums of the biased words are those of the numbers, and floors are divisions of naturals.
--- Assumes nothing.
 use mathlib.Core.Path.{_≡_, refl, sym, ap, _∙_}
 use Prim.Native.Nat.{ℕ, _+_, _-_, _*_, _/_, _%_, _^_, _<_}
 use native.Mathlib.Nat.{mod-lt, mod-add-mod}

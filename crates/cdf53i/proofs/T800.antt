@@ -1,6 +1,5 @@
 -- Document 01's steps with its end rules are T.800's, both ways and at every index, once over what is kept of a coefficient: for two samples and more. So are
 -- the bytes that the filter makes of bytes, with each stored result kept modulo two to the width.
--- Assumes nothing.
 use mathlib.Core.Bool.{cond}
 use mathlib.Core.List.{List}
 use mathlib.Core.Logic.{⊎-elim}

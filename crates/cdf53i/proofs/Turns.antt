@@ -1,5 +1,4 @@
 -- What a turn of each loop stores, once over the width: the word of a coefficient from the words that the code reads.
--- Assumes nothing.
 use mathlib.Core.Path.{_≡_, refl, sym, ap, subst, _∙_}
 use mathlib.Core.List.{List}
 use mathlib.Core.Logic.{⊎-elim}

@@ -1,6 +1,5 @@
 -- The inverse undoes the transform, and the transform the inverse, once over what is kept of a coefficient: for every width, also after wraps, and for
 -- T.800's whole numbers.
--- Assumes nothing.
 use mathlib.Core.Path.{_≡_, sym, ap, _∙_}
 use mathlib.Core.Logic.{⊎-elim}
 use mathlib.Core.List.{List}

@@ -1,5 +1,4 @@
 -- The integer 5/3 filter on bytes: k bytes a sample, each coefficient kept modulo the width. And what its inner functions ask and promise.
--- Assumes nothing: these are definitions.
 use mathlib.Core.List.{List}
 use mathlib.Core.Path.{_≡_}
 use Prim.Native.Nat.{ℕ, _+_, _-_, _*_, _/_, _^_, _≤_, _<_}

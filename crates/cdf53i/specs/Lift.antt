@@ -1,6 +1,5 @@
 -- One level of the integer 5/3 transform, from document 01, "One level", on whole numbers. `keep` is what is stored of a coefficient: `wrap k` for samples of
 -- k bytes, and the number itself in T.800, whose numbers do not wrap. Sums are exact; the update reads the stored details.
--- Assumes nothing: these are definitions.
 use mathlib.Core.Bool.{cond}
 use mathlib.Core.List.{List}
 use Prim.Native.Nat.{ℕ, _+_, _-_, _*_, _/_, _%_, min}

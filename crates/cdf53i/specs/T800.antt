@@ -3,13 +3,12 @@
 -- Places are whole numbers, also negative ones and ones past the end. T.800 bounds each rule to the places where it uses it; here a rule says what it says at
 -- every place. A signal of one sample is not extended, and T.800 treats it apart: these rules are for two samples and more.
 -- The second rule of each direction takes the results of the first, as they are stored. Below, `keep` is what is stored of a result: the number itself in T.800.
--- Assumes nothing: these are definitions.
 use mathlib.Core.Bool.{cond}
-use mathlib.Core.List.{List, [], _∷_, _++_}
-use Prim.Native.Nat.{ℕ, zero, suc, _+_, _-_, _*_, _/_, _%_, min}
+use mathlib.Core.List.{List}
+use Prim.Native.Nat.{ℕ, _+_, _-_, _*_, _/_, _%_, min}
 use lib.Dec.{eqb}
 use lib.IntN.{ℤ, pos, _+ℤ_, _-ℤ_}
-use lib.ListN.{length, take, drop}
+use lib.ListN.{length}
 use Rattle.sizes.specs.Bands.{ups, downs}
 use Rattle.samples.specs.Words.{tabulate}
 use Rattle.samples.specs.Halves.{joined}
@@ -61,24 +60,3 @@ back keep y i = cond (eqb (i % 2) 0) (keep (evenBack y (pos (i / 2)))) (keep (od
 
 unfoldable pub backs : (ℤ → ℤ) → List ℤ → List ℤ → List ℤ
 backs keep a d = tabulate (length a + length d) (back keep (interleaved a d))
-
--- ---- many levels: each takes the low-pass coefficients of the level before, as they are kept
-
--- the low-pass coefficients of level l; level 0 is the samples
-unfoldable pub lowsAt : (ℤ → ℤ) → ℕ → List ℤ → List ℤ
-lowsAt keep zero x = x
-lowsAt keep (suc l) x = lows keep (lowsAt keep l x)
-
--- the high-pass coefficients of level l + 1: those of the low-pass ones of level l
-unfoldable pub highsAfter : (ℤ → ℤ) → ℕ → List ℤ → List ℤ
-highsAfter keep l x = highs keep (lowsAt keep l x)
-
--- the high-pass coefficients of the levels l to 1, deepest first
-unfoldable pub allHighs : (ℤ → ℤ) → ℕ → List ℤ → List ℤ
-allHighs keep zero x = []
-allHighs keep (suc l) x = highsAfter keep l x ++ allHighs keep l x
-
--- the way back: of low-pass coefficients a and high-pass ones d, joined deepest first, of which each level has as many as the list of lengths says
-unfoldable pub backsAt : (ℤ → ℤ) → List ℤ → List ℤ → List ℕ → List ℤ
-backsAt keep a d [] = a
-backsAt keep a d (m ∷ ms) = backsAt keep (backs keep a (take m d)) (drop m d) ms

@@ -1,5 +1,4 @@
 -- What one level of a filter promises, of the filter that it is.
--- Assumes nothing: these are laws of definitions.
 use mathlib.Core.Bool.{Bool, true, false}
 use mathlib.Core.List.{List}
 use mathlib.Core.Path.{_≡_, sym, _∙_}

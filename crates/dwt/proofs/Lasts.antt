@@ -1,4 +1,4 @@
--- `dwt`: what its checks leave, the two ends of the call, and that two results which the statement allows are equal. Assumes nothing, and looks into no filter.
+-- `dwt`: what its checks leave, the two ends of the call, and that two results which the statement allows are equal. Looks into no filter.
 use mathlib.Core.Bool.{true, false, cond}
 use mathlib.Core.List.{List, _∷_}
 use mathlib.Core.Path.{_≡_, refl, sym, ap, _∙_}

@@ -1,4 +1,4 @@
--- Parts of slices that were lent and come back. Assumes nothing.
+-- Parts of slices that were lent and come back.
 use mathlib.Core.Path.{_≡_, sym, ap, _∙_}
 use mathlib.Core.List.{List, _++_, append-nil}
 use Prim.Native.Nat.{ℕ, _+_, _-_, _≤_}

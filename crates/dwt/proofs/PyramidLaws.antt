@@ -1,4 +1,4 @@
--- One level of a pyramid. Assumes nothing, and looks into no filter.
+-- One level of a pyramid. Looks into no filter.
 use mathlib.Core.Path.{_≡_, refl, ap, _∙_}
 use mathlib.Core.List.{List, _++_}
 use Prim.Native.Nat.{ℕ, zero, suc, _-_, _≤_}

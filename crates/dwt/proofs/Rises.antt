@@ -1,4 +1,4 @@
--- The lengths of `multi_idwt`, one at a time from the deepest: their sum, their checks, and one level back. Assumes nothing, and looks into no filter.
+-- The lengths of `multi_idwt`, one at a time from the deepest: their sum, their checks, and one level back. Looks into no filter.
 use mathlib.Core.Bool.{true, false}
 use mathlib.Core.Path.{_≡_, refl, sym, ap, _∙_}
 use mathlib.Core.List.{List, [], _∷_}

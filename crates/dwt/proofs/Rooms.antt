@@ -1,4 +1,4 @@
--- Room for levels: what one level of it is lent, and what it leaves for the levels below. Assumes nothing, and looks into no filter.
+-- Room for levels: what one level of it is lent, and what it leaves for the levels below. Looks into no filter.
 use mathlib.Core.Path.{_≡_, ap}
 use Prim.Native.Nat.{ℕ, suc, _*_, _≤_, _<_}
 use native.Mathlib.Omega.{arith}

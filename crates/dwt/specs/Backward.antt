@@ -1,5 +1,4 @@
 -- The checks of `multi_idwt`, as a list in document 01's order, and what the call promises. Over the filter.
--- Assumes nothing: these are definitions.
 use mathlib.Core.Bool.{not}
 use mathlib.Core.List.{List, [], _∷_, _++_}
 use mathlib.Core.Path.{_≡_}

@@ -1,5 +1,4 @@
 -- What the calls promise, over the filter: one level, and the drivers with their checks, each a list in document 01's order.
--- Assumes nothing: these are definitions.
 use mathlib.Core.Bool.{cond, not}
 use mathlib.Core.List.{List, [], _∷_, _++_}
 use mathlib.Core.Path.{_≡_}

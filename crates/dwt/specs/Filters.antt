@@ -1,5 +1,4 @@
 -- The seven filters: bytes of a sample, wavelet, and what one level makes of bytes.
--- Assumes nothing: these are definitions.
 use mathlib.Core.List.{List}
 use Prim.Native.Nat.{ℕ}
 use lib.Ieee.{binary32, binary64}

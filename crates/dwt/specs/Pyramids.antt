@@ -1,5 +1,4 @@
 -- Many levels, from document 01: "the next level's input is this level's approximations". On bytes, for any filter, by recursion on the levels.
--- Assumes nothing: these are definitions.
 use mathlib.Core.List.{List, [], _∷_, _++_}
 use Prim.Native.Nat.{ℕ, zero, suc, _*_}
 use lib.ListN.{take, drop}

@@ -1,6 +1,5 @@
 -- From floats to bytes: what the transforms' bytes decode to, for any wavelet and for many levels of 5/3, since every float that a step gives fits the format;
 -- and the exact case said of bytes, whatever call made them. Over the format.
--- Assumes nothing.
 use mathlib.Core.List.{List}
 use mathlib.Core.Path.{_≡_, refl, sym, ap, _∙_}
 use Prim.Native.Nat.{ℕ, zero, suc, _+_, _-_, _*_, _/_, _^_, _≤_, _<_}

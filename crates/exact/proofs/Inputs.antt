@@ -1,6 +1,5 @@
 -- The exact case of document 01 in its own numbers: f32 inputs that are whole and of size at most 2 ^ (24 - 4 L), L to 6; f64 of size at most 2 ^ (53 - 4 L),
 -- L to 13. Over the format, and the two formats at the end.
--- Assumes nothing.
 use mathlib.Core.Bool.{true, false}
 use mathlib.Core.List.{List, [], _∷_, map}
 use mathlib.Core.Path.{_≡_, refl, sym}

@@ -1,6 +1,5 @@
 -- One level of the float 5/3 filter is exact, and its inverse gives the inputs back: its lists are those that the integer steps give, over 2 ^ (k + 1) and
 -- 2 ^ (k + 3). Over the format, where there is room.
--- Assumes nothing.
 use mathlib.Core.Bool.{true, false, cond}
 use mathlib.Core.List.{List}
 use mathlib.Core.Logic.{⊎-elim}

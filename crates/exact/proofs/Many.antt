@@ -1,5 +1,4 @@
 -- The exact case over many levels: inputs that are whole numbers of size at most 2 ^ (prec - 4 L), and L levels of the float 5/3 filter. Over the format.
--- Assumes nothing.
 use mathlib.Core.List.{List}
 use mathlib.Core.Path.{_≡_, refl, sym, ap, _∙_}
 use Prim.Native.Nat.{ℕ, zero, suc, _+_, _-_, _*_, _^_, _≤_, _<_}

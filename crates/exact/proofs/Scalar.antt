@@ -1,6 +1,5 @@
 -- The float 5/3 steps are exact at one entry. An input is z / 2 ^ k with z at most b in size; a detail is over 2 ^ (k + 1) and at most 4 b, an approximation
 -- over 2 ^ (k + 3) and at most 16 b; and back. Over the format, where there is room.
--- Assumes nothing.
 use mathlib.Core.Bool.{true, false}
 use mathlib.Core.Path.{_≡_, refl}
 use Prim.Native.Nat.{ℕ, _+_, _*_, _^_, _≤_}

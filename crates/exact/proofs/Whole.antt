@@ -1,6 +1,5 @@
 -- The laws of floats that are whole numbers over a power of two, over ℤ: sums, products with 2 ^ -j and -2 ^ -j, other scales, numerical equality. And
 -- ℤ by its two parts, with which `omega` proves what is linear over ℤ. Over the format.
--- Assumes nothing.
 use mathlib.Core.Bool.{Bool, true, false, not, cond}
 use mathlib.Core.Path.{_≡_, refl, sym, _∙_}
 use Prim.Native.Nat.{ℕ, zero, suc, _+_, _-_, _*_, _^_, _≤_, _<_}

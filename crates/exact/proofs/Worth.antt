@@ -1,6 +1,5 @@
 -- A sum or a product of two floats that are whole numbers over a power of two is exact where its own whole number is at most 2 ^ prec in size; two that are
 -- the same number are numerically equal. Over the format.
--- Assumes nothing.
 use mathlib.Core.Bool.{Bool, true, false, not, _&&_, cond, Bool·beq, _||_}
 use mathlib.Core.Logic.{_⊎_, inl, inr}
 use mathlib.Core.Path.{_≡_, sym, ap, _∙_}

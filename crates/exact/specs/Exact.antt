@@ -1,6 +1,5 @@
 -- The exact case, from document 01: floats that are whole numbers over a power of two, and one level of "the integer steps without floor and without the
 -- added 2". Over the format.
--- Assumes nothing: these are definitions.
 use mathlib.Core.Bool.{Bool, true, false}
 use mathlib.Core.List.{List}
 use mathlib.Core.Path.{_≡_}

@@ -1,6 +1,5 @@
 -- Levels of the float 5/3 filter and of the integer steps, and what the exact case of document 01 promises of them: "every level-l coefficient times 8^l is a
 -- whole number given by the integer steps without floor and without the added 2, and the inverse gives the inputs back numerically". Over the format.
--- Assumes nothing: these are definitions.
 use mathlib.Core.Bool.{true}
 use mathlib.Core.List.{List, map}
 use mathlib.Core.Path.{_≡_}

@@ -1,4 +1,4 @@
--- Each call of each filter is done with eight samples, at one level and at two: by the laws of lengths that fit, so that no sample is looked at. Assumes nothing.
+-- Each call of each filter is done with eight samples, at one level and at two: by the laws of lengths that fit, so that no sample is looked at.
 use mathlib.Core.List.{List}
 use mathlib.Core.Path.{_≡_, refl, ap, _∙_}
 use Prim.Native.Nat.{ℕ, _*_, _%_, _≤_}
@@ -24,9 +24,9 @@ use Rattle.dwt.specs.Calls.{Ready}
 use Rattle.dwt.specs.Backward.{total, Rising}
 use Rattle.dwt.proofs.Cuts.{width-pos}
 use Rattle.trips.proofs.Fitting.{lengths-fit, back-fits, multi-fits, dwt-fits}
-use Rattle.pyramid.proofs.Heads.{Recording}
-use Rattle.pyramid.proofs.Answers.{opens-whole}
-use Rattle.pyramid.proofs.WriteFits.{write-fits}
+use Rattle.cuts.proofs.Heads.{Recording}
+use Rattle.cuts.proofs.Answers.{opens-whole}
+use Rattle.cuts.proofs.WriteFits.{write-fits}
 use Rattle.figures.specs.ShutOut.{Long, twoFour, EachDone}
 
 -- the number of a done answer
@@ -78,12 +78,12 @@ module _ (f : Filter) where
         forward = λ {x} {a} {d} ex ea ed m. number-of (m .answer) (forward-fits (waveletOf f) k 8 (length x) (length a) (length d) (width-pos f) (level (length x) (length a) (length d) ex ea ed));
         inverse = λ {a} {d} {o} ea ed eo m. number-of (m .answer) (inverse-fits (waveletOf f) k 8 (length o) (length a) (length d) (width-pos f) (level (length o) (length a) (length d) eo ea ed));
         last = λ {x} {a} {d} {u} {v} ex ea ed eu ev m. number-of (m .answer) (dwt-fits f 2 8 8 8 (length x) (length a) (length d) (length u) (length v) (ready (length x) (length u) (length v) ex eu ev) ea ed eu ev);
-        down = λ {x} {o} {u} {v} ex eo eu ev m. number-of (m .answer) (multi-fits f 2 8 8 8 (length x) (length o) (length u) (length v) (ready (length x) (length u) (length v) ex eu ev) eo eu ev);
-        back = λ {a} {d} {o} {u} {v} ea ed eo eu ev m.
+        down = λ x o u v ex eo eu ev m. number-of (m .answer) (multi-fits f 2 8 8 8 (length x) (length o) (length u) (length v) (ready (length x) (length u) (length v) ex eu ev) eo eu ev);
+        back = λ a d o u v ea ed eo eu ev m.
             number-of (m .answer) (back-fits f 2 2 8 8 twoFour (length a) (length d) (length o) (length u) (length v) ea (rising (length d) (length u) (length v) (length o) ed eu ev eo) refl (omega arith) eu ev);
-        writes = λ i {x} {b} {u} {v} ex eb eu ev m.
+        writes = λ i x b u v ex eb eu ev m.
             number-of (m .answer) (write-fits f 2 8 8 8 (length x) (length b) (length u) (length v) (ready (length x) (length u) (length v) ex eu ev) (omega (arith, eb)) eu ev);
-        opens = λ i {x} {o} {u} {v} bx ex eo eu ev m.
+        opens = λ i x o u v bx ex eo eu ev m.
             number-of (m .answer)
             (opens-whole f 2 8 14 x (recording x i bx ex) (length o) (length u) (length v)
             (record { output = whole (length o) eo; first = whole (length u) eu; second = whole (length v) ev })

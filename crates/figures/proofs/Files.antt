@@ -1,6 +1,5 @@
 -- Document 01's figures P6 to P10: P5's samples as a file of 31 bytes, and what each of its first bytes open as. By the laws of every file, so that these are
 -- seen to say what the document says.
--- Assumes nothing.
 use mathlib.Core.List.{List, [], _∷_}
 use mathlib.Core.Path.{_≡_, refl, sym, subst}
 use Prim.Native.Nat.{ℕ, zero, suc, _-_, _≤_, _<_}
@@ -18,10 +17,10 @@ use Rattle.dwt.specs.declared.filter.Filter.the-variants.{Cdf53I8}
 use Rattle.dwt.specs.Pyramids.{approxAt, lengthsOf}
 use Rattle.pyramid.specs.Files.{bodyOf, fileOf}
 use Rattle.pyramid.specs.Opens.{sayOpen}
-use Rattle.pyramid.specs.Sees.{firstWhole, wholeOf, Sampled, Roomy, OpensTo}
-use Rattle.pyramid.proofs.Heads.{Recording}
-use Rattle.pyramid.proofs.Survives.{cut-short, survives}
-use Rattle.pyramid.proofs.Answers.{opens-whole}
+use Rattle.cuts.specs.Sees.{firstWhole, wholeOf, Sampled, Roomy, OpensTo}
+use Rattle.cuts.proofs.Heads.{Recording}
+use Rattle.cuts.proofs.Survives.{cut-short, survives}
+use Rattle.cuts.proofs.Answers.{opens-whole}
 use Rattle.figures.specs.Worked.{five, thirtyOne, File}
 
 file : fileOf Cdf53I8 2 14 five ≡ thirtyOne

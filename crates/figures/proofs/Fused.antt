@@ -1,4 +1,4 @@
--- A fused step, on samples that one level of 9/7 in f32 takes: what the statement allows, and what the fused steps would leave. By computing. Assumes nothing.
+-- A fused step, on samples that one level of 9/7 in f32 takes: what the statement allows, and what the fused steps would leave. By computing.
 use mathlib.Core.List.{List, [], _∷_}
 use mathlib.Core.Path.{_≡_, refl, sym, ap, _∙_}
 use Prim.Native.Nat.{ℕ}

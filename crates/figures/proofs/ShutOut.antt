@@ -1,4 +1,4 @@
--- Each program that document 01 names to be shut out differs from the statement on an input: by computing. Assumes nothing.
+-- Each program that document 01 names to be shut out differs from the statement on an input: by computing.
 use mathlib.Core.List.{List, [], _∷_, _++_}
 use mathlib.Core.Path.{_≡_, refl, sym, ap, _∙_}
 use Prim.Native.Nat.{ℕ, _*_}
@@ -23,7 +23,7 @@ use Rattle.dwt.specs.declared.filter.Filter.the-variants.{Cdf53I8, Cdf53F32}
 use Rattle.dwt.specs.Pyramids.{approxAt, pyramid, samplesOf}
 use Rattle.dwt.specs.Calls.{sayDwt, sayMulti, OneForward, OneInverse, Dwt, Multi}
 use Rattle.dwt.specs.Backward.{total, bandChecks, sayBack, MultiBack}
-use Rattle.pyramid.specs.Sees.{OpensTo}
+use Rattle.cuts.specs.Sees.{OpensTo}
 use Rattle.pyramid.specs.Walks.{oneOf, walkOf}
 use Rattle.pyramid.specs.Opens.{countIn, samplesIn, Open, saySection, sectionIn}
 use Rattle.figures.specs.Worked.{five, thirtyOne}

@@ -1,7 +1,5 @@
--- The table holds: each figure is computed from the definitions. Assumes nothing.
-use mathlib.Core.List.{List}
+-- The table holds: each figure is computed from the definitions.
 use mathlib.Core.Path.{refl}
-use lib.IntN.{ℤ}
 use Rattle.samples.specs.Le.{leAt, leBytes}
 use Rattle.samples.specs.Words.{tabulate, wordAt, wordsOf, bytesOf}
 use Rattle.samples.specs.Integers.{val, residue, wrap, decode, encode}
@@ -9,7 +7,7 @@ use Rattle.cdf53i.specs.Lift.{detail, details, approx, approxs, even, odd, samp
 use Rattle.cdf53i.specs.Bands.{low, high, back}
 use Rattle.cdf53i.specs.T800 as t800
 use Rattle.dwt.specs.Pyramids.{approxAt, pyramid, samplesOf}
-use Rattle.figures.specs.Worked.{OneLevel, TwoLevels, Worked}
+use Rattle.figures.specs.Worked.{Worked}
 use Rattle.figures.proofs.Files.{p6-to-p10}
 
 pub worked : Worked

@@ -1,6 +1,5 @@
 -- Document 01, "Programs to be shut out": for each an input on which what the statement allows is not what that program would give. Samples are 8 bits wide, so
 -- a byte is a sample, and the inputs are those of P1 and P5, unless a filter is named.
--- Assumes nothing: these are definitions.
 use mathlib.Core.List.{List, [], _∷_, _++_}
 use mathlib.Core.Path.{_≡_}
 use Prim.Native.Nat.{ℕ, zero, suc, _*_}
@@ -123,11 +122,11 @@ pub record EachDone (f : Filter) : Type 0 where
   pub forward : {x a d : List ℕ} {r : Answer} {a′ d′ : List ℕ} → Long f 8 x → Long f 4 a → Long f 4 d → OneForward f x a d r a′ d′ → r .number ≡ 0
   pub inverse : {a d o : List ℕ} {r : Answer} {o′ : List ℕ} → Long f 4 a → Long f 4 d → Long f 8 o → OneInverse f a d o r o′ → r .number ≡ 0
   pub last : {x a d u v : List ℕ} {r : Answer} {a′ d′ u′ v′ : List ℕ} → Long f 8 x → Long f 2 a → Long f 2 d → Long f 8 u → Long f 8 v → Dwt f 2 x a d u v r a′ d′ u′ v′ → r .number ≡ 0
-  pub down : {x o u v : List ℕ} {r : Answer} {o′ u′ v′ : List ℕ} → Long f 8 x → Long f 8 o → Long f 8 u → Long f 8 v → Multi f 2 x o u v r o′ u′ v′ → r .number ≡ 0
-  pub back : {a d o u v : List ℕ} {r : Answer} {o′ u′ v′ : List ℕ} → Long f 2 a → Long f 6 d → Long f 8 o → Long f 8 u → Long f 8 v → MultiBack f a d twoFour o u v r o′ u′ v′ → r .number ≡ 0
-  pub writes : Integers f → {x b u v : List ℕ} {r : Answer} {b′ u′ v′ : List ℕ} → Long f 8 x → length b ≡ fileSize (widthOf f) 2 8 → Long f 8 u → Long f 8 v → Write f 2 14 x b u v r b′ u′ v′
+  pub down : (x o u v : List ℕ) {r : Answer} {o′ u′ v′ : List ℕ} → Long f 8 x → Long f 8 o → Long f 8 u → Long f 8 v → Multi f 2 x o u v r o′ u′ v′ → r .number ≡ 0
+  pub back : (a d o u v : List ℕ) {r : Answer} {o′ u′ v′ : List ℕ} → Long f 2 a → Long f 6 d → Long f 8 o → Long f 8 u → Long f 8 v → MultiBack f a d twoFour o u v r o′ u′ v′ → r .number ≡ 0
+  pub writes : Integers f → (x b u v : List ℕ) {r : Answer} {b′ u′ v′ : List ℕ} → Long f 8 x → length b ≡ fileSize (widthOf f) 2 8 → Long f 8 u → Long f 8 v → Write f 2 14 x b u v r b′ u′ v′
       → r .number ≡ 0
-  pub opens : Integers f → {x o u v : List ℕ} {r : Answer} {o′ u′ v′ : List ℕ} → Bytes x → Long f 8 x → Long f 8 o → Long f 8 u → Long f 8 v → Open (fileOf f 2 14 x) (widthOf f) 14 o u v r o′ u′ v′
+  pub opens : Integers f → (x o u v : List ℕ) {r : Answer} {o′ u′ v′ : List ℕ} → Bytes x → Long f 8 x → Long f 8 o → Long f 8 u → Long f 8 v → Open (fileOf f 2 14 x) (widthOf f) 14 o u v r o′ u′ v′
       → r .number ≡ 0
 
 pub record NotAllRefused : Type 0 where

@@ -1,5 +1,4 @@
 -- Document 01, "Figures worked by hand": those marked P, one table under one statement. Samples are 8 bits wide.
--- Assumes nothing: these are definitions.
 use mathlib.Core.List.{List, [], _∷_, _++_}
 use mathlib.Core.Path.{_≡_}
 use Prim.Native.Nat.{ℕ, _≤_}
@@ -11,7 +10,7 @@ use Rattle.cdf53i.specs.Bands.{low, high, back}
 use Rattle.cdf53i.specs.T800 as t800
 use Rattle.dwt.specs.declared.filter.Filter.the-variants.{Cdf53I8}
 use Rattle.dwt.specs.Pyramids.{approxAt, pyramid, samplesOf}
-use Rattle.pyramid.specs.Sees.{OpensTo}
+use Rattle.cuts.specs.Sees.{OpensTo}
 use Rattle.pyramid.specs.Files.{fileOf}
 use Rattle.pyramid.specs.Opens.{sayOpen}
 

@@ -1,4 +1,4 @@
--- Document 01's figure of a float filter, by computing: f32 1, 5, 2: a 2.75, 3.75; d 3.5. And back. Assumes nothing.
+-- Document 01's figure of a float filter, by computing: f32 1, 5, 2: a 2.75, 3.75; d 3.5. And back.
 use mathlib.Core.Bool.{false}
 use mathlib.Core.List.{List, [], _∷_}
 use mathlib.Core.Path.{_≡_, refl}

@@ -1,4 +1,4 @@
--- Floats to bytes and back, once over the format: what a step makes fits the format, so its bytes are read as it again. Assumes nothing.
+-- Floats to bytes and back, once over the format: what a step makes fits the format, so its bytes are read as it again.
 use mathlib.Core.Bool.{cond}
 use mathlib.Core.List.{List, [], _∷_}
 use mathlib.Core.Logic.{⊎-elim}

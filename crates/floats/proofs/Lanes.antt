@@ -1,4 +1,4 @@
--- The steps on both bands in one list are the steps on the two bands, and what a turn of their loops stores, once over the format. Assumes nothing.
+-- The steps on both bands in one list are the steps on the two bands, and what a turn of their loops stores, once over the format.
 use mathlib.Core.Bool.{cond}
 use mathlib.Core.List.{List, [], _∷_}
 use mathlib.Core.Path.{_≡_, sym, ap, _∙_}

@@ -1,5 +1,4 @@
 -- How many bytes the bands of a float filter have, and the samples of two bands. Once over the format and the wavelet.
--- Assumes nothing.
 use mathlib.Core.List.{List}
 use mathlib.Core.Path.{_≡_, ap, _∙_}
 use Prim.Native.Nat.{ℕ, _+_, _*_, _/_}

@@ -1,5 +1,4 @@
 -- One level of any float filter, once over the format and the wavelet: what the checks leave is what the steps ask, and what the steps leave is the level.
--- Assumes nothing.
 use mathlib.Core.List.{List}
 use mathlib.Core.Path.{_≡_, _∙_}
 use Prim.Native.Nat.{ℕ, _/_, _≤_}

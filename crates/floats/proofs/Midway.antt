@@ -1,4 +1,4 @@
--- A loop that goes over stored floats from the front and writes some of them where they stand, once over the format. Assumes nothing.
+-- A loop that goes over stored floats from the front and writes some of them where they stand, once over the format.
 use mathlib.Core.Bool.{cond}
 use mathlib.Core.List.{List}
 use mathlib.Core.Logic.{⊎-elim}

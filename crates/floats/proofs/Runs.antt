@@ -1,4 +1,4 @@
--- Schedules on two bands, once over the format: lengths stay, one step more, and what a whole schedule leaves. Assumes nothing.
+-- Schedules on two bands, once over the format: lengths stay, one step more, and what a whole schedule leaves.
 use mathlib.Core.List.{List, [], _∷_, _++_, map}
 use mathlib.Core.Path.{_≡_, refl, sym, _∙_}
 use Prim.Native.Nat.{ℕ, _+_, _/_, _≤_, _<_}

@@ -1,4 +1,4 @@
--- Schedules on both bands in one list, once over the format: as on two bands. Assumes nothing.
+-- Schedules on both bands in one list, once over the format: as on two bands.
 use mathlib.Core.List.{List, [], _∷_, _++_, map}
 use mathlib.Core.Path.{_≡_, sym, ap, _∙_}
 use Prim.Native.Nat.{ℕ, _+_, _/_, _≤_, _<_}

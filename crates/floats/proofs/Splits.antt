@@ -1,4 +1,4 @@
--- A loop that writes floats from the front, the loop that splits samples into evens and odds and the one that joins them, once over the format. Assumes nothing.
+-- A loop that writes floats from the front, the loop that splits samples into evens and odds and the one that joins them, once over the format.
 use mathlib.Core.Bool.{cond}
 use mathlib.Core.List.{List}
 use mathlib.Core.Path.{_≡_, refl, sym, ap, _∙_}

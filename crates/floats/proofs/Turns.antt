@@ -1,4 +1,4 @@
--- What a turn of each loop over a band stores, and what its last one leaves, once over the format. Assumes nothing.
+-- What a turn of each loop over a band stores, and what its last one leaves, once over the format.
 use mathlib.Core.List.{List}
 use mathlib.Core.Path.{_≡_, refl, _∙_}
 use Prim.Native.Nat.{ℕ, _+_, _-_, _/_, _≤_, _<_, min}

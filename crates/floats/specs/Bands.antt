@@ -1,5 +1,4 @@
 -- The float filters on bytes: "start from evens and odds of x", run the schedule, and back. Over the format and the wavelet.
--- Assumes nothing: these are definitions.
 use mathlib.Core.List.{List}
 use Prim.Native.Nat.{ℕ}
 use lib.Ieee.{Float, nan, Format}

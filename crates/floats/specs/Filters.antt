@@ -1,6 +1,5 @@
 -- The float filters as schedules of steps, and their factors, from document 01. Factors are decimal fractions rounded once to f64; "the f32 set is these f64
 -- numbers rounded once".
--- Assumes nothing: these are definitions.
 use mathlib.Core.Bool.{Bool, true, false}
 use mathlib.Core.List.{List, [], _∷_}
 use Prim.Native.Nat.{ℕ, _*_, _^_}

@@ -1,5 +1,4 @@
 -- The steps and the sets of factors as the code holds them, f32 and f64, and which of document 01's they are.
--- Assumes nothing: these are definitions.
 use Rattle.floats.specs.declared.single.Step32.{Step32}
 use Rattle.floats.specs.declared.single.Step32.the-variants as s32
 use Rattle.floats.specs.declared.double.Step64.{Step64}

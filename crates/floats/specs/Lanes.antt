@@ -1,5 +1,4 @@
 -- Both bands in one list, an entry of each in turn: what the inverse works on, in the output itself. The neighbours of an entry are of the other band.
--- Assumes nothing: these are definitions.
 use mathlib.Core.Bool.{cond}
 use mathlib.Core.List.{List}
 use mathlib.Core.Path.{_≡_}

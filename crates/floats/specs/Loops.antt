@@ -1,5 +1,4 @@
 -- What the inner functions of the float filters ask and promise, over the format: bands that hold floats as the port writes them, and what a schedule leaves.
--- Assumes nothing: these are definitions.
 use mathlib.Core.List.{List}
 use mathlib.Core.Path.{_≡_}
 use Prim.Native.Nat.{ℕ, _+_, _/_, _≤_, _<_}

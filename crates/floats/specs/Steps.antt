@@ -1,6 +1,5 @@
 -- The steps of the float filters, from document 01, "Float filters", on two lists: approximations a and details d. "A step is one of three kinds, each carrying
 -- its own factors." Over the format, and the two lifting steps over any kind of entry.
--- Assumes nothing: these are definitions.
 use mathlib.Core.List.{List, [], _∷_}
 use Prim.Native.Nat.{ℕ, _+_, _-_, min}
 use lib.Ieee.{Float, nan, Format, add, mul}

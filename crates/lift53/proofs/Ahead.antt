@@ -1,16 +1,16 @@
--- Two lifting steps forward: what a turn stores, and that it is no NaN where the samples are small, once over the format. Assumes nothing.
-use mathlib.Core.Bool.{Bool, true, false, not, cond}
+-- Two lifting steps forward: what a turn stores, and that it is no NaN where the samples are small, once over the format.
+use mathlib.Core.Bool.{Bool, true, false, not}
 use mathlib.Core.List.{List}
-use mathlib.Core.Path.{_≡_, refl, sym, ap, subst, _∙_}
-use Prim.Native.Nat.{ℕ, _+_, _-_, _*_, _/_, _≤_, _<_, min}
+use mathlib.Core.Path.{_≡_, refl, sym, subst, _∙_}
+use Prim.Native.Nat.{ℕ, _+_, _-_, _*_, _/_, _≤_, _<_}
 use native.Mathlib.Omega.{arith}
 use lib.Dec.{T}
-use lib.Ieee.{Float, nan, Format, binary32, binary64, add, mul, isNan, neg, round}
+use lib.Ieee.{Float, nan, Format, binary32, binary64, add, mul, isNan, round}
 use lib.ListN.{length, getD}
 use Rattle.sizes.specs.declared.Wavelet.the-variants.{Cdf53}
 use Rattle.sizes.specs.Bands.{ups, downs}
 use Rattle.samples.specs.Words.{Holds, Front}
-use Rattle.samples.specs.Floats.{width, floatAt, putFloat, encodeFloats}
+use Rattle.samples.specs.Floats.{width, floatAt, encodeFloats}
 use Rattle.floats.specs.Filters.{decimal, steps53}
 use Rattle.floats.specs.Bands.{approxs, details, low, high}
 use Rattle.floats.specs.Loops.{LentLow}

@@ -1,8 +1,8 @@
--- What a turn of the loop of the inverse of 5/3 stores, and that it is no NaN, once over the format. Assumes nothing.
+-- What a turn of the loop of the inverse of 5/3 stores, and that it is no NaN, once over the format.
 use mathlib.Core.Bool.{Bool, true, false, not}
 use mathlib.Core.List.{List}
 use mathlib.Core.Logic.{⊎-elim}
-use mathlib.Core.Path.{_≡_, refl, sym, ap, subst, _∙_}
+use mathlib.Core.Path.{_≡_, refl, sym, subst, _∙_}
 use Prim.Native.Nat.{ℕ, _+_, _-_, _*_, _/_, _≤_, _<_, min}
 use native.Mathlib.Omega.{arith}
 use lib.Dec.{T}
@@ -10,7 +10,6 @@ use lib.Ieee.{Float, nan, Format, binary32, binary64, add, mul, isNan, round}
 use lib.ListN.{length, getD}
 use Rattle.order.proofs.Order.{lt-or-le}
 use Rattle.sizes.specs.declared.Wavelet.the-variants.{Cdf53}
-use Rattle.sizes.specs.Bands.{ups, downs}
 use Rattle.samples.specs.Words.{Holds, Front}
 use Rattle.samples.specs.Floats.{width, floatAt, putFloat, decodeFloats}
 use Rattle.samples.proofs.FloatLaws.{length-decodeFloats, at-decodeFloats}

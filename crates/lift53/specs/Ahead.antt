@@ -1,5 +1,4 @@
 -- Two lifting steps forward, odds by c and then evens by g, on the samples in x: what one loop makes. Over the format.
--- Assumes nothing: these are definitions.
 use mathlib.Core.Bool.{Bool, true}
 use mathlib.Core.List.{List}
 use mathlib.Core.Path.{_≡_}

@@ -1,5 +1,4 @@
 -- The floats that the inverse of 5/3 restores, one by one, and what its functions ask of bands. Over the format and the two factors.
--- Assumes nothing: these are definitions.
 use mathlib.Core.Bool.{true, false}
 use mathlib.Core.List.{List}
 use mathlib.Core.Path.{_≡_}

@@ -1,5 +1,4 @@
 -- 9/7 forward: the lists after each step entry by entry as code makes them, what a turn stores, and that it is no NaN where the samples are small. Once over the format.
--- Assumes nothing.
 use mathlib.Core.Bool.{Bool, true, not}
 use mathlib.Core.List.{List}
 use mathlib.Core.Logic.{⊎-elim}

@@ -1,5 +1,4 @@
 -- 9/7 forward as one loop makes it, by the set t: after the two steps that `oddsTo` and `evensTo` are, two more and the scaling. Over the format.
--- Assumes nothing: these are definitions.
 use mathlib.Core.Bool.{Bool, true}
 use mathlib.Core.List.{List}
 use mathlib.Core.Path.{_≡_}

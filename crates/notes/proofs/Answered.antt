@@ -1,5 +1,5 @@
 -- Where `note_column` and `note_span` end and what they have passed there; and about their answers: where they are done, that the column of a note can be
--- asked back for its span, and that the spans of a level cover the samples. Assumes nothing.
+-- asked back for its span, and that the spans of a level cover the samples.
 use mathlib.Core.Bool.{Bool, true, false, not}
 use mathlib.Core.Logic.{⊎-elim}
 use mathlib.Core.Path.{_≡_, refl, sym, ap, _∙_}

@@ -1,4 +1,4 @@
--- Figures of notes, spans and windows, computed. Assumes nothing.
+-- Figures of notes, spans and windows, computed.
 use mathlib.Core.List.{[], _∷_}
 use mathlib.Core.Path.{_≡_, refl}
 use Rattle.answers.specs.declared.err.Refusal.the-variants.{Done, TooLong, BadCount, NoSuchPlace}

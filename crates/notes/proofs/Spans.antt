@@ -1,5 +1,5 @@
 -- Columns and spans. At one level the spans of all places cover samples 0 to n - 1 without gap or overlap, and a sample's column is the place whose
--- span holds it. Assumes nothing.
+-- span holds it.
 use mathlib.Core.Logic.{⊎-elim}
 use mathlib.Core.Path.{_≡_, sym, ap, _∙_}
 use Prim.Native.Nat.{ℕ, zero, suc, _+_, _-_, _*_, _/_, _^_, _≤_, _<_}

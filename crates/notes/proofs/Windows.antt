@@ -1,4 +1,4 @@
--- Band windows: when one is done, and what it is then. Assumes nothing.
+-- Band windows: when one is done, and what it is then.
 use mathlib.Core.Bool.{Bool, true, false, cond}
 use mathlib.Core.List.{List, [], _∷_}
 use mathlib.Core.Path.{_≡_, refl, sym, ap, _∙_}

@@ -1,6 +1,5 @@
 -- Notes and their spans, from document 01: at which approximation a sample shows, and which samples an approximation spans.
 -- Samples and coefficients are plain numbers here; the code keeps them apart by their types.
--- Assumes nothing: these are definitions.
 use mathlib.Core.Bool.{not}
 use mathlib.Core.List.{List, [], _∷_, _++_}
 use Prim.Native.Nat.{ℕ, _+_, _-_, _*_, _/_, _^_, _≤_, _<_, min}

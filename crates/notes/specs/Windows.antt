@@ -1,6 +1,5 @@
 -- Band windows, from document 01: "a stretch of the approximations or of the details, whichever band was asked for, by start and count".
 -- Start and count are in samples of k bytes, the lengths a and d of the two bands in bytes.
--- Assumes nothing: these are definitions.
 use mathlib.Core.Bool.{cond}
 use mathlib.Core.List.{List, [], _∷_}
 use Prim.Native.Nat.{ℕ, _+_, _*_, _/_}

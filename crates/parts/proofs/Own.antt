@@ -1,4 +1,4 @@
--- A window of two parts of one block lies in that block, whichever band was asked for. Assumes nothing.
+-- A window of two parts of one block lies in that block, whichever band was asked for.
 use mathlib.Core.Bool.{Bool, true, false, cond}
 use mathlib.Core.List.{List}
 use mathlib.Core.Path.{_≡_}

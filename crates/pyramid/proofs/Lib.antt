@@ -2,17 +2,4 @@ pub mod Ways
 pub mod Parts
 pub mod Opening
 pub mod Writing
-pub mod Sized
-pub mod CutWalk
-pub mod Restored
-pub mod Heads
-pub mod Whole
-pub mod Survives
-pub mod Answers
-pub mod Bands
-pub mod Kept
 pub mod Sections
-pub mod WriteFits
-pub mod Demand3
-pub mod OpenT800
-pub mod SectionCalls

@@ -1,4 +1,4 @@
--- Opening: what each part of the checks leaves when it lets by, and that the levels which a cut left can be restored. Assumes nothing.
+-- Opening: what each part of the checks leaves when it lets by, and that the levels which a cut left can be restored.
 use Rattle.answers.specs.declared.err.Refusal.{Refusal}
 use mathlib.Core.Bool.{Bool, true, false, cond}
 use mathlib.Core.List.{List, [], _∷_, _++_, append-assoc, append-nil}

@@ -1,4 +1,4 @@
--- Parts that are copied, for `fetch` and `build`. Assumes nothing.
+-- Parts that are copied, for `fetch` and `build`.
 use mathlib.Core.List.{List}
 use mathlib.Core.Path.{_≡_, sym, ap, _∙_}
 use Prim.Native.Nat.{ℕ, suc, _+_, _-_, _≤_}

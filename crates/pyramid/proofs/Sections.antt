@@ -1,4 +1,4 @@
--- Looking a section up: what its checks leave, and that the part lies in the file. Assumes nothing.
+-- Looking a section up: what its checks leave, and that the part lies in the file.
 use mathlib.Core.Bool.{Bool, true, false, cond}
 use mathlib.Core.List.{List, [], _++_}
 use mathlib.Core.Path.{_≡_, refl, sym, ap, _∙_}

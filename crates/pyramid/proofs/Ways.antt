@@ -1,4 +1,4 @@
--- Where a walk that went on stands. Assumes nothing.
+-- Where a walk that went on stands.
 use mathlib.Core.Bool.{Bool, true, false, cond, not}
 use mathlib.Core.List.{List}
 use mathlib.Core.Logic.{_⊎_, inl, inr, ⊎-elim}

@@ -1,6 +1,6 @@
 -- Writing a file: numbers stored one after the other, sections, sizes, what a done call has passed, its two ends, and that two results which its statement allows are
 -- equal, the fronts of the work areas apart.
--- Assumes nothing, and looks into no filter but for its width.
+-- Looks into no filter but for its width.
 use mathlib.Core.Bool.{true}
 use mathlib.Core.Path.{_≡_, refl, sym, ap, _∙_}
 use mathlib.Core.List.{List, [], _∷_, _++_, append-assoc}

@@ -1,5 +1,4 @@
 -- The pyramid file, from document 01: "sections in a fixed order, each after its count. Counts are u32, little-endian." Over the filter, which is an integer one.
--- Assumes nothing: these are definitions.
 use mathlib.Core.List.{List, _++_}
 use Prim.Native.Nat.{ℕ, zero, suc, _+_, _*_, _/_}
 use lib.ListN.{length}

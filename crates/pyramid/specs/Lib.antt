@@ -2,4 +2,3 @@ pub mod Files
 pub mod Walks
 pub mod Opens
 pub mod Writes
-pub mod Sees

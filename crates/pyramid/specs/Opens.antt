@@ -1,5 +1,4 @@
 -- Opening a file, from document 01, "Opening checks": the checks as one list in its order, and what the call promises.
--- Assumes nothing: these are definitions.
 use mathlib.Core.Bool.{true, cond, not}
 use mathlib.Core.List.{List, [], _∷_, _++_}
 use Prim.Native.Nat.{ℕ, _+_, _-_, _*_, _/_}

@@ -1,5 +1,4 @@
 -- A walk over the sections of a file, from document 01: "section by section: fewer than 4 bytes left is a cut; a wrong count is 9; fewer bytes than the count needs is a cut".
--- Assumes nothing: these are definitions.
 use mathlib.Core.Bool.{cond, not}
 use mathlib.Core.List.{List}
 use Prim.Native.Nat.{ℕ, zero, suc, _+_, _-_, _*_}

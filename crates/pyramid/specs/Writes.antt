@@ -1,6 +1,5 @@
 -- Writing a file, from document 01: "writing checks as integer `multi_dwt` without its 3, then 7 (file area; need: the size), 7, 7. Bytes past the size are unchanged. Levels 0
 -- is stored as 1."
--- Assumes nothing: these are definitions.
 use mathlib.Core.List.{List, _∷_, _++_}
 use Prim.Native.Nat.{ℕ, _/_}
 use lib.ListN.{length, drop}

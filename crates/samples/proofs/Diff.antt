@@ -1,5 +1,4 @@
 -- Whole numbers as differences a - b of naturals, `subℕ a b`: sums, floors and residues of them, each as a fact of naturals, which `omega` reads.
--- Assumes nothing.
 use mathlib.Core.Path.{_≡_, refl, sym, ap, _∙_}
 use mathlib.Core.Logic.{⊎-elim}
 use Prim.Native.Nat.{ℕ, zero, suc, _+_, _-_, _*_, _/_, _%_, _≤_, _<_}

@@ -1,5 +1,4 @@
 -- Laws of floats in bytes, once over the format: NaN both ways, what was put is read, floats to bytes and back, and lengths.
--- Assumes nothing.
 use mathlib.Core.Bool.{true, false, not}
 use mathlib.Core.List.{List, map, map-map}
 use mathlib.Core.Path.{_≡_, refl, sym, ap, subst, _∙_}

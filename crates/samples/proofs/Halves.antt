@@ -1,5 +1,4 @@
 -- Laws of the entries at even and at odd places, once over the kind of entry: how many there are, which they are, and that halving and joining undo each other.
--- Assumes nothing.
 use mathlib.Core.List.{List}
 use mathlib.Core.Logic.{_⊎_, inl, inr, ⊎-elim}
 use mathlib.Core.Path.{_≡_, sym, ap, _∙_}

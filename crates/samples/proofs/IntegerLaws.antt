@@ -1,5 +1,4 @@
 -- Laws of samples in bytes, once over the width: words and the numbers that they stand for, samples to bytes and back, and lengths.
--- Assumes nothing.
 use mathlib.Core.Bool.{Bool, true, false, _||_}
 use mathlib.Core.Path.{_≡_, refl, sym, ap, subst, _∙_}
 use mathlib.Core.List.{List, map}

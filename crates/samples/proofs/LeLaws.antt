@@ -1,5 +1,4 @@
 -- Laws of little-endian numbers, once over the number of bytes: halves, what was stored is read, other places stay, and numbers in joined and cut lists.
--- Assumes nothing.
 use mathlib.Core.Path.{_≡_, refl, sym, ap, ap₂, _∙_}
 use mathlib.Core.List.{List, [], _∷_, _++_, append-assoc}
 use Prim.Native.Nat.{ℕ, zero, suc, _+_, _-_, _*_, _/_, _%_, _^_, _≤_, _<_}

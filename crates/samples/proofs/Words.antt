@@ -1,5 +1,4 @@
 -- Laws of words in bytes, once over the width: lengths, what was put is read, other words stay, and words to bytes and back.
--- Assumes nothing.
 use mathlib.Core.Path.{_≡_, refl, sym, ap, _∙_}
 use mathlib.Core.List.{List, [], _∷_, _++_, map, map-append, append-assoc, append-nil}
 use mathlib.Core.Logic.{⊎-elim}

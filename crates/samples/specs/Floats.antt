@@ -1,6 +1,5 @@
 -- f32 and f64 samples by their bits, over the format. A NaN's pattern, whatever its payload, reads as the one nan; nan is written as one fixed pattern,
 -- 0x7FC0_0000 or 0x7FF8_0000_0000_0000, which is what `toBits` gives.
--- Assumes nothing: these are definitions.
 use mathlib.Core.List.{List, map}
 use mathlib.Core.Path.{_≡_}
 use Prim.Native.Nat.{ℕ}

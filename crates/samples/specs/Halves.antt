@@ -1,8 +1,7 @@
 -- The entries of a list at even places and at odd places, and two lists joined again, an entry of each in turn. Over the kind of entry; z is never read.
--- Assumes nothing: these are definitions.
 use mathlib.Core.Bool.{cond}
 use mathlib.Core.List.{List}
-use Prim.Native.Nat.{ℕ, _+_, _*_, _/_, _%_}
+use Prim.Native.Nat.{_+_, _*_, _/_, _%_}
 use lib.Dec.{eqb}
 use lib.ListN.{length, getD}
 use Rattle.samples.specs.Words.{tabulate}

@@ -1,5 +1,4 @@
 -- Samples of 8, 16 and 32 bits, from document 01: "samples are two's complement, little-endian". Over the width k, in bytes.
--- Assumes nothing: these are definitions.
 use mathlib.Core.Bool.{Bool, cond, _||_}
 use mathlib.Core.List.{List, map}
 use mathlib.Core.Logic.{_⊎_}

@@ -1,5 +1,4 @@
 -- Little-endian numbers, for samples, counts and headers alike: the lowest byte comes first. Over the number of bytes.
--- Assumes nothing: these are definitions.
 use mathlib.Core.List.{List, [], _∷_}
 use Prim.Native.Nat.{ℕ, zero, suc, _+_, _*_, _/_, _%_, _<_}
 use lib.ListN.{getD}

@@ -1,5 +1,4 @@
 -- A list of bytes as words of k bytes each, one after the other: what integers and floats share. Word i stands at place k * i.
--- Assumes nothing: these are definitions.
 use mathlib.Core.List.{List, [], _∷_, _++_}
 use mathlib.Core.Path.{_≡_}
 use Prim.Native.Nat.{ℕ, zero, suc, _*_, _/_, _≤_}

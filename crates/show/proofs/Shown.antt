@@ -1,4 +1,4 @@
--- A file that is opened has section 0 and samples of a known width, and the output holds as many as the answer says. Assumes nothing.
+-- A file that is opened has section 0 and samples of a known width, and the output holds as many as the answer says.
 use mathlib.Core.List.{List}
 use mathlib.Core.Path.{_≡_, sym, ap, subst, _∙_}
 use Prim.Native.Nat.{ℕ, _/_, _≤_}

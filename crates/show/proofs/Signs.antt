@@ -1,6 +1,6 @@
--- The number of a word, in the lower half and in the upper. Assumes nothing.
+-- The number of a word, in the lower half and in the upper.
 use mathlib.Core.Bool.{cond}
-use mathlib.Core.Path.{_≡_, refl, sym, ap, _∙_}
+use mathlib.Core.Path.{_≡_, sym, ap, _∙_}
 use Prim.Native.Nat.{ℕ, suc, _-_, _*_, _/_, _^_, _≤_, _<_}
 use native.Mathlib.Omega.{arith}
 use borrow.Author.Tests.{lt-ltb, le-ltb}

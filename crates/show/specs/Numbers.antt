@@ -1,4 +1,4 @@
--- The number that a sign and a size stand for. Assumes nothing: these are definitions.
+-- The number that a sign and a size stand for.
 use mathlib.Core.Bool.{cond}
 use lib.IntN.{ℤ, pos, negℤ}
 use Rattle.show.specs.declared.Number.{Number}

@@ -1,4 +1,4 @@
--- How many approximations there are after some levels. Assumes nothing.
+-- How many approximations there are after some levels.
 use mathlib.Core.Path.{_≡_, refl, ap, _∙_}
 use Prim.Native.Nat.{ℕ, zero, suc, _+_, _-_, _/_, _≤_}
 use native.Mathlib.Numerals.{add-one}

@@ -1,5 +1,4 @@
 -- Document 01's figures of the depth, and where floor(log2 n) would be wrong. Computed.
--- Assumes nothing.
 use mathlib.Core.Bool.{cond}
 use mathlib.Core.Path.{_≡_, refl}
 use Prim.Native.Nat.{ℕ, zero, suc, _/_}

@@ -1,5 +1,5 @@
 -- One level forward and back: what a done call has passed, the two ends of each call, and that two results which a statement allows are equal.
--- Assumes nothing, and looks into no filter.
+-- Looks into no filter.
 use mathlib.Core.Bool.{true, false, not}
 use mathlib.Core.List.{List, _∷_}
 use mathlib.Core.Path.{_≡_, refl, sym, ap, _∙_}

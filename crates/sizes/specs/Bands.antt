@@ -1,5 +1,4 @@
 -- Lengths of one level, from document 01: the limits, the two bands, the smallest input, and what an inverse expects.
--- Assumes nothing: these are definitions.
 use Prim.Native.Nat.{ℕ, _+_, _/_, max}
 use Rattle.sizes.specs.declared.Wavelet.{Wavelet}
 use Rattle.sizes.specs.declared.Wavelet.the-variants.{Cdf53, Cdf97}

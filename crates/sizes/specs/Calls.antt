@@ -1,6 +1,5 @@
 -- One level forward and back of any filter, from document 01, "Order of checks": the checks of each call as a list, and what each call promises.
 -- A filter is its wavelet w, k bytes a sample, and what it makes of bytes: two bands `low` and `high`, and `back`.
--- Assumes nothing: these are definitions.
 use mathlib.Core.Bool.{not}
 use mathlib.Core.List.{List, [], _∷_}
 use mathlib.Core.Path.{_≡_}

@@ -1,5 +1,4 @@
 -- Many levels, from document 01: each level's input is the approximations of the level before. By recursion on the levels.
--- Assumes nothing: these are definitions.
 use mathlib.Core.Bool.{cond}
 use mathlib.Core.List.{[], _∷_}
 use Prim.Native.Nat.{ℕ, zero, suc, _≤_}

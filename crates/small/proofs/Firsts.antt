@@ -1,5 +1,4 @@
 -- The two lists that two lifting steps make of three samples or more, entry by entry as code makes them of the samples, and how large they are. Once over the format.
--- Assumes nothing.
 use mathlib.Core.List.{List}
 use mathlib.Core.Path.{_≡_, refl, _∙_}
 use Prim.Native.Nat.{ℕ, _+_, _-_, _*_, _/_, _≤_, _<_, min}

@@ -1,4 +1,4 @@
--- A lifting step on two lists of floats, entry by entry as code makes it, how large it leaves an entry, and how a list is stored. Once over the format. Assumes nothing.
+-- A lifting step on two lists of floats, entry by entry as code makes it, how large it leaves an entry, and how a list is stored. Once over the format.
 use mathlib.Core.Bool.{Bool, true, false, not, cond}
 use mathlib.Core.List.{List}
 use mathlib.Core.Path.{_≡_, refl, sym, ap, subst, _∙_}

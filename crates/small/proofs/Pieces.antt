@@ -1,5 +1,4 @@
 -- Pieces of lists: an entry more, and what a lifting step makes of two pieces. Once over the format.
--- Assumes nothing.
 use mathlib.Core.List.{List}
 use mathlib.Core.Logic.{⊎-elim}
 use mathlib.Core.Path.{_≡_, refl, subst, _∙_}

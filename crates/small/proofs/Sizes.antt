@@ -1,5 +1,4 @@
 -- Sums and products of small floats are finite: each rounding makes a value at most four times as large, and a lifting step at most 2 ^ 9 times.
--- Assumes nothing.
 use mathlib.Core.Bool.{Bool, true, false, not, _&&_, Bool·beq, cond}
 use mathlib.Core.List.{List}
 use mathlib.Core.Logic.{⊎-elim}

@@ -1,5 +1,4 @@
 -- Lists of floats that lifting steps make, and how they are stored. Over the format.
--- Assumes nothing: these are definitions.
 use mathlib.Core.Bool.{cond}
 use mathlib.Core.List.{List}
 use Prim.Native.Nat.{ℕ, _/_, _%_}

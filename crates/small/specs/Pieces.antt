@@ -1,5 +1,4 @@
 -- Pieces of lists of floats, as a block of turns keeps them, and a lifting step on them. Over the format.
--- Assumes nothing: these are definitions.
 use mathlib.Core.List.{List}
 use mathlib.Core.Path.{_≡_}
 use Prim.Native.Nat.{ℕ, _+_, _-_, _≤_, _<_}

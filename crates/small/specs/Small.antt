@@ -1,5 +1,4 @@
 -- Floats that are no NaN and far from the largest, over the format. A unit is the format's smallest value.
--- Assumes nothing: these are definitions.
 use mathlib.Core.Bool.{Bool, true}
 use mathlib.Core.List.{List}
 use mathlib.Core.Path.{_≡_}

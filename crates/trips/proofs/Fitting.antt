@@ -1,6 +1,6 @@
 -- Lengths of levels that fit each other: those of a pyramid do, they are no more than the depth and no more than 23; and on lengths that fit, `multi_idwt`,
 -- `multi_dwt` and `dwt` say that they are done.
--- Assumes nothing, and looks into no filter.
+-- Looks into no filter.
 use mathlib.Core.List.{List, [], _∷_, _++_}
 use mathlib.Core.Logic.{⊎-elim}
 use mathlib.Core.Path.{_≡_, refl, ap, _∙_}

@@ -1,5 +1,4 @@
 -- How many bytes one level of each filter gives, forward and back: the seven filters, and then, by nothing but that, what many levels give.
--- Assumes nothing.
 use mathlib.Core.List.{List, [], _∷_, _++_}
 use mathlib.Core.Path.{_≡_, refl, sym, ap, _∙_}
 use Prim.Native.Nat.{ℕ, zero, suc, _+_, _*_, _/_, _≤_}

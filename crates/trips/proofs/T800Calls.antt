@@ -11,7 +11,7 @@ use Rattle.sizes.specs.declared.Wavelet.the-variants.{Cdf53}
 use Rattle.sizes.specs.Bands.{mostSamples, ups, downs}
 use Rattle.sizes.specs.Levels.{places, depthOf, levelsOf}
 use Rattle.samples.specs.Integers.{wrap, decode, encode}
-use Rattle.cdf53i.specs.T800.{lowsAt, highsAfter, allHighs, backsAt}
+use Rattle.trips.specs.T800Levels.{lowsAt, highsAfter, allHighs, backsAt}
 use Rattle.dwt.specs.declared.filter.Filter.{Filter}
 use Rattle.dwt.specs.Filters.{widthOf, waveletOf, Integers}
 use Rattle.dwt.specs.Pyramids.{lengthsOf}

@@ -21,7 +21,8 @@ use Rattle.samples.specs.Integers.{val, residue, wrap, decode, encode}
 use Rattle.samples.proofs.LeLaws.{leAt-take, leAt-drop}
 use Rattle.samples.proofs.Words.{bytes-append, length-words}
 use Rattle.samples.proofs.IntegerLaws.{length-decode, at-decode}
-use Rattle.cdf53i.specs.T800.{highs, lows, backs, lowsAt, highsAfter, allHighs, backsAt}
+use Rattle.cdf53i.specs.T800.{highs, lows, backs}
+use Rattle.trips.specs.T800Levels.{lowsAt, highsAfter, allHighs, backsAt}
 use Rattle.dwt.specs.declared.filter.Filter.{Filter}
 use Rattle.dwt.specs.Filters.{widthOf, waveletOf, highOf, backOf, Integers}
 use Rattle.dwt.specs.Pyramids.{approxAt, pyramid, samplesOf, detailsAt}

@@ -1,7 +1,6 @@
 -- `multi_idwt` after `multi_dwt`, and the other way round, about the bytes of the calls. For any filter: on the parts of what `multi_dwt` gave, with the
 -- lengths of its levels, `multi_idwt` is done and gives the levels undone one by one. For the integer filters that is the samples themselves, and
 -- `multi_dwt` of what `multi_idwt` gave is the bands themselves.
--- Assumes nothing.
 use mathlib.Core.Bool.{true}
 use mathlib.Core.List.{List, _++_}
 use mathlib.Core.Path.{_≡_, refl, sym, ap, _∙_}

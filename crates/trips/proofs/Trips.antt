@@ -1,5 +1,5 @@
 -- The pyramid of any filter by its approximations and its details, level by level from either end; and that levels and back, by the lengths that belong to
--- them, are the levels undone one by one. Assumes nothing, and knows no more of a filter than how many bytes it gives.
+-- them, are the levels undone one by one. Of a filter they know how many bytes it gives, and no more.
 use mathlib.Core.List.{List, [], _∷_, _++_, append-assoc, append-nil}
 use mathlib.Core.Path.{_≡_, refl, sym, ap, ap₂, _∙_}
 use Prim.Native.Nat.{ℕ, zero, suc, _+_, _-_, _*_, _≤_, _<_}

@@ -1,6 +1,5 @@
 -- Many levels of a filter whose level undoes itself: the samples come back from their pyramid, and bands from their samples. The three integer filters are
 -- such, for samples of every value, also where coefficients wrap.
--- Assumes nothing.
 use mathlib.Core.List.{List, [], _∷_, _++_}
 use mathlib.Core.Logic.{⊎-elim}
 use mathlib.Core.Path.{_≡_, refl, sym, ap, ap₂, subst, _∙_}

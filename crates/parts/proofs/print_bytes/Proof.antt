@@ -1,4 +1,4 @@
--- `print_bytes` is safe and ends: i is at most n, and the measure is what is left of n. Assumes nothing.
+-- `print_bytes` is safe and ends: i is at most n, and the measure is what is left of n.
 use borrow.Author.Needs.{needs}
 use Prim.Native.Nat.{_≤_, _-_}
 use Rattle.parts.proofs.print_bytes.Statement.{statement}

@@ -1,4 +1,4 @@
--- `window` meets its contract: it is a window of what two lookups of sections give. Assumes nothing.
+-- `window` meets its contract: it is a window of what two lookups of sections give.
 use borrow.Author.Needs.{needs}
 use mathlib.Core.Path.{ap, ap₂, _∙_}
 use Rattle.notes.specs.Windows.{windowIn}

@@ -1,4 +1,4 @@
--- `loaded` meets its contract: the array keeps its length of 256, which n is within. Assumes nothing.
+-- `loaded` meets its contract: the array keeps its length of 256, which n is within.
 use borrow.Author.Needs.{needs}
 use native.Mathlib.Omega.{arith}
 use lib.ListN.{length-take}

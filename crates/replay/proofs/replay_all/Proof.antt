@@ -1,5 +1,5 @@
 -- `replay_all` is safe and ends. The records gone through are at most the bytes gone through, and those that differ at most the records.
--- The measure is what is left of the list. Assumes nothing.
+-- The measure is what is left of the list.
 use borrow.Author.Needs.{needs}
 use Prim.Native.Nat.{_≤_, _-_}
 use lib.ListN.{length}

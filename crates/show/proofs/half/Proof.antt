@@ -1,4 +1,4 @@
--- `half` meets its contract, one case for each width. Assumes nothing.
+-- `half` meets its contract, one case for each width.
 use mathlib.Core.Path.{refl}
 use Rattle.samples.proofs.IntegerLaws.{four}
 use Rattle.show.proofs.half.Statement.{statement}

@@ -1,4 +1,4 @@
--- `print_samples` is safe and ends: i is at most n, and the measure is what is left of n. Assumes nothing.
+-- `print_samples` is safe and ends: i is at most n, and the measure is what is left of n.
 use borrow.Author.Needs.{needs}
 use Prim.Native.Nat.{_≤_, _-_}
 use Rattle.show.proofs.print_samples.Statement.{statement}

@@ -1,4 +1,4 @@
--- `show` is safe: a file that is opened has section 0, samples of a known width, and as many in the output as are printed. Assumes nothing.
+-- `show` is safe: a file that is opened has section 0, samples of a known width, and as many in the output as are printed.
 use borrow.Author.Needs.{needs}
 use native.Mathlib.Omega.{arith}
 use Rattle.pyramid.specs.Opens.{ownWidth, ownPoint}

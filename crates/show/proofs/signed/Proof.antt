@@ -1,4 +1,4 @@
--- `signed` meets its contract: the lower half of the words, and the upper. Assumes nothing.
+-- `signed` meets its contract: the lower half of the words, and the upper.
 use borrow.Author.Needs.{needs}
 use Rattle.show.proofs.Signs.{lower, upper}
 use Rattle.show.proofs.signed.Statement.{statement}

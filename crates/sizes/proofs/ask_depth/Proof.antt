@@ -1,4 +1,4 @@
--- `ask_depth` meets its contract: one check, then the depth. Assumes nothing.
+-- `ask_depth` meets its contract: one check, then the depth.
 use borrow.Author.Needs.{needs}
 use borrow.Author.Tests.{lt-ltb, le-ltb}
 use mathlib.Core.Path.{_∙_, refl, ap}

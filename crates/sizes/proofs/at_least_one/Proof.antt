@@ -1,4 +1,4 @@
--- `at_least_one` meets its contract. Assumes nothing.
+-- `at_least_one` meets its contract.
 use borrow.Author.Tests.{eq-eqb, ne-eqb}
 use Rattle.sizes.proofs.at_least_one.Statement.{statement}
 use Rattle.sizes.proofs.at_least_one.Tie as tie

@@ -1,5 +1,4 @@
 -- `depth` meets its contract. The invariant: the levels counted and the depth of what is left are the depth of n. The measure is what is left.
--- Assumes nothing.
 use Prim.Native.Nat.{_+_, _≤_}
 use mathlib.Core.Path.{_≡_, _∙_, ap}
 use native.Mathlib.Omega.{arith}

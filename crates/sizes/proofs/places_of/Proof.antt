@@ -1,4 +1,4 @@
--- `places_of` meets its contract. The invariant: after i levels, `count` approximations. Assumes nothing.
+-- `places_of` meets its contract. The invariant: after i levels, `count` approximations.
 use Prim.Native.Nat.{_-_, _≤_}
 use mathlib.Core.Path.{_≡_, refl, ap, _∙_}
 use native.Mathlib.Omega.{arith}

@@ -1,4 +1,4 @@
--- `is_done` meets its contract. Assumes nothing.
+-- `is_done` meets its contract.
 use borrow.Author.Needs.{needs}
 use mathlib.Core.Path.{ap}
 use lib.Dec.{eqb}

@@ -1,4 +1,4 @@
--- `numbers` meets its contract: each case of the match tells the table's numbers. Assumes nothing.
+-- `numbers` meets its contract: each case of the match tells the table's numbers.
 use borrow.Author.Needs.{needs}
 use mathlib.Core.Path.{_∙_, sym, ap}
 use Rattle.answers.specs.Answers.{answerOf}

@@ -1,4 +1,4 @@
--- `first_f64` meets its contract: the left neighbours of the first place are mirrored. Assumes nothing.
+-- `first_f64` meets its contract: the left neighbours of the first place are mirrored.
 use native.Mathlib.Omega.{arith}
 use lib.Ieee.{binary64}
 use Rattle.small.proofs.Lifts.{never}

@@ -1,4 +1,4 @@
--- `first_f32` meets its contract: the left neighbours of the first place are mirrored. Assumes nothing.
+-- `first_f32` meets its contract: the left neighbours of the first place are mirrored.
 use native.Mathlib.Omega.{arith}
 use lib.Ieee.{binary32}
 use Rattle.small.proofs.Lifts.{never}

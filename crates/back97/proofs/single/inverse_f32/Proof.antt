@@ -1,4 +1,4 @@
--- `inverse_f32` meets its contract: both ways make the same samples. Assumes nothing.
+-- `inverse_f32` meets its contract: both ways make the same samples.
 use borrow.Author.Needs.{needs}
 use native.Mathlib.Omega.{arith}
 use Rattle.floats.specs.Kinds.{set32}

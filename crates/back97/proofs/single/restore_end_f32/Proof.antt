@@ -1,4 +1,4 @@
--- `restore_end_f32` meets its contract: two pairs, and one sample more or none. Assumes nothing.
+-- `restore_end_f32` meets its contract: two pairs, and one sample more or none.
 use borrow.Author.Needs.{needs}
 use Prim.Native.Nat.{_+_}
 use native.Mathlib.Omega.{arith}

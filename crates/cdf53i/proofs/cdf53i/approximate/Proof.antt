@@ -1,5 +1,4 @@
 -- `approximate` meets its contract. The invariant: the first i approximations are stored, e is the word of the detail before the next one, and the area is as long as it was.
--- Assumes nothing.
 use borrow.Author.Needs.{needs}
 use mathlib.Core.Path.{_≡_, refl, _∙_}
 use Prim.Native.Nat.{_+_, _-_, _/_, _≤_}

@@ -1,4 +1,4 @@
--- `approximate_block` meets its contract: details, then approximations. Assumes nothing.
+-- `approximate_block` meets its contract: details, then approximations.
 use borrow.Author.Needs.{needs}
 use mathlib.Core.Path.{_∙_}
 use native.Mathlib.Omega.{arith}

@@ -1,4 +1,4 @@
--- `approximate_end` meets its contract: as many approximations as details, and one more. Assumes nothing.
+-- `approximate_end` meets its contract: as many approximations as details, and one more.
 use borrow.Author.Needs.{needs}
 use mathlib.Core.Path.{ap, _∙_}
 use Prim.Native.Nat.{_+_}

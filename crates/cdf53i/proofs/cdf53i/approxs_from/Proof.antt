@@ -1,5 +1,4 @@
 -- `approxs_from` meets its contract. The invariant: the approximations before i + j are stored.
--- Assumes nothing.
 use borrow.Author.Needs.{needs}
 use mathlib.Core.Path.{ap, _∙_}
 use Prim.Native.Nat.{_+_, _-_, _/_, _≤_}

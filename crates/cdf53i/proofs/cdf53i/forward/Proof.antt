@@ -1,4 +1,4 @@
--- `forward` meets its contract: the details that the update reads are those that were stored. Assumes nothing.
+-- `forward` meets its contract: the details that the update reads are those that were stored.
 use borrow.Author.Needs.{needs}
 use mathlib.Core.Path.{_∙_}
 use Rattle.samples.specs.Integers.{decode}

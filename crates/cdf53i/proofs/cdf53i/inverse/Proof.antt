@@ -1,5 +1,4 @@
 -- `inverse` meets its contract. The invariant: the first 2 i samples are restored, e is the word of the even one that comes next, and the two areas are as long as they were.
--- Assumes nothing.
 use borrow.Author.Needs.{needs}
 use mathlib.Core.Path.{_≡_, refl, _∙_}
 use Prim.Native.Nat.{_+_, _-_, _/_, _≤_}

@@ -1,5 +1,4 @@
 -- `odds_from` meets its contract. The invariant: the first j odd samples of the block are stored.
--- Assumes nothing.
 use mathlib.Core.Path.{ap, _∙_}
 use Prim.Native.Nat.{_+_, _-_, _/_, _≤_}
 use native.Mathlib.Omega.{arith}

@@ -1,5 +1,4 @@
 -- `pairs_from` meets its contract. The invariant: the samples before pair i + j are restored.
--- Assumes nothing.
 use mathlib.Core.Path.{_∙_}
 use Prim.Native.Nat.{_+_, _-_, _*_, _/_, _≤_}
 use native.Mathlib.Omega.{arith}

@@ -1,5 +1,4 @@
 -- `predict` meets its contract. The invariant: the first i details are stored. The last one, whose right neighbour may be mirrored, comes after the loop.
--- Assumes nothing.
 use borrow.Author.Needs.{needs}
 use mathlib.Core.Path.{refl, sym, _∙_}
 use Prim.Native.Nat.{_-_, _/_, _^_, _≤_}

@@ -1,4 +1,4 @@
--- `restore_block` meets its contract: evens, odds and pairs, one after the other. Assumes nothing.
+-- `restore_block` meets its contract: evens, odds and pairs, one after the other.
 use borrow.Author.Needs.{needs}
 use mathlib.Core.Path.{_∙_}
 use native.Mathlib.Omega.{arith}

@@ -1,4 +1,4 @@
--- `restore_end` meets its contract: as many details as approximations, and one less. Assumes nothing.
+-- `restore_end` meets its contract: as many details as approximations, and one less.
 use borrow.Author.Needs.{needs}
 use mathlib.Core.List.{List}
 use mathlib.Core.Path.{_≡_, _∙_, sym, ap}

@@ -1,5 +1,4 @@
 -- `update` meets its contract. The invariant: the first i approximations are stored, the first and the last, whose neighbours are mirrored, outside the loop.
--- Assumes nothing.
 use borrow.Author.Needs.{needs}
 use mathlib.Core.Path.{refl, sym, _∙_}
 use Prim.Native.Nat.{_+_, _-_, _/_, _^_, _≤_}

@@ -1,4 +1,4 @@
--- `detail_at` meets its contract: the words that it reads are those of the definition. Assumes nothing.
+-- `detail_at` meets its contract: the words that it reads are those of the definition.
 use borrow.Author.Needs.{needs}
 use native.Mathlib.Omega.{arith}
 use mathlib.Core.Path.{_∙_}

@@ -1,4 +1,4 @@
--- `half_sum` meets its contract, one case for each width. Assumes nothing.
+-- `half_sum` meets its contract, one case for each width.
 use borrow.Author.Needs.{needs}
 use Rattle.cdf53i.proofs.steps.half_sum.Statement.{statement}
 use Rattle.cdf53i.proofs.steps.half_sum.Tie as tie

@@ -1,4 +1,4 @@
--- `mean` meets its contract: half the sum of two biased words. Assumes nothing.
+-- `mean` meets its contract: half the sum of two biased words.
 use borrow.Author.Needs.{needs}
 use native.Mathlib.Omega.{arith}
 use mathlib.Core.Path.{ap₂, _∙_}

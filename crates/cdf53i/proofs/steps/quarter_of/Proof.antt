@@ -1,4 +1,4 @@
--- `quarter_of` meets its contract, one case for each width. Assumes nothing.
+-- `quarter_of` meets its contract, one case for each width.
 use Rattle.samples.specs.Integers.{quarter}
 use Rattle.samples.proofs.IntegerLaws.{four}
 use Rattle.cdf53i.proofs.steps.quarter_of.Statement.{statement}

@@ -1,4 +1,4 @@
--- `sub` meets its contract, one case for each width. Assumes nothing.
+-- `sub` meets its contract, one case for each width.
 use borrow.Author.Needs.{needs}
 use native.Mathlib.Omega.{arith}
 use Rattle.samples.proofs.IntegerLaws.{four}

@@ -1,4 +1,4 @@
--- The proof of the cycle of calls {up}: the levels back, from the deepest. The measure is the lengths left. Assumes nothing, and looks into no filter.
+-- The proof of the cycle of calls {up}: the levels back, from the deepest. The measure is the lengths left. Looks into no filter.
 use mathlib.Core.Path.{_≡_, refl, sym, ap, _∙_}
 use mathlib.Core.List.{List, [], _∷_, _++_}
 use Prim.Native.Nat.{ℕ, _+_, _*_, _/_, _-_, _≤_, _<_}

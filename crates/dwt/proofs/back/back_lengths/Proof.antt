@@ -1,4 +1,4 @@
--- `back_lengths` meets its contract: the checks in three parts, and the sum of the lengths between them. Assumes nothing.
+-- `back_lengths` meets its contract: the checks in three parts, and the sum of the lengths between them.
 use borrow.Author.Needs.{needs}
 use borrow.Author.Tests.{not-true, not-false}
 use mathlib.Core.Bool.{not}

@@ -1,4 +1,4 @@
--- `back_sizes` meets its contract: a link for each check. Assumes nothing.
+-- `back_sizes` meets its contract: a link for each check.
 use borrow.Author.Tests.{lt-ltb, le-ltb, eq-eqb, ne-eqb}
 use mathlib.Core.List.{[], _∷_}
 use mathlib.Core.Path.{_≡_, refl}

@@ -1,4 +1,4 @@
--- `band_lengths` meets its contract. The invariant: what is left of the lengths decides. Assumes nothing.
+-- `band_lengths` meets its contract. The invariant: what is left of the lengths decides.
 use borrow.Author.Needs.{needs}
 use borrow.Author.Tests.{not-true, not-false}
 use Prim.Native.Nat.{_+_, _-_, _≤_, _<_}

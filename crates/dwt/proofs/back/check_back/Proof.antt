@@ -1,4 +1,4 @@
--- `check_back` meets its contract: the byte lengths of what is read and of what is lent, then the lengths in samples. Assumes nothing.
+-- `check_back` meets its contract: the byte lengths of what is read and of what is lent, then the lengths in samples.
 use borrow.Author.Needs.{needs}
 use borrow.Author.Tests.{not-true, not-false}
 use mathlib.Core.List.{List, [], _∷_, _++_}

@@ -1,4 +1,4 @@
--- `length_at` meets its contract: a u32 is below 2^32. Assumes nothing.
+-- `length_at` meets its contract: a u32 is below 2^32.
 use borrow.Author.Needs.{needs}
 use mathlib.Core.Path.{_∙_, sym}
 use Rattle.samples.specs.Words.{wordAt}

@@ -1,4 +1,4 @@
--- `restore` meets its contract: lengths that fit are not refused. Assumes nothing, and looks into no filter.
+-- `restore` meets its contract: lengths that fit are not refused. Looks into no filter.
 use borrow.Author.Needs.{needs}
 use Rattle.sizes.proofs.OneLevel.{inverse-ran}
 use Rattle.dwt.specs.Filters.{widthOf, waveletOf, backOf}

@@ -1,4 +1,4 @@
--- `total_of` meets its contract. The invariant: what is added up, and what is left. Assumes nothing.
+-- `total_of` meets its contract. The invariant: what is added up, and what is left.
 use borrow.Author.Needs.{needs}
 use Prim.Native.Nat.{_+_, _-_, _*_, _≤_}
 use mathlib.Core.Path.{_≡_}

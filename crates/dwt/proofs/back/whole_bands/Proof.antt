@@ -1,4 +1,4 @@
--- `whole_bands` meets its contract: a link for each check. Assumes nothing.
+-- `whole_bands` meets its contract: a link for each check.
 use borrow.Author.Needs.{needs}
 use mathlib.Core.Path.{refl}
 use Rattle.answers.proofs.Chain.{by, stop, same, other}

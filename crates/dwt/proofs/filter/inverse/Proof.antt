@@ -1,4 +1,4 @@
--- One level back of any filter: of each, what its own function leaves. Assumes nothing, and looks into no filter.
+-- One level back of any filter: of each, what its own function leaves. Looks into no filter.
 use borrow.Author.Needs.{needs}
 use mathlib.Core.Path.{ap, _∙_}
 use lib.Ieee.{binary32, binary64}

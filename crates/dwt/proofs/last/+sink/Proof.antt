@@ -1,4 +1,4 @@
--- The proof of the cycle of calls {sink}: the levels above the last, and the last. The measure is the levels left. Assumes nothing, and looks into no filter.
+-- The proof of the cycle of calls {sink}: the levels above the last, and the last. The measure is the levels left. Looks into no filter.
 use borrow.Author.Needs.{needs}
 use borrow.Fn.Kinds.{In}
 use borrow.Fn.PlainCycle.{Measures, is, falls, and}

@@ -1,4 +1,4 @@
--- `check_dwt` meets its contract: the byte lengths, then the lengths in samples. Assumes nothing.
+-- `check_dwt` meets its contract: the byte lengths, then the lengths in samples.
 use borrow.Author.Needs.{needs}
 use borrow.Author.Tests.{not-true, not-false}
 use mathlib.Core.List.{List, [], _∷_}

@@ -1,4 +1,4 @@
--- `dwt` meets its contract: the checks, then the levels where they let by. Assumes nothing, and looks into no filter.
+-- `dwt` meets its contract: the checks, then the levels where they let by. Looks into no filter.
 use borrow.Author.Needs.{needs}
 use mathlib.Core.Path.{_∙_, sym, ap}
 use Prim.Native.Nat.{ℕ, _-_, _*_, _/_}

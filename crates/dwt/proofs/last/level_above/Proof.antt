@@ -1,4 +1,4 @@
--- `level_above` meets its contract: the front of `to` comes back as the approximations. Assumes nothing, and looks into no filter.
+-- `level_above` meets its contract: the front of `to` comes back as the approximations. Looks into no filter.
 use borrow.Author.Needs.{needs}
 use mathlib.Core.Path.{_≡_, sym, _∙_}
 use Prim.Native.Nat.{_*_}

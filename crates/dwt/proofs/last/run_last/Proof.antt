@@ -1,4 +1,4 @@
--- `run_last` meets its contract: the signal's own level, and the levels below it. Assumes nothing, and looks into no filter.
+-- `run_last` meets its contract: the signal's own level, and the levels below it. Looks into no filter.
 use borrow.Author.Needs.{needs}
 use mathlib.Core.Path.{_≡_, refl, ap, _∙_}
 use Prim.Native.Nat.{suc, _+_, _-_, _*_}

@@ -1,4 +1,4 @@
--- `check_multi` meets its contract: the byte lengths, then the lengths in samples. Assumes nothing.
+-- `check_multi` meets its contract: the byte lengths, then the lengths in samples.
 use borrow.Author.Needs.{needs}
 use mathlib.Core.Bool.{true}
 use mathlib.Core.List.{List, [], _∷_}

@@ -1,4 +1,4 @@
--- `cut_of` meets its contract. Assumes nothing.
+-- `cut_of` meets its contract.
 use borrow.Author.Needs.{needs}
 use mathlib.Core.Path.{_≡_, ap₂}
 use Prim.Native.Nat.{_*_}

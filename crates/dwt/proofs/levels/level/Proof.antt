@@ -1,4 +1,4 @@
--- `level` meets its contract: the two bands, each in its place. Assumes nothing, and looks into no filter.
+-- `level` meets its contract: the two bands, each in its place. Looks into no filter.
 use borrow.Author.Needs.{needs}
 use mathlib.Core.Path.{_≡_, sym, ap, _∙_}
 use Prim.Native.Nat.{_-_, _*_}

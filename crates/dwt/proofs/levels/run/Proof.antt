@@ -1,4 +1,4 @@
--- `run` meets its contract: one level, and the levels below it. Assumes nothing, and looks into no filter.
+-- `run` meets its contract: one level, and the levels below it. Looks into no filter.
 use mathlib.Core.Path.{_≡_, sym, ap, _∙_}
 use mathlib.Core.List.{List, _++_}
 use Prim.Native.Nat.{ℕ, suc, _*_, _-_, _≤_}

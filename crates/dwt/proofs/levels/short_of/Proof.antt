@@ -1,4 +1,4 @@
--- `short_of` meets its contract, case by case. Assumes nothing.
+-- `short_of` meets its contract, case by case.
 use borrow.Author.Needs.{needs}
 use mathlib.Core.Path.{sym, ap}
 use Rattle.dwt.specs.Calls.{short}

@@ -1,4 +1,4 @@
--- `inverse_f32` meets its contract: the two bands joined, and then the schedule of the inverse. Assumes nothing.
+-- `inverse_f32` meets its contract: the two bands joined, and then the schedule of the inverse.
 use borrow.Author.Needs.{needs}
 use Rattle.sizes.specs.declared.Wavelet.the-variants.{Cdf53}
 use Rattle.floats.proofs.Levels.{join-lanes, run-back}

@@ -1,4 +1,4 @@
--- `back97_f32` meets its contract. Assumes nothing.
+-- `back97_f32` meets its contract.
 use mathlib.Core.Path.{refl}
 use Rattle.floats.specs.Filters.{back97}
 use Rattle.floats.proofs.cdf97f.back97_f32.Statement.{statement}

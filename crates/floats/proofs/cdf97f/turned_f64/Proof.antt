@@ -1,4 +1,4 @@
--- `turned_f64` meets its contract. Assumes nothing.
+-- `turned_f64` meets its contract.
 use mathlib.Core.Path.{refl}
 use Rattle.floats.specs.Filters.{turned}
 use Rattle.floats.proofs.cdf97f.turned_f64.Statement.{statement}

@@ -1,4 +1,4 @@
--- `dwt97_scale_f64` meets its contract. The invariant: the first i floats are new. Assumes nothing.
+-- `dwt97_scale_f64` meets its contract. The invariant: the first i floats are new.
 use borrow.Author.Needs.{needs}
 use Prim.Native.Nat.{_-_}
 use lib.Ieee.{binary64}

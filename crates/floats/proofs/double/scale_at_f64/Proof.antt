@@ -1,4 +1,4 @@
--- `scale_at_f64` meets its contract. Assumes nothing.
+-- `scale_at_f64` meets its contract.
 use borrow.Author.Needs.{needs}
 use Rattle.floats.proofs.double.scale_at_f64.Statement.{statement}
 use Rattle.floats.proofs.double.scale_at_f64.Tie as tie

@@ -1,4 +1,4 @@
--- `dwt97_forward_update_odd_f32` meets its contract. The invariant: the first i details are new. Assumes nothing.
+-- `dwt97_forward_update_odd_f32` meets its contract. The invariant: the first i details are new.
 use borrow.Author.Needs.{needs}
 use Prim.Native.Nat.{_-_}
 use lib.Ieee.{binary32}

@@ -1,4 +1,4 @@
--- `lift_at_f32` meets its contract. Assumes nothing.
+-- `lift_at_f32` meets its contract.
 use borrow.Author.Needs.{needs}
 use lib.Ieee.{binary32}
 use Rattle.floats.proofs.Turns.{put-lifted}

@@ -1,4 +1,4 @@
--- `scale_at_f32` meets its contract. Assumes nothing.
+-- `scale_at_f32` meets its contract.
 use borrow.Author.Needs.{needs}
 use Rattle.floats.proofs.single.scale_at_f32.Statement.{statement}
 use Rattle.floats.proofs.single.scale_at_f32.Tie as tie

@@ -1,4 +1,4 @@
--- `approximate_f64` meets its contract: the loop without details. Assumes nothing.
+-- `approximate_f64` meets its contract: the loop without details.
 use borrow.Author.Needs.{needs}
 use mathlib.Core.Path.{refl}
 use lib.Ieee.{binary64, neg, ofBits, round}

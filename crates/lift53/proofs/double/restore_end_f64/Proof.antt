@@ -1,14 +1,10 @@
--- `restore_end_f64` meets its contract: as many details as approximations, and one less. Assumes nothing.
+-- `restore_end_f64` meets its contract: as many details as approximations, and one less.
 use borrow.Author.Needs.{needs}
-use mathlib.Core.Path.{_≡_, refl, ap, _∙_}
-use Prim.Native.Nat.{_+_, _-_, _*_, _/_, _≤_}
+use Prim.Native.Nat.{_+_, _-_}
 use native.Mathlib.Omega.{arith}
-use lib.ListN.{length, getD}
-use lib.Ieee.{nan, binary64}
 use Rattle.samples.proofs.Words.{holds-on}
-use Rattle.samples.proofs.Fronts.{front-none, front-at}
+use Rattle.samples.proofs.Fronts.{front-at}
 use Rattle.small.proofs.Lifts.{never}
-use Rattle.lift53.specs.Back.{evensOf, Given, Restoring}
 use Rattle.lift53.proofs.Turns.{counts, one-more, even-made, odd-made, pair-more, last-more, restored-all}
 use Rattle.lift53.proofs.double.restore_end_f64.Statement.{statement}
 use Rattle.lift53.proofs.double.restore_end_f64.Tie as tie

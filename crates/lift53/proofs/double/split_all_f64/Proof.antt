@@ -1,4 +1,4 @@
--- `split_all_f64` meets its contract, block by block: the first i entries of the bands are stored. Assumes nothing.
+-- `split_all_f64` meets its contract, block by block: the first i entries of the bands are stored.
 use borrow.Author.Needs.{needs}
 use mathlib.Core.Path.{_≡_, refl, ap, _∙_}
 use Prim.Native.Nat.{ℕ, _+_, _-_, _*_, _/_, _≤_, min}

@@ -1,13 +1,9 @@
--- `restore_pair_f32` meets its contract. Assumes nothing.
+-- `restore_pair_f32` meets its contract.
 use borrow.Author.Needs.{needs}
-use mathlib.Core.Path.{_≡_, refl, ap, _∙_}
-use Prim.Native.Nat.{_+_, _-_, _*_, _/_, _≤_}
+use Prim.Native.Nat.{_+_, _-_}
 use native.Mathlib.Omega.{arith}
-use lib.ListN.{length, getD}
-use lib.Ieee.{nan, binary32}
 use Rattle.samples.proofs.Words.{holds-on}
-use Rattle.samples.proofs.Fronts.{front-none, front-at}
-use Rattle.lift53.specs.Back.{evensOf, Given, Restoring}
+use Rattle.samples.proofs.Fronts.{front-at}
 use Rattle.lift53.proofs.Turns.{counts, even-made, odd-made, even-no-nan, odd-no-nan, details-if, approx-if, pair-more}
 use Rattle.lift53.proofs.single.restore_pair_f32.Statement.{statement}
 use Rattle.lift53.proofs.single.restore_pair_f32.Tie as tie

@@ -1,15 +1,14 @@
--- `split_pair_f32` meets its contract: detail i and approximation i are made of the samples as the two steps make them. Assumes nothing.
+-- `split_pair_f32` meets its contract: detail i and approximation i are made of the samples as the two steps make them.
 use borrow.Author.Needs.{needs}
 use mathlib.Core.Path.{_≡_, refl, ap, _∙_}
-use Prim.Native.Nat.{ℕ, _+_, _-_, _*_, _/_, min}
+use Prim.Native.Nat.{ℕ, _+_, _-_, _*_}
 use native.Mathlib.Omega.{arith}
-use lib.ListN.{length, getD}
+use lib.ListN.{getD}
 use lib.Ieee.{nan, binary32, add, mul}
 use Rattle.samples.specs.Floats.{floatAt}
 use Rattle.small.specs.Lists.{oddsTo, evensTo}
 use Rattle.small.proofs.Lifts.{stored-more, put-wanted}
 use Rattle.small.proofs.Firsts.{odd-made, even-made}
-use Rattle.lift53.specs.Ahead.{Splitting}
 use Rattle.lift53.proofs.Ahead.{odd-no-nan, even-no-nan, read-if}
 use Rattle.lift53.proofs.single.split_pair_f32.Statement.{statement}
 use Rattle.lift53.proofs.single.split_pair_f32.Tie as tie

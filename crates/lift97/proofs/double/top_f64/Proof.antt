@@ -1,4 +1,4 @@
--- `top_f64` meets its contract: an even number of samples ends with an odd place, and an odd number with an even one. Assumes nothing.
+-- `top_f64` meets its contract: an even number of samples ends with an odd place, and an odd number with an even one.
 use mathlib.Core.Path.{ap, _∙_}
 use Prim.Native.Nat.{ℕ, _+_, _-_, _/_}
 use native.Mathlib.Omega.{arith}

@@ -1,4 +1,4 @@
--- `carry_f32` meets its contract: a step after the other, each from what the turn before left. Assumes nothing.
+-- `carry_f32` meets its contract: a step after the other, each from what the turn before left.
 use mathlib.Core.Path.{refl, ap, _∙_}
 use Prim.Native.Nat.{ℕ, _+_, _*_}
 use native.Mathlib.Omega.{arith}

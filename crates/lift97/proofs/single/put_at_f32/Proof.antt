@@ -1,4 +1,4 @@
--- `put_at_f32` meets its contract: the fourth step, and the scaling of both. Assumes nothing.
+-- `put_at_f32` meets its contract: the fourth step, and the scaling of both.
 use borrow.Author.Needs.{needs}
 use mathlib.Core.Path.{_≡_, refl}
 use Prim.Native.Nat.{_-_}

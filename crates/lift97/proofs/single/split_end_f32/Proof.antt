@@ -1,4 +1,4 @@
--- `split_end_f32` meets its contract: as many details as approximations, and one less. Assumes nothing.
+-- `split_end_f32` meets its contract: as many details as approximations, and one less.
 use borrow.Author.Needs.{needs}
 use mathlib.Core.Path.{_≡_, ap, _∙_}
 use Prim.Native.Nat.{ℕ, _+_, _-_, _/_, _%_}

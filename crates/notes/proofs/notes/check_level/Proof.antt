@@ -1,4 +1,4 @@
--- `check_level` meets its contract: a link for each check. Assumes nothing.
+-- `check_level` meets its contract: a link for each check.
 use borrow.Author.Tests.{lt-ltb, le-ltb, eq-eqb, ne-eqb}
 use mathlib.Core.Path.{refl, ap}
 use Prim.Native.Nat.{_≤_, _<_}

@@ -1,4 +1,4 @@
--- `note_span` meets its contract. Assumes nothing.
+-- `note_span` meets its contract.
 use mathlib.Core.Path.{ap, _∙_}
 use Rattle.answers.specs.Answers.{answerOf}
 use borrow.Author.Needs.{needs}

@@ -1,4 +1,4 @@
--- `reach` meets its contract: the shift loses no bit. Assumes nothing.
+-- `reach` meets its contract: the shift loses no bit.
 use mathlib.Core.Path.{_∙_}
 use Prim.Native.Nat.{_^_}
 use native.Mathlib.Nat.{one-mul}

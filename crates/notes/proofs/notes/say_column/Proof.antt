@@ -1,4 +1,4 @@
--- `say_column` meets its contract: the level, then the sample. Assumes nothing.
+-- `say_column` meets its contract: the level, then the sample.
 use mathlib.Core.Path.{refl, ap}
 use Prim.Native.Nat.{ℕ}
 use borrow.Author.Needs.{needs}

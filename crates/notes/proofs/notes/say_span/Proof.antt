@@ -1,4 +1,4 @@
--- `say_span` meets its contract: the level, then the place. Assumes nothing.
+-- `say_span` meets its contract: the level, then the place.
 use mathlib.Core.Path.{ap, _∙_}
 use Prim.Native.Nat.{ℕ}
 use borrow.Author.Needs.{needs}

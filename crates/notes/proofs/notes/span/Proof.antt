@@ -1,4 +1,4 @@
--- `span` meets its contract: the numbers of a place that is there fit. Assumes nothing.
+-- `span` meets its contract: the numbers of a place that is there fit.
 use mathlib.Core.Path.{ap, _∙_}
 use Prim.Native.Nat.{ℕ, _+_, _-_, _*_, min}
 use native.Mathlib.Omega.{arith}

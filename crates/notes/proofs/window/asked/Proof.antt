@@ -1,4 +1,4 @@
--- `asked` meets its contract. Assumes nothing.
+-- `asked` meets its contract.
 use Rattle.notes.proofs.Windows.{asked-approx, asked-details}
 use Rattle.notes.proofs.window.asked.Statement.{statement}
 use Rattle.notes.proofs.window.asked.Tie as tie

@@ -1,4 +1,4 @@
--- `asked_length` meets its contract. Assumes nothing.
+-- `asked_length` meets its contract.
 use Rattle.notes.proofs.Windows.{asked-approx, asked-details}
 use Rattle.notes.proofs.window.asked_length.Statement.{statement}
 use Rattle.notes.proofs.window.asked_length.Tie as tie

@@ -1,4 +1,4 @@
--- `band_window` meets its contract: the part that the answer tells. Assumes nothing.
+-- `band_window` meets its contract: the part that the answer tells.
 use mathlib.Core.Path.{_≡_, ap, _∙_}
 use Prim.Native.Nat.{_+_, _-_, _≤_}
 use native.Mathlib.Omega.{arith}

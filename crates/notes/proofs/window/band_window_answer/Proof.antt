@@ -1,4 +1,4 @@
--- `band_window_answer` meets its contract. Assumes nothing.
+-- `band_window_answer` meets its contract.
 use mathlib.Core.Path.{ap, _∙_}
 use Prim.Native.Nat.{ℕ}
 use lib.ListN.{length}

@@ -1,4 +1,4 @@
--- `check_stretch` meets its contract: the two ways to run past the end are one check. Assumes nothing.
+-- `check_stretch` meets its contract: the two ways to run past the end are one check.
 use borrow.Author.Tests.{lt-ltb, le-ltb, eq-eqb, ne-eqb}
 use mathlib.Core.Path.{refl}
 use Prim.Native.Nat.{_+_, _≤_, _<_}

@@ -1,4 +1,4 @@
--- `say_window` meets its contract: two lengths, then the stretch. Assumes nothing.
+-- `say_window` meets its contract: two lengths, then the stretch.
 use mathlib.Core.Path.{refl, ap, _∙_}
 use Prim.Native.Nat.{ℕ, _*_, _/_}
 use native.Mathlib.Nat.{mul-div-le}

@@ -1,4 +1,4 @@
--- `check_areas` meets its contract. Assumes nothing.
+-- `check_areas` meets its contract.
 use mathlib.Core.Path.{sym, _∙_}
 use Rattle.samples.proofs.IntegerLaws.{width-of}
 use borrow.Author.Needs.{needs}

@@ -1,4 +1,4 @@
--- `check_fields` meets its contract: a link for each check. Assumes nothing.
+-- `check_fields` meets its contract: a link for each check.
 use borrow.Author.Tests.{lt-ltb, le-ltb, eq-eqb, ne-eqb}
 use mathlib.Core.Bool.{not, true}
 use mathlib.Core.List.{[], _∷_}

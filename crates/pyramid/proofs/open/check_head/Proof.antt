@@ -1,4 +1,4 @@
--- `check_head` meets its contract: the start, then the fields. Assumes nothing.
+-- `check_head` meets its contract: the start, then the fields.
 use borrow.Author.Tests.{not-true, not-false}
 use mathlib.Core.Path.{refl, sym, ap, _∙_}
 use Prim.Native.Nat.{_≤_}

@@ -1,4 +1,4 @@
--- `check_rooms` meets its contract: a link for each check. Assumes nothing.
+-- `check_rooms` meets its contract: a link for each check.
 use borrow.Author.Tests.{lt-ltb, le-ltb}
 use mathlib.Core.Path.{refl}
 use Rattle.answers.proofs.Chain.{by, stop}

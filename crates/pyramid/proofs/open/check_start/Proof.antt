@@ -1,4 +1,4 @@
--- `check_start` meets its contract: a link for each check. Assumes nothing.
+-- `check_start` meets its contract: a link for each check.
 use borrow.Author.Tests.{lt-ltb, le-ltb}
 use mathlib.Core.Path.{refl, sym, ap, _∙_}
 use Rattle.answers.specs.declared.err.Refusal.the-variants.{BadCount}

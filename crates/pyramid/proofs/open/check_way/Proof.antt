@@ -1,4 +1,4 @@
--- `check_way` meets its contract, case by case. Assumes nothing.
+-- `check_way` meets its contract, case by case.
 use borrow.Author.Tests.{lt-ltb, le-ltb, eq-eqb, ne-eqb}
 use mathlib.Core.Path.{_≡_, refl, sym, ap, _∙_}
 use Prim.Native.Nat.{ℕ}

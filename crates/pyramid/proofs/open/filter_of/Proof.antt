@@ -1,4 +1,4 @@
--- `filter_of` meets its contract. Assumes nothing.
+-- `filter_of` meets its contract.
 use borrow.Author.Tests.{eq-eqb, ne-eqb}
 use mathlib.Core.Path.{refl}
 use Rattle.answers.proofs.Chain.{by, stop}

@@ -1,4 +1,4 @@
--- `is_width` meets its contract. Assumes nothing.
+-- `is_width` meets its contract.
 use borrow.Author.Tests.{eq-eqb, ne-eqb}
 use Rattle.pyramid.proofs.open.is_width.Statement.{statement}
 use Rattle.pyramid.proofs.open.is_width.Tie as tie

@@ -1,4 +1,4 @@
--- `levels_in` meets its contract. Assumes nothing.
+-- `levels_in` meets its contract.
 use native.Mathlib.Omega.{arith}
 use Rattle.samples.specs.Le.{leAt}
 use borrow.Author.Needs.{needs}

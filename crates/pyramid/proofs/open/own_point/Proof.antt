@@ -1,7 +1,6 @@
 -- `own_point` meets its contract.
 use borrow.Author.Needs.{needs}
 use borrow.Author.Tests.{lt-ltb, le-ltb}
-use mathlib.Core.Path.{_∙_}
 use Rattle.pyramid.specs.Opens.{ownPoint}
 use Rattle.pyramid.proofs.open.own_point.Statement.{statement}
 use Rattle.pyramid.proofs.open.own_point.Tie as tie

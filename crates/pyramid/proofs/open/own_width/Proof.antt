@@ -1,7 +1,6 @@
 -- `own_width` meets its contract.
 use borrow.Author.Needs.{needs}
 use borrow.Author.Tests.{lt-ltb, le-ltb}
-use mathlib.Core.Path.{_∙_}
 use Rattle.pyramid.specs.Opens.{ownWidth}
 use Rattle.pyramid.proofs.open.own_width.Statement.{statement}
 use Rattle.pyramid.proofs.open.own_width.Tie as tie

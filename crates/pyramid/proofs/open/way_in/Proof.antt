@@ -1,4 +1,4 @@
--- `way_in` meets its contract: a byte and a u32 are small, whatever they say. Assumes nothing.
+-- `way_in` meets its contract: a byte and a u32 are small, whatever they say.
 use mathlib.Core.Path.{sym}
 use native.Mathlib.Omega.{arith}
 use Rattle.pyramid.proofs.Ways.{small}

@@ -1,4 +1,4 @@
--- `whole_details` meets its contract, case by case. Assumes nothing.
+-- `whole_details` meets its contract, case by case.
 use mathlib.Core.Path.{_≡_, sym, ap, _∙_}
 use Prim.Native.Nat.{_-_}
 use native.Mathlib.Omega.{arith}

@@ -1,4 +1,4 @@
--- `width_in` meets its contract. Assumes nothing.
+-- `width_in` meets its contract.
 use native.Mathlib.Omega.{arith}
 use Rattle.samples.specs.Le.{leAt}
 use borrow.Author.Needs.{needs}

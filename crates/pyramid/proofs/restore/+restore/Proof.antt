@@ -1,4 +1,4 @@
--- The proof of the cycle of calls {restore}. The measure is the levels. Assumes nothing, and looks into no filter.
+-- The proof of the cycle of calls {restore}. The measure is the levels. Looks into no filter.
 use mathlib.Core.List.{List, _++_}
 use mathlib.Core.Path.{_≡_, refl, ap, sym, _∙_}
 use Prim.Native.Nat.{suc, _*_, _+_, _-_, _≤_}

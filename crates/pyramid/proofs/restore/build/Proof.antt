@@ -1,4 +1,4 @@
--- `build` meets its contract. Assumes nothing, and looks into no filter.
+-- `build` meets its contract. Looks into no filter.
 use mathlib.Core.List.{List, _++_}
 use mathlib.Core.Path.{_≡_, ap, sym, _∙_}
 use Prim.Native.Nat.{ℕ, _*_, _+_, _-_}

@@ -1,4 +1,4 @@
--- `fetch` meets its contract. Assumes nothing.
+-- `fetch` meets its contract.
 use mathlib.Core.List.{List, _++_}
 use mathlib.Core.Path.{_≡_, ap, _∙_}
 use Prim.Native.Nat.{ℕ, _*_, _+_, _-_}

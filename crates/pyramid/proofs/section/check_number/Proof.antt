@@ -1,4 +1,4 @@
--- `check_number` meets its contract: a link for each check. Assumes nothing.
+-- `check_number` meets its contract: a link for each check.
 use borrow.Author.Tests.{lt-ltb, le-ltb, eq-eqb, ne-eqb}
 use mathlib.Core.Path.{refl}
 use Rattle.answers.proofs.Chain.{by, stop}

@@ -1,4 +1,4 @@
--- `check_section` meets its contract: section 0, the number, and the way. Assumes nothing.
+-- `check_section` meets its contract: section 0, the number, and the way.
 use borrow.Author.Tests.{not-true, not-false, eqb-false}
 use mathlib.Core.List.{List, _++_}
 use mathlib.Core.Path.{_≡_, refl, sym, ap, _∙_}

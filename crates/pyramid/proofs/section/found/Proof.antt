@@ -1,4 +1,4 @@
--- `found` meets its contract, case by case. Assumes nothing.
+-- `found` meets its contract, case by case.
 use mathlib.Core.Path.{_≡_, refl, sym, ap, _∙_}
 use Prim.Native.Nat.{ℕ, _-_}
 use native.Mathlib.Omega.{arith}

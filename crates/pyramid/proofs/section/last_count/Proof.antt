@@ -1,4 +1,4 @@
--- `last_count` meets its contract. Assumes nothing.
+-- `last_count` meets its contract.
 use borrow.Author.Tests.{eq-eqb, ne-eqb}
 use mathlib.Core.Path.{refl}
 use native.Mathlib.Omega.{arith}

@@ -1,4 +1,4 @@
--- `section` meets its contract: the part that the answer tells. Assumes nothing.
+-- `section` meets its contract: the part that the answer tells.
 use borrow.Author.Tests.{eq-eqb, ne-eqb}
 use mathlib.Core.Bool.{true, false}
 use mathlib.Core.Path.{_≡_, refl, sym, ap, _∙_}

@@ -1,4 +1,4 @@
--- `section_answer` meets its contract. Assumes nothing.
+-- `section_answer` meets its contract.
 use mathlib.Core.Path.{ap, _∙_}
 use Rattle.answers.specs.Answers.{answerOf}
 use borrow.Author.Needs.{needs}

@@ -1,4 +1,4 @@
--- `way_to` meets its contract. Assumes nothing.
+-- `way_to` meets its contract.
 use mathlib.Core.Path.{ap, _∙_}
 use Prim.Native.Nat.{ℕ, _-_}
 use native.Mathlib.Omega.{arith}

@@ -1,4 +1,4 @@
--- The proof of the cycle of calls {walk}. The measure is the levels. Assumes nothing.
+-- The proof of the cycle of calls {walk}. The measure is the levels.
 use mathlib.Core.Path.{sym, _∙_}
 use Prim.Native.Nat.{_-_, _+_, _≤_}
 use native.Mathlib.Nat.{mul-le-mul-left}

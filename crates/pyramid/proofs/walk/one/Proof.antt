@@ -1,4 +1,4 @@
--- `one` meets its contract: a link for each test. Assumes nothing.
+-- `one` meets its contract: a link for each test.
 use borrow.Author.Needs.{needs}
 use borrow.Author.Tests.{lt-ltb, le-ltb}
 use mathlib.Core.Path.{refl, sym, ap, _∙_}

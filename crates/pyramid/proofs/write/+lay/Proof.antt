@@ -1,4 +1,4 @@
--- The proof of the cycle of calls {lay}: the sections after the head. The measure is the levels left. Assumes nothing, and looks into no filter.
+-- The proof of the cycle of calls {lay}: the sections after the head. The measure is the levels left. Looks into no filter.
 use mathlib.Core.Path.{_≡_, refl, sym, ap, _∙_}
 use mathlib.Core.List.{List, _++_}
 use Prim.Native.Nat.{ℕ, suc, _*_, _-_, _≤_, _<_}

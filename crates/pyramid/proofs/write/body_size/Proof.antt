@@ -1,4 +1,4 @@
--- `body_size` meets its contract. Assumes nothing.
+-- `body_size` meets its contract.
 use borrow.Author.Needs.{needs}
 use native.Mathlib.Omega.{arith}
 use Rattle.dwt.proofs.Cuts.{width-room}

@@ -1,4 +1,4 @@
--- `check_write` meets its contract: the byte lengths, then the lengths in samples. Assumes nothing.
+-- `check_write` meets its contract: the byte lengths, then the lengths in samples.
 use borrow.Author.Needs.{needs}
 use mathlib.Core.List.{List, [], _∷_}
 use mathlib.Core.Path.{refl, _∙_, sym}

@@ -1,4 +1,4 @@
--- `lay_deepest` meets its contract: a count, and a copy after it. Assumes nothing.
+-- `lay_deepest` meets its contract: a count, and a copy after it.
 use borrow.Author.Needs.{needs}
 use mathlib.Core.List.{List, _++_}
 use mathlib.Core.Path.{_≡_, _∙_, sym, ap}

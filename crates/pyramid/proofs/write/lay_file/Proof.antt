@@ -1,4 +1,4 @@
--- `lay_file` meets its contract: the head, a copy of the signal, and the sections from there. Assumes nothing, and looks into no filter.
+-- `lay_file` meets its contract: the head, a copy of the signal, and the sections from there. Looks into no filter.
 use borrow.Author.Needs.{needs}
 use mathlib.Core.List.{List}
 use mathlib.Core.Path.{_≡_, _∙_, sym, ap}

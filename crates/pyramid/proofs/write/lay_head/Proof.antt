@@ -1,4 +1,4 @@
--- `lay_head` meets its contract: numbers one after the other. Assumes nothing.
+-- `lay_head` meets its contract: numbers one after the other.
 use borrow.Author.Needs.{needs}
 use mathlib.Core.List.{List}
 use mathlib.Core.Path.{_∙_, sym, ap}

@@ -1,4 +1,4 @@
--- `lay_level` meets its contract: a count, and the two bands, each in its place. Assumes nothing, and looks into no filter.
+-- `lay_level` meets its contract: a count, and the two bands, each in its place. Looks into no filter.
 use borrow.Author.Needs.{needs}
 use mathlib.Core.List.{List, _++_}
 use mathlib.Core.Path.{_≡_, sym, ap, _∙_}

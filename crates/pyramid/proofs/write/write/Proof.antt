@@ -1,4 +1,4 @@
--- `write` meets its contract: the checks, then the file where they let by. Assumes nothing, and looks into no filter.
+-- `write` meets its contract: the checks, then the file where they let by. Looks into no filter.
 use borrow.Author.Needs.{needs}
 use mathlib.Core.List.{_++_}
 use mathlib.Core.Path.{_≡_, _∙_, sym, ap}

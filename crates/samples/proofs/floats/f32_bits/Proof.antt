@@ -1,4 +1,4 @@
--- `f32_bits` meets its contract: only a NaN differs from itself. Assumes nothing.
+-- `f32_bits` meets its contract: only a NaN differs from itself.
 use borrow.Author.Needs.{needs}
 use lib.Ieee.{binary32, toBits}
 use Rattle.samples.proofs.FloatLaws.{same-no-nan, nan-bits}

@@ -1,4 +1,4 @@
--- `f64_bits` meets its contract: only a NaN differs from itself. Assumes nothing.
+-- `f64_bits` meets its contract: only a NaN differs from itself.
 use borrow.Author.Needs.{needs}
 use lib.Ieee.{binary64, toBits}
 use Rattle.samples.proofs.FloatLaws.{same-no-nan, nan-bits}

@@ -1,4 +1,4 @@
--- `put_f64` meets its contract. Assumes nothing.
+-- `put_f64` meets its contract.
 use borrow.Author.Needs.{needs}
 use Rattle.samples.specs.Words.{putAt}
 use Rattle.samples.specs.Floats.{putFloat}

@@ -1,4 +1,4 @@
--- `word_u32` meets its contract. Assumes nothing.
+-- `word_u32` meets its contract.
 use borrow.Author.Needs.{needs}
 use Rattle.samples.specs.Words.{wordAt}
 use Rattle.samples.proofs.floats.word_u32.Statement.{statement}

@@ -1,4 +1,4 @@
--- `word_u64` meets its contract. Assumes nothing.
+-- `word_u64` meets its contract.
 use borrow.Author.Needs.{needs}
 use Rattle.samples.specs.Words.{wordAt}
 use Rattle.samples.proofs.floats.word_u64.Statement.{statement}

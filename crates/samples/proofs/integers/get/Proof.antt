@@ -1,4 +1,4 @@
--- `get` meets its contract, one case for each width. Assumes nothing.
+-- `get` meets its contract, one case for each width.
 use borrow.Author.Needs.{needs}
 use Prim.Native.Nat.{_*_, _+_, _≤_}
 use native.Mathlib.Nat.{one-mul}

@@ -1,4 +1,4 @@
--- `read_u16` meets its contract. Assumes nothing.
+-- `read_u16` meets its contract.
 use borrow.Author.Needs.{needs}
 use native.Mathlib.Omega.{arith}
 use Rattle.samples.specs.Le.{leAt}

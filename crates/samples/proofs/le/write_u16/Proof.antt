@@ -1,4 +1,4 @@
--- `write_u16` meets its contract. Assumes nothing.
+-- `write_u16` meets its contract.
 use borrow.Author.Needs.{needs}
 use Prim.Native.Nat.{_/_}
 use native.Mathlib.Nat.{mod-eq-of-lt}

@@ -1,4 +1,4 @@
--- `write_u32` meets its contract: a lower and an upper half. Assumes nothing.
+-- `write_u32` meets its contract: a lower and an upper half.
 use borrow.Author.Needs.{needs}
 use mathlib.Core.Path.{_∙_}
 use Rattle.samples.proofs.LeLaws.{stored-add}

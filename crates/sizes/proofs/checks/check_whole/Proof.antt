@@ -1,4 +1,4 @@
--- `check_whole` meets its contract: a link for each check. Assumes nothing.
+-- `check_whole` meets its contract: a link for each check.
 use borrow.Author.Needs.{needs}
 use mathlib.Core.Path.{refl}
 use Rattle.answers.proofs.Chain.{by, stop, same, other}

@@ -1,4 +1,4 @@
--- `get_f64` meets its contract: both ways of reading give the same float. Assumes nothing.
+-- `get_f64` meets its contract: both ways of reading give the same float.
 use borrow.Author.Needs.{needs}
 use mathlib.Core.Path.{ap, _∙_}
 use lib.Ieee.{binary64, ofBits}

@@ -1,4 +1,4 @@
--- `put_f64` meets its contract: both ways of writing leave the same bytes. Assumes nothing.
+-- `put_f64` meets its contract: both ways of writing leave the same bytes.
 use borrow.Author.Needs.{needs}
 use Rattle.small.proofs.double.put_f64.Statement.{statement}
 use Rattle.small.proofs.double.put_f64.Tie as tie

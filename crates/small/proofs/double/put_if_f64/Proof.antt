@@ -1,4 +1,4 @@
--- `put_if_f64` meets its contract. Assumes nothing.
+-- `put_if_f64` meets its contract.
 use borrow.Author.Needs.{needs}
 use Rattle.small.proofs.double.put_if_f64.Statement.{statement}
 use Rattle.small.proofs.double.put_if_f64.Tie as tie

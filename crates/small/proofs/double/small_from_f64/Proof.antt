@@ -1,4 +1,4 @@
--- `small_from_f64` meets its contract: the invariant says it of the floats before p, unless some sum was too large. Assumes nothing.
+-- `small_from_f64` meets its contract: the invariant says it of the floats before p, unless some sum was too large.
 use borrow.Author.Needs.{needs}
 use mathlib.Core.Path.{refl, sym, subst}
 use Prim.Native.Nat.{ℕ, _-_, _%_, _≤_, _<_}

@@ -1,4 +1,4 @@
--- `get_f32` meets its contract: both ways of reading give the same float. Assumes nothing.
+-- `get_f32` meets its contract: both ways of reading give the same float.
 use borrow.Author.Needs.{needs}
 use mathlib.Core.Path.{ap, _∙_}
 use lib.Ieee.{binary32, ofBits}

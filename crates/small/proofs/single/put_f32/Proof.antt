@@ -1,4 +1,4 @@
--- `put_f32` meets its contract: both ways of writing leave the same bytes. Assumes nothing.
+-- `put_f32` meets its contract: both ways of writing leave the same bytes.
 use borrow.Author.Needs.{needs}
 use Rattle.small.proofs.single.put_f32.Statement.{statement}
 use Rattle.small.proofs.single.put_f32.Tie as tie

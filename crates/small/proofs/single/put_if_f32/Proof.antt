@@ -1,4 +1,4 @@
--- `put_if_f32` meets its contract. Assumes nothing.
+-- `put_if_f32` meets its contract.
 use borrow.Author.Needs.{needs}
 use Rattle.small.proofs.single.put_if_f32.Statement.{statement}
 use Rattle.small.proofs.single.put_if_f32.Tie as tie

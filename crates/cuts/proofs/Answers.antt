@@ -1,7 +1,6 @@
 -- What follows of a file that was cut anywhere: opening it is done, 7 or 10, so never 8, 9, 11 or 12; the whole file gives the samples, and
 -- nothing less does. Each of the integer
 -- filters.
--- Assumes nothing.
 use mathlib.Core.Bool.{Bool, true, false, cond}
 use mathlib.Core.List.{List}
 use mathlib.Core.Logic.{_⊎_, inl, inr, ⊎-elim}
@@ -22,14 +21,14 @@ use Rattle.sizes.specs.Levels.{places}
 use Rattle.dwt.specs.declared.filter.Filter.{Filter}
 use Rattle.dwt.specs.Filters.{widthOf}
 use Rattle.dwt.specs.Pyramids.{approxAt}
 use Rattle.pyramid.specs.Files.{headSize, bodySize, fileOf, fileSize}
 use Rattle.pyramid.specs.Opens.{roomsFor, sayOpen}
-use Rattle.pyramid.specs.Sees.{needed, wholeOf, wholeIn, Sampled, Roomy, OpensTo}
-use Rattle.pyramid.proofs.Sized.{file-length}
-use Rattle.pyramid.proofs.Restored.{whole-all, whole-less, whole-most}
-use Rattle.pyramid.proofs.Heads.{Recording}
-use Rattle.pyramid.proofs.Whole.{first-most, whole-is}
-use Rattle.pyramid.proofs.Survives.{cut-short, rooms-decide, survives}
+use Rattle.cuts.specs.Sees.{needed, wholeOf, wholeIn, Sampled, Roomy, OpensTo}
+use Rattle.cuts.proofs.Sized.{file-length}
+use Rattle.cuts.proofs.Restored.{whole-all, whole-less, whole-most}
+use Rattle.cuts.proofs.Heads.{Recording}
+use Rattle.cuts.proofs.Whole.{first-most, whole-is}
+use Rattle.cuts.proofs.Survives.{cut-short, rooms-decide, survives}
 
 -- in a whole file all sections are whole
 pub all-whole : (k l n : ℕ) → wholeOf k l n (fileSize k l n) ≡ l

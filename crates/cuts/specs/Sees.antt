@@ -1,6 +1,5 @@
 -- What the first b bytes of a file let see, from document 01: "a cut in section 1 is 10; later it ends the file there, and the broken section is ignored". Over
 -- k bytes a sample, l levels and n samples.
--- Assumes nothing: these are definitions.
 use mathlib.Core.Bool.{cond}
 use mathlib.Core.List.{List, [], _∷_, _++_}
 use mathlib.Core.Path.{_≡_}

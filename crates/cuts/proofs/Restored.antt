@@ -1,6 +1,5 @@
 -- What the sections of a file restore: all of them the samples, and those that are whole in a cut file the approximations of the level that they reach. Of a
 -- filter whose level undoes itself, as each integer filter's does.
--- Assumes nothing.
 use mathlib.Core.List.{List, _++_, append-assoc}
 use mathlib.Core.Logic.{⊎-elim}
 use mathlib.Core.Path.{_≡_, refl, sym, ap, ap₂, subst, _∙_}
@@ -21,11 +20,11 @@ use Rattle.dwt.specs.Pyramids.{approxAt}
 use Rattle.dwt.proofs.Cuts.{split-width}
 use Rattle.trips.proofs.Lengths.{length-low, length-high}
 use Rattle.trips.proofs.Undone.{Undoes}
 use Rattle.pyramid.specs.Files.{sectionOf, bodyOf, bodySize}
 use Rattle.pyramid.specs.Walks.{bytesAt, restoredOf}
-use Rattle.pyramid.specs.Sees.{wholeIn}
-use Rattle.pyramid.proofs.Sized.{body-length}
-use Rattle.pyramid.proofs.CutWalk.{past}
+use Rattle.cuts.specs.Sees.{wholeIn}
+use Rattle.cuts.proofs.Sized.{body-length}
+use Rattle.cuts.proofs.CutWalk.{past}
 
 -- the bytes of a section that is whole
 pub bytes-whole : (s b t : List ℕ) (k c p j : ℕ) → drop p s ≡ take j (sectionOf c b ++ t) → length b ≡ k * c → 4 + k * c ≤ j → bytesAt k s c p ≡ b

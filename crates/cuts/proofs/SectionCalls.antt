@@ -19,12 +19,12 @@ use Rattle.dwt.specs.Filters.{widthOf, highOf, Integers}
 use Rattle.dwt.specs.Pyramids.{approxAt}
 use Rattle.dwt.specs.Calls.{sayMulti, Multi}
 use Rattle.trips.proofs.ThereAndBack.{call-approx, call-level}
 use Rattle.pyramid.specs.Files.{headSize, fileOf, fileSize}
 use Rattle.pyramid.specs.Opens.{lengthOf, startOf, sectionIn}
 use Rattle.pyramid.specs.Writes.{sayWrite, Write}
-use Rattle.pyramid.proofs.Heads.{Recording}
-use Rattle.pyramid.proofs.Bands.{upTo, section-found, section-approx, section-details}
-use Rattle.pyramid.proofs.Kept.{recorded, front-in}
+use Rattle.cuts.proofs.Heads.{Recording}
+use Rattle.cuts.proofs.Bands.{upTo, section-found, section-approx, section-details}
+use Rattle.cuts.proofs.Kept.{recorded, front-in}
 
 -- every section ends within the file
 up-most : (k l n j : ℕ) → j ≤ l → upTo k l n (1 + j) ≤ fileSize k l n

@@ -1,6 +1,5 @@
 -- Looking a section up in a file that was cut anywhere: a section that is whole is found, and its bytes are its band: section 1 the deepest approximations, the
 -- others the details of their level. One that is not whole is 10. Each of the integer filters.
--- Assumes nothing.
 use mathlib.Core.Bool.{Bool, cond}
 use mathlib.Core.List.{List, [], _++_, append-assoc, append-nil}
 use mathlib.Core.Logic.{⊎-elim}
@@ -25,18 +24,18 @@ use Rattle.dwt.specs.Filters.{widthOf, lowOf, highOf}
 use Rattle.dwt.specs.Pyramids.{approxAt}
 use Rattle.dwt.proofs.Cuts.{split-width}
 use Rattle.trips.proofs.Lengths.{length-low, length-high, length-approx}
 use Rattle.pyramid.specs.declared.walk.Way.{Way}
 use Rattle.pyramid.specs.declared.walk.Way.the-variants.{Short}
 use Rattle.pyramid.specs.Files.{mostBytes, Head, headSize, sectionOf, bodyOf, bodySize, fileOf, fileSize}
 use Rattle.pyramid.specs.Walks.{walkOf, lastCount}
 use Rattle.pyramid.specs.Opens.{headIn, headChecks, wayTo, sectionChecks, numberChecks, lengthOf, endBy, startOf, saySection}
-use Rattle.pyramid.specs.Sees.{wholeIn, reach}
-use Rattle.pyramid.proofs.Sized.{frontOf, front-length, body-length}
-use Rattle.pyramid.proofs.CutWalk.{walk-cut, reach-whole, past}
-use Rattle.pyramid.proofs.Restored.{bytes-whole}
-use Rattle.pyramid.proofs.Heads.{Recording, cut-parts, cut-length, head-is, own-head-passes}
-use Rattle.pyramid.proofs.Whole.{reach-none, reach-short}
-use Rattle.pyramid.proofs.Survives.{skip}
+use Rattle.cuts.specs.Sees.{wholeIn, reach}
+use Rattle.cuts.proofs.Sized.{frontOf, front-length, body-length}
+use Rattle.cuts.proofs.CutWalk.{walk-cut, reach-whole, past}
+use Rattle.cuts.proofs.Restored.{bytes-whole}
+use Rattle.cuts.proofs.Heads.{Recording, cut-parts, cut-length, head-is, own-head-passes}
+use Rattle.cuts.proofs.Whole.{reach-none, reach-short}
+use Rattle.cuts.proofs.Survives.{skip}
 
 -- the sections of the first i levels, which stand behind those of all levels after them
 restOf : Filter → ℕ → ℕ → List ℕ → List ℕ

@@ -1,5 +1,4 @@
 -- How many bytes the sections of a file are, and the whole file. Any filter.
--- Assumes nothing.
 use mathlib.Core.List.{List, _++_}
 use mathlib.Core.Path.{_≡_, refl, ap, _∙_}
 use Prim.Native.Nat.{ℕ, zero, suc, _+_, _*_}

@@ -1,5 +1,4 @@
 -- How far a walk over a cut file gets, by how many sections are whole; and that a walk's way to tell how many is that of counting them from the first on.
--- Assumes nothing.
 use mathlib.Core.Bool.{cond}
 use mathlib.Core.List.{List, [], _∷_, _++_}
 use mathlib.Core.Logic.{⊎-elim}
@@ -17,11 +16,11 @@ use Rattle.dwt.specs.Pyramids.{lengthsOf}
 use Rattle.dwt.specs.Backward.{total}
 use Rattle.dwt.proofs.Cuts.{split-width}
 use Rattle.trips.proofs.Lengths.{length-lengths, places-total}
 use Rattle.pyramid.specs.declared.walk.Way.the-variants.{Short}
 use Rattle.pyramid.specs.Files.{headSize, bodySize}
-use Rattle.pyramid.specs.Sees.{firstWhole, needed, wholeOf, wholeIn, reach}
-use Rattle.pyramid.proofs.CutWalk.{reach-whole}
-use Rattle.pyramid.proofs.Restored.{whole-all, whole-most}
+use Rattle.cuts.specs.Sees.{firstWhole, needed, wholeOf, wholeIn, reach}
+use Rattle.cuts.proofs.CutWalk.{reach-whole}
+use Rattle.cuts.proofs.Restored.{whole-all, whole-most}
 
 -- section 1 is no more than all sections
 pub first-most : (k l n : ℕ) → bodySize k 0 (places l n) ≤ bodySize k l n

@@ -1,5 +1,4 @@
 -- A walk over the sections of a file that is cut anywhere: it is as far as `reach` says. Any filter.
--- Assumes nothing.
 use mathlib.Core.Bool.{cond}
 use mathlib.Core.List.{List, _++_, append-assoc}
 use mathlib.Core.Logic.{⊎-elim}
@@ -20,12 +19,12 @@ use Rattle.dwt.specs.declared.filter.Filter.{Filter}
 use Rattle.dwt.specs.Filters.{widthOf, lowOf, highOf}
 use Rattle.dwt.proofs.Cuts.{split-width}
 use Rattle.trips.proofs.Lengths.{length-low, length-high}
 use Rattle.pyramid.specs.declared.walk.Way.{Way}
 use Rattle.pyramid.specs.declared.walk.Way.the-variants.{Went, Short, Wrong}
 use Rattle.pyramid.specs.Files.{sectionOf, bodyOf, bodySize}
 use Rattle.pyramid.specs.Walks.{oneOf, goOn, walkOf}
-use Rattle.pyramid.specs.Sees.{stopped, reach}
-use Rattle.pyramid.proofs.Sized.{section-length, body-length}
+use Rattle.cuts.specs.Sees.{stopped, reach}
+use Rattle.cuts.proofs.Sized.{section-length, body-length}
 
 -- the count of a section that stands at p
 count-at : (s b t : List ℕ) (c p j : ℕ) → c < 256 ^ 4 → drop p s ≡ take j (sectionOf c b ++ t) → 4 ≤ j → leAt 4 s p ≡ c

@@ -1,6 +1,5 @@
 -- A file that was cut anywhere, from document 01: opening its first b bytes is 10 where section 1 is cut, and else gives the deepest level that the whole
 -- sections reach, with just the approximations of that level; all of the file gives the samples. Each of the integer filters.
--- Assumes nothing.
 use mathlib.Core.Bool.{true, false, cond}
 use mathlib.Core.List.{List, [], _∷_, _++_}
 use mathlib.Core.Logic.{⊎-elim}
@@ -24,16 +23,16 @@ use Rattle.dwt.specs.Filters.{widthOf}
 use Rattle.dwt.specs.Pyramids.{approxAt}
 use Rattle.dwt.proofs.Cuts.{width-pos}
 use Rattle.trips.proofs.Undone.{undoes, own-depth}
 use Rattle.pyramid.specs.declared.walk.Way.{Way}
 use Rattle.pyramid.specs.Files.{mostBytes, Head, headSize, bodyOf, bodySize, fileOf, fileSize}
 use Rattle.pyramid.specs.Walks.{walkOf, restoredOf}
 use Rattle.pyramid.specs.Opens.{filterOf, headChecks, wayIn, wayChecks, wholeDetails, levelIn, countIn, samplesIn, areaChecks, roomsFor, sayOpen}
-use Rattle.pyramid.specs.Sees.{Sampled, Roomy, OpensTo, needed, wholeOf, wholeIn, reach}
-use Rattle.pyramid.proofs.Sized.{frontOf, front-length, body-length}
-use Rattle.pyramid.proofs.CutWalk.{walk-cut, reach-whole}
-use Rattle.pyramid.proofs.Restored.{restored-cut, whole-all}
-use Rattle.pyramid.proofs.Heads.{Recording, common, cut-parts, cut-length, file-most, head-is, own-head-passes}
-use Rattle.pyramid.proofs.Whole.{first-most, reach-none, reach-short, whole-is}
+use Rattle.cuts.specs.Sees.{Sampled, Roomy, OpensTo, needed, wholeOf, wholeIn, reach}
+use Rattle.cuts.proofs.Sized.{frontOf, front-length, body-length}
+use Rattle.cuts.proofs.CutWalk.{walk-cut, reach-whole}
+use Rattle.cuts.proofs.Restored.{restored-cut, whole-all}
+use Rattle.cuts.proofs.Heads.{Recording, common, cut-parts, cut-length, file-most, head-is, own-head-passes}
+use Rattle.cuts.proofs.Whole.{first-most, reach-none, reach-short, whole-is}
 
 -- checks that let by, and then others
 pub skip : (l m : List Check) (s : Refusal) → Passing l → firstOf (l ++ m) s ≡ firstOf m s

@@ -1,5 +1,4 @@
 -- Section 0 of a file that was written is read back from any 14 bytes or more of it, and the checks that opening makes of it let it by.
--- Assumes nothing.
 use mathlib.Core.Bool.{true, not}
 use mathlib.Core.List.{List, [], _++_, append-nil}
 use mathlib.Core.Path.{_≡_, refl, sym, ap, _∙_}
@@ -23,9 +22,9 @@ use Rattle.dwt.specs.declared.filter.Filter.{Filter}
 use Rattle.dwt.specs.declared.filter.Filter.the-variants.{Cdf53I8, Cdf53I16, Cdf53I32, Cdf53F32, Cdf53F64, Cdf97F32, Cdf97F64}
 use Rattle.dwt.specs.Filters.{widthOf, Integers}
 use Rattle.dwt.specs.Calls.{short}
 use Rattle.pyramid.specs.Files.{mostBytes, Head, headCount, headSize, bodyOf, fileOf, fileSize}
 use Rattle.pyramid.specs.Opens.{filterOf, headIn, headChecks}
-use Rattle.pyramid.proofs.Sized.{frontOf, front-length, file-parts, file-length}
+use Rattle.cuts.proofs.Sized.{frontOf, front-length, file-parts, file-length}
 
 -- a recording that can be written: x are the bytes of n samples of an integer filter f, for l levels and for point p
 pub record Recording (f : Filter) (l n p : ℕ) (x : List ℕ) : Type 0 where

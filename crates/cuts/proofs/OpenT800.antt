@@ -11,17 +11,17 @@ use Rattle.sizes.specs.Bands.{mostSamples}
 use Rattle.sizes.specs.Levels.{places, depthOf}
 use Rattle.samples.specs.Le.{Bytes}
 use Rattle.samples.specs.Integers.{wrap, decode, encode}
-use Rattle.cdf53i.specs.T800.{lowsAt}
+use Rattle.trips.specs.T800Levels.{lowsAt}
 use Rattle.dwt.specs.declared.filter.Filter.{Filter}
 use Rattle.dwt.specs.Filters.{widthOf, waveletOf, Integers}
 use Rattle.dwt.specs.Backward.{Area}
 use Rattle.trips.proofs.Undone.{own-depth}
 use Rattle.trips.proofs.T800Levels.{level-t800}
 use Rattle.pyramid.specs.Files.{fileSize}
 use Rattle.pyramid.specs.Opens.{Open}
 use Rattle.pyramid.specs.Writes.{Write}
-use Rattle.pyramid.specs.Sees.{needed, Sampled, Roomy, levelLeft, Opened}
-use Rattle.pyramid.proofs.Demand3.{demand3-calls}
+use Rattle.cuts.specs.Sees.{needed, Sampled, Roomy, levelLeft, Opened}
+use Rattle.cuts.proofs.Demand3.{demand3-calls}
 
 -- what an opening gives, where section 1 is whole
 pub opened-t800 : (f : Filter) → Integers f → (L n c : ℕ) (x o : List ℕ) (r : Answer) (o′ : List ℕ) → L ≤ depthOf Cdf53 n → Bytes x → length x ≡ widthOf f * n

@@ -23,14 +23,14 @@ use Rattle.dwt.specs.Backward.{Area}
 use Rattle.dwt.proofs.Cuts.{width-pos}
 use Rattle.dwt.proofs.Multi.{levels-pos}
 use Rattle.trips.proofs.Undone.{own-depth}
 use Rattle.pyramid.specs.Files.{fileSize}
 use Rattle.pyramid.specs.Opens.{Open}
 use Rattle.pyramid.specs.Writes.{sayWrite, Write}
-use Rattle.pyramid.specs.Sees.{needed, wholeOf, Sampled, Roomy, levelLeft, Opened, Openings}
-use Rattle.pyramid.proofs.Whole.{first-most, whole-fits, whole-next}
-use Rattle.pyramid.proofs.Answers.{all-whole, only-whole}
-use Rattle.pyramid.proofs.Kept.{kept-none, kept}
-use Rattle.pyramid.proofs.WriteFits.{write-fits}
+use Rattle.cuts.specs.Sees.{needed, wholeOf, Sampled, Roomy, levelLeft, Opened, Openings}
+use Rattle.cuts.proofs.Whole.{first-most, whole-fits, whole-next}
+use Rattle.cuts.proofs.Answers.{all-whole, only-whole}
+use Rattle.cuts.proofs.Kept.{kept-none, kept}
+use Rattle.cuts.proofs.WriteFits.{write-fits}
 
 -- ---- after a done write
 

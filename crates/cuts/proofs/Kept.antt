@@ -1,6 +1,5 @@
 -- The calls, by what they promise: what is left of a file that was written, cut anywhere, opens as the approximations of the level that its whole sections
 -- reach, or is 10; and two writes of one recording are the same bytes. Each of the integer filters.
--- Assumes nothing.
 use mathlib.Core.Bool.{Bool, true, false, cond}
 use mathlib.Core.List.{List, _∷_, _++_}
 use mathlib.Core.Path.{_≡_, refl, sym, ap, ap₂, subst, _∙_}
@@ -28,14 +27,14 @@ use Rattle.dwt.specs.Pyramids.{approxAt}
 use Rattle.dwt.specs.Calls.{short}
 use Rattle.dwt.proofs.Multi.{levels-pos}
 use Rattle.trips.proofs.Undone.{wavelet-is}
 use Rattle.pyramid.specs.Files.{fileOf, fileSize}
 use Rattle.pyramid.specs.Opens.{samplesIn, countIn, sayOpen, Open}
 use Rattle.pyramid.specs.Writes.{writeChecks, sayWrite, Write}
-use Rattle.pyramid.specs.Sees.{needed, wholeOf, Sampled, Roomy}
-use Rattle.pyramid.proofs.Sized.{file-length}
-use Rattle.pyramid.proofs.Heads.{Recording, common}
-use Rattle.pyramid.proofs.Whole.{first-most}
-use Rattle.pyramid.proofs.Survives.{cut-short, survives, count-left}
+use Rattle.cuts.specs.Sees.{needed, wholeOf, Sampled, Roomy}
+use Rattle.cuts.proofs.Sized.{file-length}
+use Rattle.cuts.proofs.Heads.{Recording, common}
+use Rattle.cuts.proofs.Whole.{first-most}
+use Rattle.cuts.proofs.Survives.{cut-short, survives, count-left}
 
 early-refuses : (f : Filter) → Integers f → (n : ℕ) (t : Bool) → done (cond t (short f n) BufferWasTooSmallForLevel) ≡ false
 early-refuses f i n true = ap done (common f i .early n)

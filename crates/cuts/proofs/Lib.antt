@@ -1,0 +1,13 @@
+pub mod Sized
+pub mod CutWalk
+pub mod Restored
+pub mod Heads
+pub mod Whole
+pub mod Survives
+pub mod Answers
+pub mod Bands
+pub mod Kept
+pub mod WriteFits
+pub mod Demand3
+pub mod OpenT800
+pub mod SectionCalls
