@@ -55,8 +55,10 @@ enum {
     BK_NO_ROOM = 7,                        /* a lent area is too short: have, need */
     BK_OTHER_WIDTH = 8,                    /* the file's width is not the one asked: the file's, asked */
     BK_BAD_COUNT = 9,                      /* a count is wrong: section, found;
-                                              a byte length that is no whole number of samples: 0, the length */
-    BK_CUT_SHORT = 10,                     /* the file ends before section 1 is whole: its length, 0 */
+                                              a byte length that is no whole number of samples: 0, the length;
+                                              a list of lengths that is not the details: 0, its sum */
+    BK_CUT_SHORT = 10,                     /* the file ends before section 1, or the one asked for, is whole:
+                                              its length, 0 */
     BK_OTHER_POINT = 11,                   /* the file's point is not the one asked: the file's, asked */
     BK_TRAILING = 12,                      /* bytes after the last section: how many, 0 */
     BK_NO_SUCH_PLACE = 13                  /* a place outside its range: the place, the limit */

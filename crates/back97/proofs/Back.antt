@@ -1,4 +1,4 @@
--- What a turn of the loop of the inverse of 9/7 makes and stores, and that it is no NaN where the floats around are small. Once over the format.
+-- What the blocks of the inverse of 9/7 make and store, and that it is no NaN where the floats around are small. Once over the format.
 use mathlib.Core.Bool.{Bool, true, false, not}
 use mathlib.Core.List.{List}
 use mathlib.Core.Path.{_≡_, refl, sym, subst, _∙_}

@@ -1,4 +1,4 @@
--- The inverse of 9/7 as one loop makes it: the bands scaled, then four lifting steps, by the set t with signs changed. Over the format.
+-- The inverse of 9/7 as the blocks make it: the bands scaled, then four lifting steps, by the set t with signs changed. Over the format.
 use mathlib.Core.Bool.{Bool}
 use mathlib.Core.List.{List}
 use mathlib.Core.Path.{_≡_}

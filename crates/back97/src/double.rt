@@ -1,4 +1,4 @@
-// The inverse of 9/7 at f64, one level in one loop. single.rt has the same at f32.
+// The inverse of 9/7 at f64, one level block by block. single.rt has the same at f32.
 ghost use mathlib.Core.Path.{_≡_};
 ghost use Prim.Native.Nat.{_+_, _/_, _≤_, _<_};
 ghost use lib.Ieee.{binary64};
@@ -22,14 +22,14 @@ use small::double::steps_f64;
 use small::turns::block_turns;
 use small::turns::minus;
 
-// What the last pair is made of: its even sample is `three`, and `next` the even sample to the right.
+// What the last pair is made of: `two` is its odd entry after the second step, `three` its even sample, and `next` the even sample to the right.
 struct Last64 {
     two: f64,
     three: f64,
     next: f64,
 }
 
-// The first turn's.
+// What the first turn is handed.
 fn first_f64(t: Factors64, a: &[u8], d: &[u8]) -> Carry64
     requires { ⌜ Given binary64 (set64 t) (now a) (now d) ⌝ }
     ensures { λ r. ⌜ Carried binary64 (set64 t) (now (a .entry)) (now (d .entry)) 0 (r .one) (r .two) (r .three) ⌝ }
@@ -233,7 +233,7 @@ pub fn inverse_f64(t: Factors64, approx: &[u8], details: &[u8], output: &mut [u8
     requires { ⌜ 4 ≤ length (now output) / 8 ⌝ }
     ensures { λ _. ⌜ now (output .exit) ≡ back binary64 Wavelet.Cdf97 (now (approx .entry)) (now (details .entry)) ⌝ }
 {
-    // Where one of the first floats is large the schedule is the faster way; a large block later on is read and written with tests.
+    // Where one of the first floats is large the schedule is the faster way; a block with a large one later on is read and written with tests.
     let some = lesser(64, details.len() / 8);
     if small_bands_f64(approx, details, 0, some) {
         inverse_all_f64(t, approx, details, output);

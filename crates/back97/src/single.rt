@@ -1,4 +1,4 @@
-// The inverse of 9/7 at f32, one level in one loop. double.rt has the same at f64.
+// The inverse of 9/7 at f32, one level block by block. double.rt has the same at f64.
 ghost use mathlib.Core.Path.{_≡_};
 ghost use Prim.Native.Nat.{_+_, _/_, _≤_, _<_};
 ghost use lib.Ieee.{binary32};
@@ -22,14 +22,14 @@ use small::single::steps_f32;
 use small::turns::block_turns;
 use small::turns::minus;
 
-// What the last pair is made of: its even sample is `three`, and `next` the even sample to the right.
+// What the last pair is made of: `two` is its odd entry after the second step, `three` its even sample, and `next` the even sample to the right.
 struct Last32 {
     two: f32,
     three: f32,
     next: f32,
 }
 
-// The first turn's.
+// What the first turn is handed.
 fn first_f32(t: Factors32, a: &[u8], d: &[u8]) -> Carry32
     requires { ⌜ Given binary32 (set32 t) (now a) (now d) ⌝ }
     ensures { λ r. ⌜ Carried binary32 (set32 t) (now (a .entry)) (now (d .entry)) 0 (r .one) (r .two) (r .three) ⌝ }
@@ -233,7 +233,7 @@ pub fn inverse_f32(t: Factors32, approx: &[u8], details: &[u8], output: &mut [u8
     requires { ⌜ 4 ≤ length (now output) / 4 ⌝ }
     ensures { λ _. ⌜ now (output .exit) ≡ back binary32 Wavelet.Cdf97 (now (approx .entry)) (now (details .entry)) ⌝ }
 {
-    // Where one of the first floats is large the schedule is the faster way; a large block later on is read and written with tests.
+    // Where one of the first floats is large the schedule is the faster way; a block with a large one later on is read and written with tests.
     let some = lesser(64, details.len() / 4);
     if small_bands_f32(approx, details, 0, some) {
         inverse_all_f32(t, approx, details, output);

@@ -143,9 +143,9 @@ shut-out =
       rest-left = λ m e. differ 0 (λ h. omega arith) (sym (levels m) ∙ e);
       last-split = λ m e. differ 0 (λ h. omega arith) (sym (last-level m) ∙ e);
       finest-first = λ m e. differ 2 (λ h. omega arith) (sym (levels m) ∙ e);
-      coarsest = λ m. let q = opened (p6-to-p10 .p10) m in (λ e. absurd (omega (arith, ap (λ (r : Answer). r .first) (q .0))), λ e. differ 0 (λ h. omega arith) (sym e ∙ ap (take 2) (q .1)));
+      coarsest = λ m. let q = opened (p6-to-p10 .p10) m in (ap (λ (r : Answer). r .first) (q .0), λ e. differ 0 (λ h. omega arith) (sym e ∙ ap (take 2) (q .1)));
       invented = λ m. let q = opened (p6-to-p10 .p9 27 (omega arith) (omega arith)) m in (ap (λ (r : Answer). r .first) (q .0), ap (λ (r : Answer). r .second) (q .0), ap (take 3) (q .1));
-      section-cut = says-cut;
+      no-further = says-cut;
       section-is = section-two;
       toward-zero = λ m e. differ 0 (λ h. omega arith) (sym (ap (take 2) (levels m)) ∙ e);
       before-the-wrap = λ m e. differ 0 (λ h. omega arith) (sym (wrapped m) ∙ e);

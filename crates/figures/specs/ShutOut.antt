@@ -1,5 +1,5 @@
 -- Document 01, "Programs to be shut out": for each an input on which what the statement allows is not what that program would give. Samples are 8 bits wide, so
--- a byte is a sample, and the inputs are those of P1 and P5, unless a filter is named.
+-- a byte is a sample, and the inputs are those of P1, P3 and P5, unless another filter is named.
 use mathlib.Core.List.{List, [], _∷_, _++_}
 use mathlib.Core.Path.{_≡_}
 use Prim.Native.Nat.{ℕ, zero, suc, _*_}
@@ -154,18 +154,18 @@ pub record ShutOut : Type 0 where
   pub last-split : {r : Answer} {a d u v : List ℕ} → Dwt Cdf53I8 2 five two0 one0 five0 five0 r a d u v → a ≡ evenOf 0 (lowOf Cdf53I8 five) → ⊥
   -- details joined finest first
   pub finest-first : {r : Answer} {o u v : List ℕ} → Multi Cdf53I8 2 five five0 five0 five0 r o u v → o ≡ approxAt Cdf53I8 2 five ++ detailsUp 2 five → ⊥
-  -- "an opener that always stops at the coarsest level": the whole file opens at level 0, not at 2
-  pub coarsest : {r : Answer} {o u v : List ℕ} → Open thirtyOne 1 14 five0 five0 five0 r o u v → (r .first ≡ 2 → ⊥) × (take 2 o ≡ 255 ∷ 3 ∷ [] → ⊥)
-  -- "or invents level or count": 27 bytes are level 1 and three samples, and nothing else
+  -- "an opener that always stops at the coarsest level": the whole file opens at level 0
+  pub coarsest : {r : Answer} {o u v : List ℕ} → Open thirtyOne 1 14 five0 five0 five0 r o u v → (r .first ≡ 0) × (take 2 o ≡ 255 ∷ 3 ∷ [] → ⊥)
+  -- "or invents level or count": 27 bytes are level 1 and these three samples
   pub invented : {r : Answer} {o u v : List ℕ} → Open (take 27 thirtyOne) 1 14 five0 five0 five0 r o u v → (r .first ≡ 1) × (r .second ≡ 3) × (take 3 o ≡ 3 ∷ 253 ∷ 7 ∷ [])
   -- a lookup that looks further than its section, or hands back the count too: 25 bytes have section 2 whole, and it is -8 alone
-  pub section-cut : saySection (take 25 thirtyOne) 1 14 2 ≡ Done 24 1
+  pub no-further : saySection (take 25 thirtyOne) 1 14 2 ≡ Done 24 1
   pub section-is : sectionIn thirtyOne 1 14 2 ≡ 248 ∷ []
   -- "dividing toward zero where floor is meant: P5's level 2 comes out wrong", as 0, 4
   pub toward-zero : {r : Answer} {o u v : List ℕ} → Multi Cdf53I8 2 five five0 five0 five0 r o u v → take 2 o ≡ 0 ∷ 4 ∷ [] → ⊥
   -- "updating evens from details before they wrapped": P3's -255 would leave 127 - 127, 0
   pub before-the-wrap : {r : Answer} {a d : List ℕ} → OneForward Cdf53I8 (127 ∷ 128 ∷ 127 ∷ []) two0 one0 r a d → a ≡ two0 → ⊥
-  -- a fused step, one rounding where document 01 has two: both bands differ, in each of their floats
+  -- a fused step, one rounding where document 01 has two: both bands differ
   pub fused : {r : Answer} {a d : List ℕ} → OneForward Cdf97F32 fourFloats eight0 eight0 r a d → (a ≡ fusedLow fourFloats → ⊥) × (d ≡ fusedHigh fourFloats → ⊥)
   -- 4 where one level of a short integer input is 1, or 1 where it is 4 in the float filters
   pub short-integer : sayMulti Cdf53I8 1 2 2 2 2 ≡ MinFilterSize 2 3

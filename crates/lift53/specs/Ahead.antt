@@ -1,4 +1,4 @@
--- Two lifting steps forward, odds by c and then evens by g, on the samples in x: what one loop makes. Over the format.
+-- Two lifting steps forward, odds by c and then evens by g, on the samples in x: as the blocks make them. Over the format.
 use mathlib.Core.Bool.{Bool, true}
 use mathlib.Core.List.{List}
 use mathlib.Core.Path.{_≡_}

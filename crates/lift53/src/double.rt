@@ -1,4 +1,4 @@
-// 5/3 at f64, one level in one loop. single.rt has the same at f32.
+// 5/3 at f64, one level block by block. single.rt has the same at f32.
 ghost use mathlib.Core.Bool.{true};
 ghost use mathlib.Core.Path.{_≡_};
 ghost use Prim.Native.Nat.{_+_, _-_, _*_, _/_, _≤_, _<_, min};

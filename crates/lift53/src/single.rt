@@ -1,4 +1,4 @@
-// 5/3 at f32, one level in one loop. double.rt has the same at f64.
+// 5/3 at f32, one level block by block. double.rt has the same at f64.
 ghost use mathlib.Core.Bool.{true};
 ghost use mathlib.Core.Path.{_≡_};
 ghost use Prim.Native.Nat.{_+_, _-_, _*_, _/_, _≤_, _<_, min};

@@ -1,4 +1,4 @@
--- 9/7 forward as one loop makes it, by the set t: after the two steps that `oddsTo` and `evensTo` are, two more and the scaling. Over the format.
+-- 9/7 forward as the blocks make it, by the set t: after the two steps that `oddsTo` and `evensTo` are, two more and the scaling. Over the format.
 use mathlib.Core.Bool.{Bool, true}
 use mathlib.Core.List.{List}
 use mathlib.Core.Path.{_≡_}

@@ -1,4 +1,4 @@
-// 9/7 forward at f64, one level in one loop, block by block: a block of small floats is read and written without a test. single.rt has the same at f32.
+// 9/7 forward at f64, one level block by block: a block of small floats is read and written without a test. single.rt has the same at f32.
 ghost use mathlib.Core.Bool.{true};
 ghost use mathlib.Core.Path.{_≡_};
 ghost use Prim.Native.Nat.{_+_, _-_, _*_, _/_, _≤_, _<_, min};
@@ -44,7 +44,7 @@ fn carry_f64(t: Factors64, x: &[u8], i: usize, j: usize, p: f64, q: f64) -> Carr
     }
 }
 
-// The first carry; its `three` is odd entry 0, as none is before it. Even sample j is the right neighbour of odd sample 1.
+// The first carry; its `three` is odd entry 0, as none is before it. Even sample j is the right neighbour of the second odd sample.
 fn first_f64(t: Factors64, x: &[u8], j: usize) -> Carry64
     requires { ⌜ Samples binary64 (set64 t) (now x) ⌝ }
     requires { ⌜ j ≡ min 2 ((length (now x) / 8 + 1) / 2 - 1) ⌝ }
@@ -61,7 +61,7 @@ fn first_f64(t: Factors64, x: &[u8], j: usize) -> Carry64
     }
 }
 
-// Entry i of the bands that are wanted; `third` is its odd sample after the third step.
+// Entry i of the bands that are wanted; `third` is its odd sample after the third step. x is read by the contract alone.
 fn put_at_f64(
     both: bool,
     small: bool,
@@ -123,7 +123,7 @@ fn read_pairs_f64(small: bool, x: &[u8], y: &mut [f64], z: &mut [f64], i: usize,
     y[n] = get_f64(small, x, 2 * (i + n));
 }
 
-// The entries i to before i + n of the bands that are wanted, of what the turns before each of them hand on.
+// The entries i to before i + n of the bands that are wanted: u, v and w have what each turn is handed.
 fn put_block_f64(
     both: bool,
     small: bool,
@@ -184,7 +184,7 @@ fn split_block_f64(
     next
 }
 
-// The last even sample after the second step, of p and q, which are those of the last odd place.
+// The last even sample after the second step: p is the last odd sample after the first, q the even one before it after the second.
 fn top_f64(t: Factors64, x: &[u8], p: f64, q: f64) -> f64
     requires { ⌜ Samples binary64 (set64 t) (now x) ⌝ }
     requires { ⌜ (p ≡ getD (oddsOne binary64 (set64 t) (now x)) (length (now x) / 8 / 2 - 1) nan) × (q ≡ getD (evensTwo binary64 (set64 t) (now x)) (length (now x) / 8 / 2 - 1) nan) ⌝ }
@@ -278,7 +278,7 @@ pub fn forward_f64(t: Factors64, input: &[u8], approx: &mut [u8], details: &mut 
     cdf97f::forward_f64(t, input, approx, details);
 }
 
-// The approximations alone, by the same loop, since the schedule would need room for details.
+// The approximations alone, by the same blocks, since the schedule would need room for details.
 pub fn approximate_f64(t: Factors64, input: &[u8], approx: &mut [u8])
     requires { ⌜ set64 t ≡ factors64 ⌝ }
     requires { ⌜ LentLow binary64 (now input) (now approx) ⌝ }

@@ -1,4 +1,4 @@
-// 9/7 forward at f32, one level in one loop, block by block: a block of small floats is read and written without a test. double.rt has the same at f64.
+// 9/7 forward at f32, one level block by block: a block of small floats is read and written without a test. double.rt has the same at f64.
 ghost use mathlib.Core.Bool.{true};
 ghost use mathlib.Core.Path.{_≡_};
 ghost use Prim.Native.Nat.{_+_, _-_, _*_, _/_, _≤_, _<_, min};
@@ -44,7 +44,7 @@ fn carry_f32(t: Factors32, x: &[u8], i: usize, j: usize, p: f32, q: f32) -> Carr
     }
 }
 
-// The first carry; its `three` is odd entry 0, as none is before it. Even sample j is the right neighbour of odd sample 1.
+// The first carry; its `three` is odd entry 0, as none is before it. Even sample j is the right neighbour of the second odd sample.
 fn first_f32(t: Factors32, x: &[u8], j: usize) -> Carry32
     requires { ⌜ Samples binary32 (set32 t) (now x) ⌝ }
     requires { ⌜ j ≡ min 2 ((length (now x) / 4 + 1) / 2 - 1) ⌝ }
@@ -61,7 +61,7 @@ fn first_f32(t: Factors32, x: &[u8], j: usize) -> Carry32
     }
 }
 
-// Entry i of the bands that are wanted; `third` is its odd sample after the third step.
+// Entry i of the bands that are wanted; `third` is its odd sample after the third step. x is read by the contract alone.
 fn put_at_f32(
     both: bool,
     small: bool,
@@ -123,7 +123,7 @@ fn read_pairs_f32(small: bool, x: &[u8], y: &mut [f32], z: &mut [f32], i: usize,
     y[n] = get_f32(small, x, 2 * (i + n));
 }
 
-// The entries i to before i + n of the bands that are wanted, of what the turns before each of them hand on.
+// The entries i to before i + n of the bands that are wanted: u, v and w have what each turn is handed.
 fn put_block_f32(
     both: bool,
     small: bool,
@@ -184,7 +184,7 @@ fn split_block_f32(
     next
 }
 
-// The last even sample after the second step, of p and q, which are those of the last odd place.
+// The last even sample after the second step: p is the last odd sample after the first, q the even one before it after the second.
 fn top_f32(t: Factors32, x: &[u8], p: f32, q: f32) -> f32
     requires { ⌜ Samples binary32 (set32 t) (now x) ⌝ }
     requires { ⌜ (p ≡ getD (oddsOne binary32 (set32 t) (now x)) (length (now x) / 4 / 2 - 1) nan) × (q ≡ getD (evensTwo binary32 (set32 t) (now x)) (length (now x) / 4 / 2 - 1) nan) ⌝ }
@@ -278,7 +278,7 @@ pub fn forward_f32(t: Factors32, input: &[u8], approx: &mut [u8], details: &mut 
     cdf97f::forward_f32(t, input, approx, details);
 }
 
-// The approximations alone, by the same loop, since the schedule would need room for details.
+// The approximations alone, by the same blocks, since the schedule would need room for details.
 pub fn approximate_f32(t: Factors32, input: &[u8], approx: &mut [u8])
     requires { ⌜ set32 t ≡ factors32 ⌝ }
     requires { ⌜ LentLow binary32 (now input) (now approx) ⌝ }

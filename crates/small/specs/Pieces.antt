@@ -6,7 +6,7 @@ use lib.Ieee.{Float, nan, Format}
 use lib.ListN.{length, getD}
 use Rattle.floats.specs.Steps.{lift}
 
--- u holds n entries of l in turn; the first is at place i - m, which is 0 where m is more
+-- entry j of u, of the first n, is the one of l at place i + j - m, or its first where m is more
 pub record Piece (l : List Float) (m i n : ℕ) (u : List Float) : Type 0 where
   pub each : (j k : ℕ) → j < n → k ≡ i + j - m → getD u j nan ≡ getD l k nan
 

@@ -1,4 +1,4 @@
-// Turns of a loop: the place so many before, and where a block of turns ends.
+// Turns of a loop: the place so many before, where a block of turns ends, and how many a block has.
 ghost use mathlib.Core.Path.{_≡_};
 ghost use Prim.Native.Nat.{_+_, _-_, _≤_, _<_};
 

@@ -1,4 +1,4 @@
--- T.800 at every level, by lengths alone: with levels within the depth and areas with room the same three calls are done and leave these bytes.
+-- T.800 at every level, by lengths alone: with levels within the depth and areas with room `dwt`, `multi_dwt` and `multi_idwt` are done and leave T.800's coefficients and samples, as they are kept.
 use mathlib.Core.List.{List, _++_}
 use mathlib.Core.Path.{_≡_, sym, ap, _∙_}
 use Prim.Native.Nat.{ℕ, _+_, _-_, _*_, _/_, _≤_}

@@ -1,4 +1,4 @@
--- `forward_f64` meets its contract: by the one loop or by the schedule.
+-- `forward_f64` meets its contract: block by block or by the schedule.
 use borrow.Author.Needs.{needs}
 use mathlib.Core.Path.{refl}
 use lib.Ieee.{binary64, neg, ofBits, round}

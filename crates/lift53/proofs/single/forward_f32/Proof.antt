@@ -1,4 +1,4 @@
--- `forward_f32` meets its contract: by the one loop or by the schedule.
+-- `forward_f32` meets its contract: block by block or by the schedule.
 use borrow.Author.Needs.{needs}
 use mathlib.Core.Path.{refl}
 use lib.Ieee.{binary32, neg, ofBits, round}
