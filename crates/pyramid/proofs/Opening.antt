@@ -1,7 +1,7 @@
 -- Opening: what each part of the checks leaves when it lets by, and that the levels which a cut left can be restored.
 use Rattle.answers.specs.declared.err.Refusal.{Refusal}
 use mathlib.Core.Bool.{Bool, true, false, cond}
-use mathlib.Core.List.{List, [], _∷_, _++_, append-assoc, append-nil}
+use mathlib.Core.List.{List, [], _∷_, _++_, append-nil}
 use mathlib.Core.Logic.{⊎-elim}
 use mathlib.Core.Path.{_≡_, refl, sym, ap, subst, _∙_}
 use Prim.Native.Nat.{ℕ, _+_, _-_, _*_, _/_, _≤_}
@@ -22,7 +22,7 @@ use Rattle.sizes.proofs.Depths.{depth-rest}
 use Rattle.samples.specs.Integers.{isWidth}
 use Rattle.samples.proofs.IntegerLaws.{width-of}
 use Rattle.dwt.specs.declared.filter.Filter.the-variants.{Cdf53I8, Cdf53I16, Cdf53I32}
-use Rattle.dwt.specs.Filters.{widthOf, waveletOf}
+use Rattle.dwt.specs.Filters.{widthOf, Integers}
 use Rattle.pyramid.specs.declared.walk.Way.{Way}
 use Rattle.pyramid.specs.declared.walk.Way.the-variants.{Went, Short, Wrong}
 use Rattle.pyramid.specs.Files.{headSize, bodySize}
@@ -35,18 +35,18 @@ pub filter-width : (w : ℕ) → isWidth w ≡ true → widthOf (filterOf w) ≡
 filter-width w h =
     ⊎-elim (λ (e : w ≡ 1). rw e refl) (⊎-elim (λ (e : w ≡ 2). rw e refl) (λ (e : w ≡ 4). rw e refl)) (width-of w h .which)
 
--- and is of 5/3
-pub filter-wavelet : (w : ℕ) → waveletOf (filterOf w) ≡ Cdf53
-filter-wavelet w = pick (eqb w 1) (eqb w 2)
+-- and is one of integers, whatever the width
+pub filter-integers : (w : ℕ) → Integers (filterOf w)
+filter-integers w = pick (eqb w 1) (eqb w 2)
   where
-    pick : (a b : Bool) → waveletOf (cond a Cdf53I8 (cond b Cdf53I16 Cdf53I32)) ≡ Cdf53
-    pick true b = refl
-    pick false true = refl
-    pick false false = refl
+    pick : (a b : Bool) → Integers (cond a Cdf53I8 (cond b Cdf53I16 Cdf53I32))
+    pick true b = tt
+    pick false true = tt
+    pick false false = tt
 
 -- what section 0 tells when its checks let by
 pub record Headed (s : List ℕ) (w : ℕ) : Type 0 where
-  pub there : headSize ≤ length s
+  pub there : headIn s .body ≤ length s
   pub width : headIn s .width ≡ w
   pub known : isWidth w ≡ true
   pub short : headIn s .samples ≤ mostSamples
@@ -72,27 +72,27 @@ way-refuses (Went p) b = (refl, tt)
 way-refuses (Short j) b = (refl, tt)
 way-refuses (Wrong j found) b = (refl, tt)
 
-pub way-passes : (s : List ℕ) (k l n : ℕ) (v : Way) → v ≡ walkOf s k l n headSize → headSize ≤ length s → Passing (wayChecks v (length s))
-    → let m = wholeDetails v l in (m ≤ l) × (headSize + bodySize k m (places (l - m) n) ≤ length s)
+pub way-passes : (s : List ℕ) (k l n at : ℕ) (v : Way) → v ≡ walkOf s k l n at → at ≤ length s → Passing (wayChecks v (length s))
+    → let m = wholeDetails v l in (m ≤ l) × (at + bodySize k m (places (l - m) n) ≤ length s)
 unfolding places
-way-passes s k l n (Went p) e h q =
-    let i = walk-size l s k n headSize p h (sym e) in
+way-passes s k l n at (Went p) e h q =
+    let i = walk-size l s k n at p h (sym e) in
     let z : l - l ≡ 0 = omega arith in
     (omega arith, rw z (omega (arith, i)))
-way-passes s k l n (Short j) e h q =
-    let i = walk-short l s k n headSize j (sym e) in
+way-passes s k l n at (Short j) e h q =
+    let i = walk-short l s k n at j (sym e) in
     let one = eqb-false j 1 (q .0) in
     let two : 2 ≤ j = omega (arith, i .some, one) in
     let t = i .before two in
     let a : l + 2 - j ≡ l - (j - 2) = omega (arith, i .most, two) in
-    let z = walk-size (j - 2) s k (places (l + 2 - j) n) headSize (t .0) h (t .1) in
+    let z = walk-size (j - 2) s k (places (l + 2 - j) n) at (t .0) h (t .1) in
     (omega (arith, i .most, two), rw (sym a) (omega (arith, z)))
-way-passes s k l n (Wrong j found) e h q = absurd (let z : _≡_ {A = ℕ} 0 1 = ap (λ b. cond b 0 1) (q .0) in omega arith)
+way-passes s k l n at (Wrong j found) e h q = absurd (let z : _≡_ {A = ℕ} 0 1 = ap (λ b. cond b 0 1) (q .0) in omega arith)
 
 -- ---- the file alone
 
 -- checks that all pass leave the rest to decide; where one refuses, it has decided
-pass-on : (l m : List Check) (e : Refusal) → Passing l → firstOf (l ++ m) e ≡ firstOf m e
+pub pass-on : (l m : List Check) (e : Refusal) → Passing l → firstOf (l ++ m) e ≡ firstOf m e
 pass-on [] m e h = refl
 pass-on (p ∷ l) m e h = ap (λ t. cond t (p .1) (firstOf (l ++ m) e)) (h .0) ∙ pass-on l m e (h .1)
 
@@ -108,8 +108,8 @@ pub other-end : (l : List Check) (d e : Refusal) → done d ≡ true → done (f
 other-end l d e z h = ap (λ (m : List Check). firstOf m e) (sym (append-nil l)) ∙ stop-there l [] d e z h
 
 module _ (s : List ℕ) (w p : ℕ) where
-  file-refuses : Refusing (fileChecks s w p)
-  file-refuses = both-refuse (headChecks s w p) (wayChecks (wayIn s) (length s)) (head-refuses s w p) (way-refuses (wayIn s) (length s))
+  pub file-refuses : Refusing (fileChecks s w p)
+  file-refuses = both-refuse (headChecks s w p) (wayChecks (wayIn s (headIn s)) (length s)) (head-refuses s w p) (way-refuses (wayIn s (headIn s)) (length s))
 
   file-passes : done (sayFile s w p) ≡ true → Passing (fileChecks s w p)
   unfolding sayFile
@@ -121,15 +121,15 @@ module _ (s : List ℕ) (w p : ℕ) where
   file-says h = through (fileChecks s w p) (Done (levelIn s) (countIn s)) (file-passes h)
 
   pub file-headed : done (sayFile s w p) ≡ true → Headed s w
-  file-headed h = head-passes s w p (both-pass (headChecks s w p) (wayChecks (wayIn s) (length s)) (file-passes h) .0)
+  file-headed h = head-passes s w p (both-pass (headChecks s w p) (wayChecks (wayIn s (headIn s)) (length s)) (file-passes h) .0)
 
-  pub file-rest : (m : List Check) (e : Refusal) → done (sayFile s w p) ≡ true → firstOf (headChecks s w p ++ (wayChecks (wayIn s) (length s) ++ m)) e ≡ firstOf m e
-  file-rest m e h = ap (λ (l : List Check). firstOf l e) (sym (append-assoc (headChecks s w p) (wayChecks (wayIn s) (length s)) m)) ∙ pass-on (fileChecks s w p) m e (file-passes h)
+  pub file-rest : (m : List Check) (e : Refusal) → done (sayFile s w p) ≡ true → firstOf (fileChecks s w p ++ m) e ≡ firstOf m e
+  file-rest m e h = pass-on (fileChecks s w p) m e (file-passes h)
 
   -- a file that is refused: that is what is said
-  pub file-stop : (m : List Check) (e : Refusal) → done (sayFile s w p) ≡ false → firstOf (headChecks s w p ++ (wayChecks (wayIn s) (length s) ++ m)) e ≡ sayFile s w p
+  pub file-stop : (m : List Check) (e : Refusal) → done (sayFile s w p) ≡ false → firstOf (fileChecks s w p ++ m) e ≡ sayFile s w p
   unfolding sayFile
-  file-stop m e h = ap (λ (l : List Check). firstOf l e) (sym (append-assoc (headChecks s w p) (wayChecks (wayIn s) (length s)) m)) ∙ stop-there (fileChecks s w p) m (Done (levelIn s) (countIn s)) e refl h
+  file-stop m e h = stop-there (fileChecks s w p) m (Done (levelIn s) (countIn s)) e refl h
 
 -- the areas and their room
 pub area-refuses : (w o u v : ℕ) → Refusing (areaChecks w o u v)
@@ -145,63 +145,61 @@ area-passes w o u v h q = let r = rw h at q in (whole w o (r .0), whole w u (r .
 -- what all checks leave: the levels can be restored, and there is room
 pub record Opening (s : List ℕ) (w o u v : ℕ) : Type 0 where
   pub head : Headed s w
-  pub some : wholeDetails (wayIn s) (headIn s .levels) ≤ headIn s .levels
-  pub deep : wholeDetails (wayIn s) (headIn s .levels) ≤ depthOf Cdf53 (countIn s)
+  pub some : wholeDetails (wayIn s (headIn s)) (headIn s .levels) ≤ headIn s .levels
+  pub deep : wholeDetails (wayIn s (headIn s)) (headIn s .levels) ≤ depthOf Cdf53 (countIn s)
   pub short : countIn s ≤ mostSamples
-  pub held : headSize + bodySize w (wholeDetails (wayIn s) (headIn s .levels)) (countIn s) ≤ length s
+  pub held : headIn s .body + bodySize w (wholeDetails (wayIn s (headIn s)) (headIn s .levels)) (countIn s) ≤ length s
   pub output : w * countIn s ≤ o
   pub first : w * countIn s ≤ u
   pub second : w * countIn s ≤ v
 
-open-refuses : (s : List ℕ) (w p o u v : ℕ) → Refusing (areaChecks w o u v ++ (headChecks s w p ++ (wayChecks (wayIn s) (length s) ++ roomsFor w (countIn s) o u v)))
-open-refuses s w p o u v =
-    let heads = headChecks s w p in
-    let ways = wayChecks (wayIn s) (length s) in
-    let rooms = roomsFor w (countIn s) o u v in
-    both-refuse (areaChecks w o u v) (heads ++ (ways ++ rooms)) (area-refuses w o u v) (both-refuse heads (ways ++ rooms) (head-refuses s w p) (both-refuse ways rooms (way-refuses (wayIn s) (length s)) (refl, (refl, (refl, tt)))))
+module _ (s : List ℕ) (w p o u v : ℕ) (h : done (sayOpen s w p o u v) ≡ true) where
+  abbrev areas : List Check
+  areas = areaChecks w o u v
 
-pub open-ready : (s : List ℕ) (w p o u v : ℕ) → done (sayOpen s w p o u v) ≡ true → Opening s w o u v
-unfolding sayOpen
-open-ready s w p o u v h =
-    let areas = areaChecks w o u v in
-    let heads = headChecks s w p in
-    let ways = wayChecks (wayIn s) (length s) in
-    let rooms = roomsFor w (countIn s) o u v in
-    let q = passing (areas ++ (heads ++ (ways ++ rooms))) (Done (levelIn s) (countIn s)) (open-refuses s w p o u v) h in
-    let qa = both-pass areas (heads ++ (ways ++ rooms)) q in
-    let qh = both-pass heads (ways ++ rooms) (qa .1) in
-    let qw = both-pass ways rooms (qh .1) in
-    let hd = head-passes s w p (qh .0) in
-    let k = headIn s .width in
-    let l = headIn s .levels in
-    let n = headIn s .samples in
-    let m = wholeDetails (wayIn s) l in
-    let wy = way-passes s k l n (wayIn s) refl (hd .there) (qw .0) in
-    let ar = area-passes w o u v (hd .known) (qa .0) in
-    let left : l - (l - m) ≡ m = omega (arith, wy .0) in
-    let dp = depth-rest Cdf53 (l - m) l n (omega arith) (hd .deep) in
-    let lo = mul-le-mul-left w (roomy (o / w) (countIn s) (qw .1 .0)) in
-    let lu = mul-le-mul-left w (roomy (u / w) (countIn s) (qw .1 .1 .0)) in
-    let lv = mul-le-mul-left w (roomy (v / w) (countIn s) (qw .1 .1 .1 .0)) in
-    record {
-      head = hd;
-      some = wy .0;
-      deep = omega (arith, left, dp);
-      short = omega (arith, places-le (l - m) n, hd .short);
-      held = omega (arith, ap (λ (j : ℕ). headSize + bodySize j m (countIn s)) (hd .width), wy .1);
-      output = omega (arith, lo, ar .0);
-      first = omega (arith, lu, ar .1);
-      second = omega (arith, lv, ar .2);
-    }
+  abbrev file : List Check
+  file = fileChecks s w p
 
--- a call that is done says the level and the count, for which there is room
-pub open-says : (s : List ℕ) (w p o u v : ℕ) → done (sayOpen s w p o u v) ≡ true → (sayOpen s w p o u v ≡ Done (levelIn s) (countIn s)) × (countIn s ≤ o / w)
-unfolding sayOpen
-open-says s w p o u v h =
-    let areas = areaChecks w o u v in
-    let heads = headChecks s w p in
-    let ways = wayChecks (wayIn s) (length s) in
-    let rooms = roomsFor w (countIn s) o u v in
-    let q = passing (areas ++ (heads ++ (ways ++ rooms))) (Done (levelIn s) (countIn s)) (open-refuses s w p o u v) h in
-    let qr = both-pass ways rooms (both-pass heads (ways ++ rooms) (both-pass areas (heads ++ (ways ++ rooms)) q .1) .1) .1 in
-    (through (areas ++ (heads ++ (ways ++ rooms))) (Done (levelIn s) (countIn s)) q, roomy (o / w) (countIn s) (qr .0))
+  abbrev rooms : List Check
+  rooms = roomsFor w (countIn s) o u v
+
+  passed : Passing (areas ++ (file ++ rooms))
+  unfolding sayOpen
+  passed =
+      passing (areas ++ (file ++ rooms)) (Done (levelIn s) (countIn s))
+      (both-refuse areas (file ++ rooms) (area-refuses w o u v) (both-refuse file rooms (file-refuses s w p) (refl, (refl, (refl, tt))))) h
+
+  pub open-ready : Opening s w o u v
+  open-ready =
+      let qa = both-pass areas (file ++ rooms) passed in
+      let qf = both-pass file rooms (qa .1) in
+      let room = qf .1 in
+      let qw = both-pass (headChecks s w p) (wayChecks (wayIn s (headIn s)) (length s)) (qf .0) in
+      let hd = head-passes s w p (qw .0) in
+      let l = headIn s .levels in
+      let n = headIn s .samples in
+      let m = wholeDetails (wayIn s (headIn s)) l in
+      let wy = way-passes s (headIn s .width) l n (headIn s .body) (wayIn s (headIn s)) refl (hd .there) (qw .1) in
+      let ar = area-passes w o u v (hd .known) (qa .0) in
+      let left : l - (l - m) ≡ m = omega (arith, wy .0) in
+      let dp = depth-rest Cdf53 (l - m) l n (omega arith) (hd .deep) in
+      let lo = mul-le-mul-left w (roomy (o / w) (countIn s) (room .0)) in
+      let lu = mul-le-mul-left w (roomy (u / w) (countIn s) (room .1 .0)) in
+      let lv = mul-le-mul-left w (roomy (v / w) (countIn s) (room .1 .1 .0)) in
+      record {
+        head = hd;
+        some = wy .0;
+        deep = omega (arith, left, dp);
+        short = omega (arith, places-le (l - m) n, hd .short);
+        held = omega (arith, ap (λ (j : ℕ). bodySize j m (countIn s)) (hd .width), wy .1);
+        output = omega (arith, lo, ar .0);
+        first = omega (arith, lu, ar .1);
+        second = omega (arith, lv, ar .2);
+      }
+
+  -- a call that is done says the level and the count, for which there is room
+  pub open-says : (sayOpen s w p o u v ≡ Done (levelIn s) (countIn s)) × (countIn s ≤ o / w)
+  unfolding sayOpen
+  open-says =
+      let room = both-pass file rooms (both-pass areas (file ++ rooms) passed .1) .1 in
+      (through (areas ++ (file ++ rooms)) (Done (levelIn s) (countIn s)) passed, roomy (o / w) (countIn s) (room .0))

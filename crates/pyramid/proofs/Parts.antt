@@ -1,6 +1,6 @@
 -- Parts that are copied, for `fetch` and `build`.
 use mathlib.Core.List.{List}
-use mathlib.Core.Path.{_≡_, sym, ap, _∙_}
+use mathlib.Core.Path.{_≡_, refl, sym, ap, _∙_}
 use Prim.Native.Nat.{ℕ, suc, _+_, _-_, _≤_}
 use native.Mathlib.Nat.{add-sub-cancel-left}
 use native.Mathlib.Omega.{arith}
@@ -8,9 +8,11 @@ use lib.ListN.{length, take, drop, length-drop}
 use lib.Seq.{length-take-le}
 use Rattle.dwt.specs.declared.filter.Filter.{Filter}
 use Rattle.sizes.specs.Bands.{ups, downs}
-use Rattle.dwt.specs.Filters.{widthOf, backOf}
+use Rattle.cdf53i.specs.Bands.{back}
+use Rattle.dwt.specs.Filters.{widthOf, backOf, Integers}
+use Rattle.trips.proofs.Undone.{each-width}
 use Rattle.pyramid.specs.Files.{bodySize}
-use Rattle.pyramid.specs.Walks.{bytesAt, restoredOf}
+use Rattle.pyramid.specs.Walks.{bytesAt, restoredAt}
 
 -- a part from k on of j bytes, where j is known by another name
 pub piece : (s : List ℕ) (k j b : ℕ) → j ≡ b → take (k + j - k) (drop k s) ≡ take b (drop k s)
@@ -20,13 +22,17 @@ pub piece-length : (s : List ℕ) (k b : ℕ) → k + b ≤ length s → length 
 piece-length s k b h = length-take-le b (drop k s) (omega (arith, length-drop k s))
 
 -- the levels of the code
-pub restore-none : (f : Filter) (s : List ℕ) (l n at : ℕ) → l ≡ 0 → bytesAt (widthOf f) s n at ≡ restoredOf f s l n at
-unfolding restoredOf
-restore-none f s l n at e = ap (λ (k : ℕ). restoredOf f s k n at) (sym e)
+pub restore-none : (k : ℕ) (s : List ℕ) (l n at : ℕ) → l ≡ 0 → bytesAt k s n at ≡ restoredAt k s l n at
+unfolding restoredAt
+restore-none k s l n at e = ap (λ (j : ℕ). restoredAt k s j n at) (sym e)
 
-pub restore-more : (f : Filter) (s : List ℕ) (l n at place : ℕ) → (l ≡ 0 → ⊥) → place ≡ at + bodySize (widthOf f) (l - 1) (ups n)
-    → backOf f (restoredOf f s (l - 1) (ups n) at) (bytesAt (widthOf f) s (downs n) place) ≡ restoredOf f s l n at
-unfolding restoredOf
-restore-more f s l n at place h e =
+-- an integer filter takes a level back by its width alone
+pub back-is : (f : Filter) → Integers f → backOf f ≡ back (widthOf f)
+back-is = each-width (λ k low high b. b ≡ back k) (λ k w. refl)
+
+pub restore-more : (f : Filter) → Integers f → (s : List ℕ) (l n at place : ℕ) → (l ≡ 0 → ⊥) → place ≡ at + bodySize (widthOf f) (l - 1) (ups n)
+    → backOf f (restoredAt (widthOf f) s (l - 1) (ups n) at) (bytesAt (widthOf f) s (downs n) place) ≡ restoredAt (widthOf f) s l n at
+unfolding restoredAt
+restore-more f i s l n at place h e =
     let q : suc (l - 1) ≡ l = omega arith in
-    ap (λ (p : ℕ). backOf f (restoredOf f s (l - 1) (ups n) at) (bytesAt (widthOf f) s (downs n) p)) e ∙ ap (λ (k : ℕ). restoredOf f s k n at) q
+    rw (back-is f i, e) (ap (λ (j : ℕ). restoredAt (widthOf f) s j n at) q)

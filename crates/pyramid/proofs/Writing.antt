@@ -31,7 +31,7 @@ use Rattle.dwt.proofs.Multi.{levels-pos, too-short}
 use Rattle.dwt.proofs.Lists.{put-end, later}
 use Rattle.trips.proofs.Lengths.{length-lengths, places-total}
 use Rattle.trips.proofs.Fitting.{lengths-fit, few-lengths}
-use Rattle.pyramid.specs.Files.{sectionOf, headCount, headSize, bodyOf, bodySize, fileSize, fileOf}
+use Rattle.pyramid.specs.Files.{sectionOf, headCount, headOf, headSize, bodyOf, bodySize, fileSize, fileOf}
 use Rattle.pyramid.specs.Writes.{writeChecks, sayWrite}
 
 -- ---- numbers that fit
@@ -70,7 +70,7 @@ lay-byte s s₀ a p n b e h q = sym (one-byte s p n b) ∙ lay-next 1 s s₀ a p
 
 -- the head
 pub head-laid : (s : List ℕ) (w l n p : ℕ) → w < 256 → l < 256 → headSize ≤ length s
-    → stored 4 (stored 4 (set (set (stored 4 s 0 headCount) 4 w) 5 l) 6 n) 10 p ≡ sectionOf headCount (leBytes 1 w ++ (leBytes 1 l ++ (leBytes 4 n ++ leBytes 4 p))) ++ drop headSize s
+    → stored 4 (stored 4 (set (set (stored 4 s 0 headCount) 4 w) 5 l) 6 n) 10 p ≡ headOf w l n p ++ drop headSize s
 head-laid s w l n p hw hl h =
     let s₁ = stored 4 s 0 headCount in
     let s₂ = set s₁ 4 w in
@@ -96,6 +96,10 @@ head-laid s w l n p hw hl h =
     let e₃ : s₃ ≡ a₃ ++ drop 6 s = lay-byte s₂ s a₂ 5 l hl (omega arith) (omega arith) e₂ in
     let e₄ : s₄ ≡ a₄ ++ drop 10 s = lay-next 4 s₃ s a₃ 6 n (omega arith) (omega arith) e₃ in
     lay-next 4 s₄ s a₄ 10 p (omega arith) (omega arith) e₄ ∙ simp append-assoc
+
+pub head-length : (w l n p : ℕ) → length (headOf w l n p) ≡ headSize
+unfolding leBytes
+head-length w l n p = refl
 
 -- ---- sections
 
@@ -126,19 +130,25 @@ body-more f l n x o t r p cut z h e q =
 pub size-more : (k l n : ℕ) → (l ≡ 0 → ⊥) → bodySize k l n ≡ bodySize k (l - 1) (ups n) + 4 + k * downs n
 size-more k l n z = omega (arith, split-width k n)
 
--- the whole file: the head, and the sections in the m bytes after it
-pub file-laid : (f : Filter) (l n p m : ℕ) (x b b₁ r : List ℕ) → length x ≡ widthOf f * n → m ≡ bodySize (widthOf f) l n
-    → b₁ ≡ sectionOf headCount (leBytes 1 (widthOf f) ++ (leBytes 1 l ++ (leBytes 4 n ++ leBytes 4 p))) ++ drop headSize b → r ≡ bodyOf f l n x
-    → take headSize b₁ ++ (r ++ drop m (drop headSize b₁)) ≡ fileOf f l p x ++ drop (fileSize (widthOf f) l n) b
+-- ---- the whole file
+
+-- a is in front of b, z bytes, and y is put after it
+part-laid : (a y b b₁ : List ℕ) (z m : ℕ) → length a ≡ z → b₁ ≡ a ++ drop z b → take z b₁ ++ (y ++ drop m (drop z b₁)) ≡ (a ++ y) ++ drop (z + m) b
+part-laid a y b b₁ z m e q =
+    let front : take z b₁ ≡ a = ap (take z) q ∙ take-at a (drop z b) z e in
+    let after : drop m (drop z b₁) ≡ drop (z + m) b = ap (drop m) (ap (drop z) q ∙ drop-at a (drop z b) z e) ∙ drop-drop m z b in
+    rw (front, after) (sym (append-assoc a y (drop (z + m) b)))
+
+-- a file of n samples is section 0 and the sections of its levels
+pub file-parts : (f : Filter) (l p n : ℕ) (x : List ℕ) → length x ≡ widthOf f * n → fileOf f l p x ≡ headOf (widthOf f) l n p ++ bodyOf f l n x
 unfolding fileOf
+file-parts f l p n x h = ap (λ (m : ℕ). headOf (widthOf f) l m p ++ bodyOf f l m x) (holds (width-pos f) x n h .count)
+
+-- the head, and the sections in the m bytes after it
+pub file-laid : (f : Filter) (l n p m : ℕ) (x b b₁ r : List ℕ) → length x ≡ widthOf f * n → m ≡ bodySize (widthOf f) l n → b₁ ≡ headOf (widthOf f) l n p ++ drop headSize b → r ≡ bodyOf f l n x
+    → take headSize b₁ ++ (r ++ drop m (drop headSize b₁)) ≡ fileOf f l p x ++ drop (fileSize headSize (widthOf f) l n) b
 file-laid f l n p m x b b₁ r e em q er =
-    let hd = sectionOf headCount (leBytes 1 (widthOf f) ++ (leBytes 1 l ++ (leBytes 4 n ++ leBytes 4 p))) in
-    let long : length hd ≡ headSize = simp (length-append, length-leBytes) in
-    let front : take headSize b₁ ≡ hd = ap (take headSize) q ∙ take-at hd (drop headSize b) headSize long in
-    let after : drop m (drop headSize b₁) ≡ drop (fileSize (widthOf f) l n) b =
-    ap (drop m) (ap (drop headSize) q ∙ drop-at hd (drop headSize b) headSize long) ∙ drop-drop m headSize b ∙ ap (λ (i : ℕ). drop (headSize + i) b) em in
-    let count : length x / widthOf f ≡ n = holds (width-pos f) x n e .count in
-    rw (front, after, er, count) (sym (append-assoc hd (bodyOf f l n x) (drop (fileSize (widthOf f) l n) b)))
+    rw (er, em, file-parts f l p n x e) (part-laid (headOf (widthOf f) l n p) (bodyOf f l n x) b b₁ headSize (bodySize (widthOf f) l n) (head-length (widthOf f) l n p) q)
 
 -- ---- the call
 
@@ -149,7 +159,7 @@ unfolding sayWrite
 say-width f l x b u v k e h = rw e at h
 
 -- what the checks leave: the levels run, and the file area has room
-pub write-ready : (f : Filter) (l x b u v : ℕ) → done (sayWrite f l x b u v) ≡ true → Ready f (levelsOf l) (x / widthOf f) x u v × (fileSize (widthOf f) (levelsOf l) (x / widthOf f) ≤ b)
+pub write-ready : (f : Filter) (l x b u v : ℕ) → done (sayWrite f l x b u v) ≡ true → Ready f (levelsOf l) (x / widthOf f) x u v × (fileSize headSize (widthOf f) (levelsOf l) (x / widthOf f) ≤ b)
 unfolding sayWrite
 write-ready f l x b u v h =
     let k = widthOf f in
@@ -168,9 +178,9 @@ write-ready f l x b u v h =
         first = omega arith;
         second = omega arith;
       },
-      roomy b (fileSize k (levelsOf l) (x / k)) (q .1 .1 .0),
+      roomy b (fileSize headSize k (levelsOf l) (x / k)) (q .1 .1 .0),
     )
 
 -- the same of i levels and k bytes, which are the ones asked for
-pub ready-for : (f : Filter) (l x b u v i k : ℕ) → i ≡ levelsOf l → k ≡ widthOf f → done (sayWrite f l x b u v) ≡ true → Ready f i (x / k) x u v × (fileSize (widthOf f) i (x / k) ≤ b)
+pub ready-for : (f : Filter) (l x b u v i k : ℕ) → i ≡ levelsOf l → k ≡ widthOf f → done (sayWrite f l x b u v) ≡ true → Ready f i (x / k) x u v × (fileSize headSize (widthOf f) i (x / k) ≤ b)
 ready-for f l x b u v i k ei ek h = rw (ei, ek) (write-ready f l x b u v h)

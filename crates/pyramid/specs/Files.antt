@@ -19,14 +19,8 @@ sectionOf c b = leBytes 4 c ++ b
 abbrev pub headCount : ℕ
 headCount = 10
 
-pub record Head : Type 0 where
-  pub width : ℕ
-  pub levels : ℕ
-  pub samples : ℕ
-  pub point : ℕ
-
-abbrev pub headOf : Head → List ℕ
-headOf h = leBytes 1 (h .width) ++ (leBytes 1 (h .levels) ++ (leBytes 4 (h .samples) ++ leBytes 4 (h .point)))
+abbrev pub headOf : ℕ → ℕ → ℕ → ℕ → List ℕ
+headOf k l n p = sectionOf headCount (leBytes 1 k ++ (leBytes 1 l ++ (leBytes 4 n ++ leBytes 4 p)))
 
 -- the bytes of section 0
 abbrev pub headSize : ℕ
@@ -41,12 +35,12 @@ bodyOf f (suc l) n x = bodyOf f l (ups n) (lowOf f x) ++ sectionOf (downs n) (hi
 abbrev pub bodySize : ℕ → ℕ → ℕ → ℕ
 bodySize k l n = 4 * (l + 1) + k * n
 
--- "Size: 14 + 4(L+1) + width·n"
-abbrev pub fileSize : ℕ → ℕ → ℕ → ℕ
-fileSize k l n = headSize + bodySize k l n
+-- "Size: 14 + 4(L+1) + width·n", behind a section 0 of z bytes
+abbrev pub fileSize : ℕ → ℕ → ℕ → ℕ → ℕ
+fileSize z k l n = z + bodySize k l n
 
 -- the file of the samples in x, for a point
 unfoldable pub fileOf : Filter → ℕ → ℕ → List ℕ → List ℕ
 fileOf f l p x =
     let n = length x / widthOf f in
-    sectionOf headCount (headOf (record { width = widthOf f; levels = l; samples = n; point = p })) ++ bodyOf f l n x
+    headOf (widthOf f) l n p ++ bodyOf f l n x

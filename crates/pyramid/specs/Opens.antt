@@ -1,7 +1,7 @@
 -- Opening a file, from document 01, "Opening checks": the checks as one list in its order, and what the call promises.
 use mathlib.Core.Bool.{true, cond, not}
 use mathlib.Core.List.{List, [], _∷_, _++_}
-use Prim.Native.Nat.{ℕ, _+_, _-_, _*_, _/_}
+use Prim.Native.Nat.{ℕ, _+_, _-_, _*_, _/_, _≤_, _<_}
 use lib.Dec.{ltb, eqb}
 use lib.ListN.{length, take, drop}
 use denote.Ref.{RefT}
@@ -9,7 +9,7 @@ use Rattle.answers.specs.declared.err.Answer.{Answer}
 use Rattle.answers.specs.declared.err.Refusal.{Refusal}
 use Rattle.answers.specs.declared.err.Refusal.the-variants.{Done, MinFilterSize, BufferWasTooSmallForLevel, TooLong, OtherWidth, BadCount, CutShort, OtherPoint, Trailing, NoSuchPlace}
 use Rattle.answers.specs.Answers.{done}
-use Rattle.answers.specs.Checks.{Check, firstOf, ragged, tight, Call}
+use Rattle.answers.specs.Checks.{Check, firstOf, ragged, tight, twoAreas, Call}
 use Rattle.sizes.specs.declared.Wavelet.the-variants.{Cdf53}
 use Rattle.sizes.specs.Bands.{mostSamples}
 use Rattle.sizes.specs.Levels.{places, depthOf}
@@ -17,18 +17,26 @@ use Rattle.samples.specs.Le.{leAt}
 use Rattle.samples.specs.Integers.{isWidth}
 use Rattle.dwt.specs.declared.filter.Filter.{Filter}
 use Rattle.dwt.specs.declared.filter.Filter.the-variants.{Cdf53I8, Cdf53I16, Cdf53I32}
+use Rattle.pyramid.specs.declared.head.Head.{Head}
 use Rattle.pyramid.specs.declared.walk.Way.{Way}
 use Rattle.pyramid.specs.declared.walk.Way.the-variants.{Went, Short, Wrong}
-use Rattle.pyramid.specs.Files.{mostBytes, Head, headCount, headSize}
-use Rattle.pyramid.specs.Walks.{walkOf, lastCount, restoredOf}
+use Rattle.pyramid.specs.Files.{mostBytes, headCount, headSize}
+use Rattle.pyramid.specs.Walks.{walkOf, lastCount, restoredAt}
 
 -- the integer filter of a width
 abbrev pub filterOf : ℕ → Filter
 filterOf k = cond (eqb k 1) Cdf53I8 (cond (eqb k 2) Cdf53I16 Cdf53I32)
 
--- what section 0 of s says
+-- what section 0 of s says, and where the sections after it start
 abbrev pub headIn : List ℕ → Head
-headIn s = record { width = leAt 1 s 4; levels = leAt 1 s 5; samples = leAt 4 s 6; point = leAt 4 s 10 }
+headIn s = record { width = leAt 1 s 4; levels = leAt 1 s 5; samples = leAt 4 s 6; point = leAt 4 s 10; body = headSize }
+
+-- h is read from a file of b bytes: it ends within them, and its numbers are of one byte and of four
+pub record Read (b : ℕ) (h : Head) : Type 0 where
+  pub within : h .body ≤ b
+  pub width : h .width < 256
+  pub levels : h .levels < 256
+  pub samples : h .samples < 4294967296
 
 -- "6 (over 67,108,974 bytes), 10 (under 14), 9 at section 0"
 abbrev pub startChecks : List ℕ → List Check
@@ -53,9 +61,9 @@ fieldChecks h w p =
 abbrev pub headChecks : List ℕ → ℕ → ℕ → List Check
 headChecks s w p = startChecks s ++ fieldChecks (headIn s) w p
 
--- the walk over all sections after section 0
-abbrev pub wayIn : List ℕ → Way
-wayIn s = let h = headIn s in walkOf s (h .width) (h .levels) (h .samples) headSize
+-- the walk over all sections after section 0, which says h
+abbrev pub wayIn : List ℕ → Head → Way
+wayIn s h = walkOf s (h .width) (h .levels) (h .samples) (h .body)
 
 -- "a cut in section 1 is 10; later it ends the file there, and the broken section is ignored. Then 12", for a file of b bytes
 abbrev pub wayChecks : Way → ℕ → List Check
@@ -65,7 +73,7 @@ wayChecks (Wrong j found) b = (true, BadCount j found) ∷ []
 
 -- section 0 and the walk: what is checked of the file alone, without areas
 abbrev pub fileChecks : List ℕ → ℕ → ℕ → List Check
-fileChecks s w p = headChecks s w p ++ wayChecks (wayIn s) (length s)
+fileChecks s w p = headChecks s w p ++ wayChecks (wayIn s (headIn s)) (length s)
 
 -- how many detail sections are whole, of l levels
 abbrev pub wholeDetails : Way → ℕ → ℕ
@@ -75,7 +83,7 @@ wholeDetails (Wrong j found) l = 0
 
 -- the level that is given back, and how many samples it has
 abbrev pub levelIn : List ℕ → ℕ
-levelIn s = let h = headIn s in h .levels - wholeDetails (wayIn s) (h .levels)
+levelIn s = let h = headIn s in h .levels - wholeDetails (wayIn s h) (h .levels)
 
 abbrev pub countIn : List ℕ → ℕ
 countIn s = places (levelIn s) (headIn s .samples)
@@ -86,7 +94,7 @@ sayFile s w p = firstOf (fileChecks s w p) (Done (levelIn s) (countIn s))
 
 -- the samples of that level
 unfoldable pub samplesIn : List ℕ → List ℕ
-samplesIn s = let h = headIn s in restoredOf (filterOf (h .width)) s (wholeDetails (wayIn s) (h .levels)) (countIn s) headSize
+samplesIn s = let h = headIn s in restoredAt (h .width) s (wholeDetails (wayIn s h) (h .levels)) (countIn s) (h .body)
 
 -- the lent areas are whole samples; a width asked that is none has no sample size
 abbrev pub areaChecks : ℕ → ℕ → ℕ → ℕ → List Check
@@ -94,11 +102,11 @@ areaChecks w o u v = cond (isWidth w) (ragged w o ∷ ragged w u ∷ ragged w v 
 
 -- "then 7 for output and both work areas (need for each: the count of samples given back)"
 abbrev pub roomsFor : ℕ → ℕ → ℕ → ℕ → ℕ → List Check
-roomsFor w c o u v = tight (o / w) c ∷ tight (u / w) c ∷ tight (v / w) c ∷ []
+roomsFor w c o u v = tight (o / w) c ∷ twoAreas (u / w) (v / w) c
 
 -- the areas, the file, and the room for what it gives back
 unfoldable pub sayOpen : List ℕ → ℕ → ℕ → ℕ → ℕ → ℕ → Refusal
-sayOpen s w p o u v = firstOf (areaChecks w o u v ++ (headChecks s w p ++ (wayChecks (wayIn s) (length s) ++ roomsFor w (countIn s) o u v))) (Done (levelIn s) (countIn s))
+sayOpen s w p o u v = firstOf (areaChecks w o u v ++ (fileChecks s w p ++ roomsFor w (countIn s) o u v)) (Done (levelIn s) (countIn s))
 
 -- the answer r, and the output and the work areas that opening leaves: "output past the count is unchanged"
 abbrev pub Open : List ℕ → ℕ → ℕ → List ℕ → List ℕ → List ℕ → Answer → List ℕ → List ℕ → List ℕ → Type 0
@@ -113,9 +121,13 @@ ownPoint s = cond (ltb (length s) headSize) 0 (headIn s .point)
 
 -- ---- one section
 
--- the walk through section j, which is one of j - 1 levels of as many samples as level L + 1 - j has approximations
-abbrev pub wayTo : List ℕ → ℕ → Way
-wayTo s j = let h = headIn s in walkOf s (h .width) (j - 1) (places (h .levels + 1 - j) (h .samples)) headSize
+-- how many samples the sections up to section j restore: as many as level L + 1 - j has approximations
+abbrev pub samplesTo : Head → ℕ → ℕ
+samplesTo h j = places (h .levels + 1 - j) (h .samples)
+
+-- the walk through section j, which is one of j - 1 levels of those samples
+abbrev pub wayTo : List ℕ → Head → ℕ → Way
+wayTo s h j = walkOf s (h .width) (j - 1) (samplesTo h j) (h .body)
 
 -- "a cut at or before it is 10"
 abbrev pub sectionChecks : Way → ℕ → List Check
@@ -128,25 +140,26 @@ abbrev pub numberChecks : ℕ → ℕ → List Check
 numberChecks j l = (eqb j 0, NoSuchPlace j (l + 1)) ∷ (ltb (l + 1) j, NoSuchPlace j (l + 1)) ∷ []
 
 -- how many bytes section j has after its count, and where they start
-abbrev pub lengthOf : List ℕ → ℕ → ℕ
-lengthOf s j = let h = headIn s in h .width * lastCount (j - 1) (places (h .levels + 1 - j) (h .samples))
+abbrev pub lengthOf : Head → ℕ → ℕ
+lengthOf h j = h .width * lastCount (j - 1) (samplesTo h j)
 
 abbrev pub endBy : Way → ℕ
 endBy (Went p) = p
 endBy (Short j) = 0
 endBy (Wrong j found) = 0
 
-abbrev pub startOf : List ℕ → ℕ → ℕ
-startOf s j = endBy (wayTo s j) - lengthOf s j
+abbrev pub startOf : List ℕ → Head → ℕ → ℕ
+startOf s h j = endBy (wayTo s h j) - lengthOf h j
 
 unfoldable pub saySection : List ℕ → ℕ → ℕ → ℕ → Refusal
 saySection s w p j =
-    firstOf (headChecks s w p ++ (numberChecks j (headIn s .levels) ++ sectionChecks (wayTo s j) (length s))) (Done (startOf s j) (lengthOf s j))
+    let h = headIn s in
+    firstOf (headChecks s w p ++ (numberChecks j (h .levels) ++ sectionChecks (wayTo s h j) (length s))) (Done (startOf s h j) (lengthOf h j))
 
 -- what the call hands back; "when refused, .. an empty stretch"
 unfoldable pub sectionIn : List ℕ → ℕ → ℕ → ℕ → List ℕ
-sectionIn s w p j = cond (done (saySection s w p j)) (take (lengthOf s j) (drop (startOf s j) s)) []
+sectionIn s w p j = cond (done (saySection s w p j)) (take (lengthOf (headIn s) j) (drop (startOf s (headIn s) j) s)) []
 
 -- "that stretch of the caller's file itself, never a copy": the block and the offset where it lies are those of the file's own bytes, startOf on. An empty one lies at the file's start
 unfoldable pub sectionAt : RefT (List ℕ) → ℕ → ℕ → ℕ → ℕ × ℕ
-sectionAt s w p j = (s .ptr .0, s .ptr .1 + cond (done (saySection (s .now) w p j)) (startOf (s .now) j) 0)
+sectionAt s w p j = (s .ptr .0, s .ptr .1 + cond (done (saySection (s .now) w p j)) (startOf (s .now) (headIn (s .now)) j) 0)

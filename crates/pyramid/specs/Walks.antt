@@ -6,8 +6,7 @@ use lib.Dec.{ltb, eqb}
 use lib.ListN.{length, take, drop}
 use Rattle.samples.specs.Le.{leAt}
 use Rattle.sizes.specs.Bands.{ups, downs}
-use Rattle.dwt.specs.declared.filter.Filter.{Filter}
-use Rattle.dwt.specs.Filters.{widthOf, backOf}
+use Rattle.cdf53i.specs.Bands.{back}
 use Rattle.pyramid.specs.declared.walk.Way.{Way}
 use Rattle.pyramid.specs.declared.walk.Way.the-variants.{Went, Short, Wrong}
 use Rattle.pyramid.specs.Files.{bodySize}
@@ -39,7 +38,7 @@ lastCount l n = cond (eqb l 0) n (downs n)
 abbrev pub bytesAt : ℕ → List ℕ → ℕ → ℕ → List ℕ
 bytesAt k s c p = take (k * c) (drop (p + 4) s)
 
--- the n samples that l levels of sections from p on restore
-unfoldable pub restoredOf : Filter → List ℕ → ℕ → ℕ → ℕ → List ℕ
-restoredOf f s zero n p = bytesAt (widthOf f) s n p
-restoredOf f s (suc l) n p = backOf f (restoredOf f s l (ups n) p) (bytesAt (widthOf f) s (downs n) (p + bodySize (widthOf f) l (ups n)))
+-- the n samples of k bytes that l levels of sections from p on restore
+unfoldable pub restoredAt : ℕ → List ℕ → ℕ → ℕ → ℕ → List ℕ
+restoredAt k s zero n p = bytesAt k s n p
+restoredAt k s (suc l) n p = back k (restoredAt k s l (ups n) p) (bytesAt k s (downs n) (p + bodySize k l (ups n)))

@@ -11,11 +11,11 @@ use Rattle.sizes.specs.Levels.{levelsOf}
 use Rattle.dwt.specs.declared.filter.Filter.{Filter}
 use Rattle.dwt.specs.Filters.{widthOf}
 use Rattle.dwt.specs.Calls.{levelsChecks}
-use Rattle.pyramid.specs.Files.{fileSize, fileOf}
+use Rattle.pyramid.specs.Files.{headSize, fileSize, fileOf}
 
 -- by samples: n of the signal, u and v of the work areas; b bytes of the file area
 abbrev pub writeChecks : Filter → ℕ → ℕ → ℕ → ℕ → ℕ → List Check
-writeChecks f l n b u v = levelsChecks f l n ++ (tight b (fileSize (widthOf f) (levelsOf l) n) ∷ twoAreas u v n)
+writeChecks f l n b u v = levelsChecks f l n ++ (tight b (fileSize headSize (widthOf f) (levelsOf l) n) ∷ twoAreas u v n)
 
 -- by byte lengths: the file area may have any
 unfoldable pub sayWrite : Filter → ℕ → ℕ → ℕ → ℕ → ℕ → Refusal
@@ -24,4 +24,4 @@ sayWrite f l x b u v = firstOf (ragged (widthOf f) x ∷ ragged (widthOf f) u �
 -- the answer r, and the file area b′ and the work areas that writing the samples x for point p leaves
 abbrev pub Write : Filter → ℕ → ℕ → List ℕ → List ℕ → List ℕ → List ℕ → Answer → List ℕ → List ℕ → List ℕ → Type 0
 Write f l p x b u v =
-    Call (sayWrite f l (length x) (length b) (length u) (length v)) (length x) (fileOf f (levelsOf l) p x ++ drop (fileSize (widthOf f) (levelsOf l) (length x / widthOf f)) b) b u v
+    Call (sayWrite f l (length x) (length b) (length u) (length v)) (length x) (fileOf f (levelsOf l) p x ++ drop (fileSize headSize (widthOf f) (levelsOf l) (length x / widthOf f)) b) b u v

@@ -1,4 +1,5 @@
 // The pyramid file: writing, opening, and looking a section up. Document 01, "The pyramid file".
+pub mod head;
 pub mod open;
 pub mod restore;
 pub mod section;

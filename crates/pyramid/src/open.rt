@@ -1,12 +1,15 @@
 // Opening a file: the checks in document 01's order, then the levels that a cut left.
 ghost use mathlib.Core.Path.{_≡_};
-ghost use Prim.Native.Nat.{_≤_, _<_};
+ghost use Prim.Native.Nat.{_<_};
 ghost use lib.ListN.{length};
 ghost use Rattle.answers.specs.Checks.{firstOf};
 ghost use Rattle.samples.specs.Integers.{isWidth};
-ghost use Rattle.pyramid.specs.Files.{headSize};
-ghost use Rattle.pyramid.specs.Opens.{filterOf, headIn, startChecks, fieldChecks, headChecks, wayIn, wayChecks, wholeDetails, sayFile, areaChecks, roomsFor, sayOpen, Open, ownWidth, ownPoint};
+ghost use Rattle.pyramid.specs.Opens.{filterOf, Read, startChecks, fieldChecks, headChecks, wayIn, wayChecks, wholeDetails, sayFile, areaChecks, roomsFor, sayOpen, Open, ownWidth, ownPoint};
 use crate::MOST_BYTES;
+use crate::head::HEAD_COUNT;
+use crate::head::HEAD_SIZE;
+use crate::head::Head;
+use crate::head::head_in;
 use crate::restore::restore;
 use crate::walk::Way;
 use crate::walk::walk;
@@ -19,61 +22,27 @@ use samples::le::read_u32;
 use sizes::MOST_SAMPLES;
 use sizes::Wavelet;
 use sizes::checks::check_whole;
+use sizes::checks::two_areas;
 use sizes::depth;
 use sizes::places_of;
-
-fn wide(b: u8) -> usize
-    ensures { λ r. ⌜ (r ≡ b) × (r < 256) ⌝ }
-{
-    b as usize
-}
-
-// What section 0 says.
-pub fn width_in(s: &[u8]) -> usize
-    requires { ⌜ headSize ≤ length (now s) ⌝ }
-    ensures { λ r. ⌜ (r ≡ headIn (now (s .entry)) .width) × (r < 256) ⌝ }
-{
-    wide(s[4])
-}
-
-pub fn levels_in(s: &[u8]) -> usize
-    requires { ⌜ headSize ≤ length (now s) ⌝ }
-    ensures { λ r. ⌜ (r ≡ headIn (now (s .entry)) .levels) × (r < 256) ⌝ }
-{
-    wide(s[5])
-}
-
-pub fn samples_in(s: &[u8]) -> usize
-    requires { ⌜ headSize ≤ length (now s) ⌝ }
-    ensures { λ r. ⌜ (r ≡ headIn (now (s .entry)) .samples) × (r < 4294967296) ⌝ }
-{
-    read_u32(s, 6) as usize
-}
-
-pub fn point_in(s: &[u8]) -> usize
-    requires { ⌜ headSize ≤ length (now s) ⌝ }
-    ensures { λ r. ⌜ r ≡ headIn (now (s .entry)) .point ⌝ }
-{
-    read_u32(s, 10) as usize
-}
 
 // A file's own width and point: 1 and 0 where it has no section 0.
 pub fn own_width(s: &[u8]) -> usize
     ensures { λ r. ⌜ r ≡ ownWidth (now (s .entry)) ⌝ }
 {
-    if s.len() < 14 {
+    if s.len() < HEAD_SIZE {
         return 1;
     }
-    width_in(s)
+    head_in(s).width
 }
 
 pub fn own_point(s: &[u8]) -> usize
     ensures { λ r. ⌜ r ≡ ownPoint (now (s .entry)) ⌝ }
 {
-    if s.len() < 14 {
+    if s.len() < HEAD_SIZE {
         return 0;
     }
-    point_in(s)
+    head_in(s).point
 }
 
 // Whether a sample can have so many bytes.
@@ -109,40 +78,40 @@ fn check_start(s: &[u8]) -> Refusal
     if MOST_BYTES < s.len() {
         return Refusal::TooLong;
     }
-    if s.len() < 14 {
+    if s.len() < HEAD_SIZE {
         return Refusal::CutShort(s.len());
     }
     let count = read_u32(s, 0) as usize;
-    if count != 10 {
+    if count != HEAD_COUNT {
         return Refusal::BadCount(0, count);
     }
     Refusal::Done(0, 0)
 }
 
 // What section 0 says against what is asked: the width, the samples and levels, the point.
-fn check_fields(k: usize, l: usize, n: usize, q: usize, w: usize, p: usize) -> Refusal
-    ensures { λ r. ⌜ r ≡ firstOf (fieldChecks (record { width = k; levels = l; samples = n; point = q }) w p) (Refusal.Done 0 0) ⌝ }
+fn check_fields(h: Head, w: usize, p: usize) -> Refusal
+    ensures { λ r. ⌜ r ≡ firstOf (fieldChecks h w p) (Refusal.Done 0 0) ⌝ }
 {
-    if k != w {
-        return Refusal::OtherWidth(k, w);
+    if h.width != w {
+        return Refusal::OtherWidth(h.width, w);
     }
     if !is_width(w) {
-        return Refusal::OtherWidth(k, w);
+        return Refusal::OtherWidth(h.width, w);
     }
-    if n < 3 {
-        return Refusal::MinFilterSize(n, 3);
+    if h.samples < 3 {
+        return Refusal::MinFilterSize(h.samples, 3);
     }
-    if MOST_SAMPLES < n {
+    if MOST_SAMPLES < h.samples {
         return Refusal::TooLong;
     }
-    if l == 0 {
+    if h.levels == 0 {
         return Refusal::BufferWasTooSmallForLevel;
     }
-    if depth(Wavelet::Cdf53, n) < l {
+    if depth(Wavelet::Cdf53, h.samples) < h.levels {
         return Refusal::BufferWasTooSmallForLevel;
     }
-    if q != p {
-        return Refusal::OtherPoint(q, p);
+    if h.point != p {
+        return Refusal::OtherPoint(h.point, p);
     }
     Refusal::Done(0, 0)
 }
@@ -155,15 +124,15 @@ pub fn check_head(s: &[u8], w: usize, p: usize) -> Refusal
     if !is_done(start) {
         return start;
     }
-    check_fields(width_in(s), levels_in(s), samples_in(s), point_in(s), w, p)
+    check_fields(head_in(s), w, p)
 }
 
-// The walk over all sections after section 0.
-fn way_in(s: &[u8]) -> Way
-    requires { ⌜ headSize ≤ length (now s) ⌝ }
-    ensures { λ r. ⌜ r ≡ wayIn (now (s .entry)) ⌝ }
+// The walk over all sections after section 0, which says h.
+fn way_in(s: &[u8], h: Head) -> Way
+    requires { ⌜ Read (length (now s)) h ⌝ }
+    ensures { λ r. ⌜ r ≡ wayIn (now (s .entry)) h ⌝ }
 {
-    walk(s, width_in(s), levels_in(s), samples_in(s), 14)
+    walk(s, h.width, h.levels, h.samples, h.body)
 }
 
 // A wrong count, a cut in section 1, or bytes after the last section, of a file of b bytes.
@@ -213,21 +182,15 @@ fn check_areas(w: usize, o: usize, u: usize, v: usize) -> Refusal
     Refusal::Done(0, 0)
 }
 
-// Room for count samples in the output and in both work areas; level and count where there is.
-fn check_rooms(w: usize, level: usize, count: usize, o: usize, u: usize, v: usize) -> Refusal
+// Room for count samples in the output and in both work areas.
+fn check_rooms(w: usize, count: usize, o: usize, u: usize, v: usize) -> Refusal
     requires { ⌜ 0 < w ⌝ }
-    ensures { λ r. ⌜ r ≡ firstOf (roomsFor w count o u v) (Refusal.Done level count) ⌝ }
+    ensures { λ r. ⌜ r ≡ firstOf (roomsFor w count o u v) (Refusal.Done 0 0) ⌝ }
 {
     if o / w < count {
         return Refusal::NoRoom(o / w, count);
     }
-    if u / w < count {
-        return Refusal::NoRoom(u / w, count);
-    }
-    if v / w < count {
-        return Refusal::NoRoom(v / w, count);
-    }
-    Refusal::Done(level, count)
+    two_areas(u / w, v / w, count)
 }
 
 // What is said of the file alone: level and count, or a refusal.
@@ -238,14 +201,14 @@ pub fn check_file(s: &[u8], w: usize, p: usize) -> Refusal
     if !is_done(head) {
         return head;
     }
-    let way = way_in(s);
+    let h = head_in(s);
+    let way = way_in(s, h);
     let cut = check_way(way, s.len());
     if !is_done(cut) {
         return cut;
     }
-    let l = levels_in(s);
-    let level = l - whole_details(way, l);
-    Refusal::Done(level, places_of(level, samples_in(s)))
+    let level = h.levels - whole_details(way, h.levels);
+    Refusal::Done(level, places_of(level, h.samples))
 }
 
 // What opening says.
@@ -260,8 +223,12 @@ fn check_open(s: &[u8], w: usize, p: usize, o: usize, u: usize, v: usize) -> Ref
     if !is_done(file) {
         return file;
     }
-    let a = numbers(file);
-    check_rooms(w, a.first as usize, a.second as usize, o, u, v)
+    let count = numbers(file).second as usize;
+    let rooms = check_rooms(w, count, o, u, v);
+    if !is_done(rooms) {
+        return rooms;
+    }
+    file
 }
 
 // The samples of the finest level that the file lets see, to the front of the output.
@@ -271,8 +238,9 @@ pub fn open(s: &[u8], w: usize, p: usize, out: &mut [u8], one: &mut [u8], two: &
     let said = check_open(s, w, p, out.len(), one.len(), two.len());
     let r = numbers(said);
     if is_done(said) {
-        let m = levels_in(s) - r.first as usize;
-        restore(filter_of(w), s, m, r.second as usize, 14, out, one);
+        let h = head_in(s);
+        let m = h.levels - r.first as usize;
+        restore(filter_of(w), s, m, r.second as usize, h.body, out, one);
     }
     r
 }

@@ -4,10 +4,10 @@ ghost use mathlib.Core.Path.{_≡_};
 ghost use Prim.Native.Nat.{_+_, _*_, _≤_};
 ghost use lib.ListN.{length, take, drop};
 ghost use Rattle.sizes.specs.Bands.{mostSamples, ups, downs, smallestOf};
-ghost use Rattle.dwt.specs.Filters.{widthOf, waveletOf, backOf};
+ghost use Rattle.dwt.specs.Filters.{Integers, widthOf, waveletOf, backOf};
 ghost use Rattle.dwt.specs.Calls.{Room};
 ghost use Rattle.pyramid.specs.Files.{bodySize};
-ghost use Rattle.pyramid.specs.Walks.{bytesAt, restoredOf};
+ghost use Rattle.pyramid.specs.Walks.{bytesAt, restoredAt};
 use dwt::back;
 use dwt::filter::Filter;
 use dwt::filter::bytes_of;
@@ -52,11 +52,12 @@ pub fn restore(
     to: &mut [u8],
     other: &mut [u8],
 )
+    requires { ⌜ Integers f ⌝ }
     requires { ⌜ Room f levels n (length (now to)) (length (now other)) ⌝ }
     requires { ⌜ at + bodySize (widthOf f) levels n ≤ length (now s) ⌝ }
-    ensures { λ _. ⌜ now (to .exit) ≡ restoredOf f (now (s .entry)) levels n at ++ drop (widthOf f * n) (now (to .entry)) ⌝ }
+    ensures { λ _. ⌜ now (to .exit) ≡ restoredAt (widthOf f) (now (s .entry)) levels n at ++ drop (widthOf f * n) (now (to .entry)) ⌝ }
     ensures { λ _. ⌜ drop (widthOf f * n) (now (other .exit)) ≡ drop (widthOf f * n) (now (other .entry)) ⌝ }
-    ensures { λ _. ⌜ length (restoredOf f (now (s .entry)) levels n at) ≡ widthOf f * n ⌝ }
+    ensures { λ _. ⌜ length (restoredAt (widthOf f) (now (s .entry)) levels n at) ≡ widthOf f * n ⌝ }
 {
     if levels == 0 {
         fetch(f, n, s, at, to);

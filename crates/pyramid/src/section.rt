@@ -4,14 +4,11 @@ ghost use Prim.Native.Nat.{_+_, _-_, _≤_, _<_};
 ghost use lib.ListN.{length};
 ghost use Rattle.answers.specs.Answers.{answerOf};
 ghost use Rattle.answers.specs.Checks.{firstOf};
-ghost use Rattle.pyramid.specs.Files.{headSize};
-ghost use Rattle.sizes.specs.Levels.{places};
 ghost use Rattle.pyramid.specs.Walks.{lastCount};
-ghost use Rattle.pyramid.specs.Opens.{headIn, wayTo, sectionChecks, numberChecks, lengthOf, startOf, saySection, sectionIn, sectionAt};
+ghost use Rattle.pyramid.specs.Opens.{Read, samplesTo, wayTo, sectionChecks, numberChecks, lengthOf, startOf, saySection, sectionIn, sectionAt};
+use crate::head::Head;
+use crate::head::head_in;
 use crate::open::check_head;
-use crate::open::levels_in;
-use crate::open::samples_in;
-use crate::open::width_in;
 use crate::walk::Way;
 use crate::walk::walk;
 use answers::err::Answer;
@@ -34,22 +31,21 @@ fn check_number(j: usize, l: usize) -> Refusal
     Refusal::Done(0, 0)
 }
 
-// How many samples the level has whose sections end with section j.
-fn place_of(s: &[u8], j: usize) -> usize
-    requires { ⌜ headSize ≤ length (now s) ⌝ }
-    requires { ⌜ j ≤ headIn (now s) .levels + 1 ⌝ }
-    ensures { λ r. ⌜ (r ≡ places (headIn (now (s .entry)) .levels + 1 - j) (headIn (now (s .entry)) .samples)) × (r < 4294967296) ⌝ }
+// How many samples the sections up to section j restore.
+fn samples_to(h: Head, j: usize) -> usize
+    requires { ⌜ (j ≤ h .levels + 1) × (h .levels < 256) ⌝ }
+    ensures { λ r. ⌜ (r ≡ samplesTo h j) × (r ≤ h .samples) ⌝ }
 {
-    places_of(levels_in(s) + 1 - j, samples_in(s))
+    places_of(h.levels + 1 - j, h.samples)
 }
 
 // The walk through section j.
-fn way_to(s: &[u8], j: usize) -> Way
-    requires { ⌜ headSize ≤ length (now s) ⌝ }
-    requires { ⌜ (1 ≤ j) × (j ≤ headIn (now s) .levels + 1) × (headIn (now s) .levels < 256) ⌝ }
-    ensures { λ r. ⌜ r ≡ wayTo (now (s .entry)) j ⌝ }
+fn way_to(s: &[u8], h: Head, j: usize) -> Way
+    requires { ⌜ Read (length (now s)) h ⌝ }
+    requires { ⌜ (1 ≤ j) × (j ≤ h .levels + 1) ⌝ }
+    ensures { λ r. ⌜ r ≡ wayTo (now (s .entry)) h j ⌝ }
 {
-    walk(s, width_in(s), j - 1, place_of(s, j), 14)
+    walk(s, h.width, j - 1, samples_to(h, j), h.body)
 }
 
 // How many samples the last section of so many levels has.
@@ -60,22 +56,22 @@ fn last_count(levels: usize, n: usize) -> usize
 }
 
 // How many bytes section j has after its count.
-fn length_of(s: &[u8], j: usize) -> usize
-    requires { ⌜ headSize ≤ length (now s) ⌝ }
-    requires { ⌜ (1 ≤ j) × (j ≤ headIn (now s) .levels + 1) ⌝ }
-    ensures { λ r. ⌜ r ≡ lengthOf (now (s .entry)) j ⌝ }
+fn length_of(h: Head, j: usize) -> usize
+    requires { ⌜ (h .width < 256) × (h .levels < 256) × (h .samples < 4294967296) ⌝ }
+    requires { ⌜ (1 ≤ j) × (j ≤ h .levels + 1) ⌝ }
+    ensures { λ r. ⌜ r ≡ lengthOf h j ⌝ }
 {
-    width_in(s) * last_count(j - 1, place_of(s, j))
+    h.width * last_count(j - 1, samples_to(h, j))
 }
 
 // The way through section j, which ends at a place, is cut, or met a wrong count.
-fn found(s: &[u8], j: usize) -> Refusal
-    requires { ⌜ headSize ≤ length (now s) ⌝ }
-    requires { ⌜ (1 ≤ j) × (j ≤ headIn (now s) .levels + 1) × (headIn (now s) .levels < 256) ⌝ }
-    ensures { λ r. ⌜ r ≡ firstOf (sectionChecks (wayTo (now (s .entry)) j) (length (now (s .entry)))) (Refusal.Done (startOf (now (s .entry)) j) (lengthOf (now (s .entry)) j)) ⌝ }
+fn found(s: &[u8], h: Head, j: usize) -> Refusal
+    requires { ⌜ Read (length (now s)) h ⌝ }
+    requires { ⌜ (1 ≤ j) × (j ≤ h .levels + 1) ⌝ }
+    ensures { λ r. ⌜ r ≡ firstOf (sectionChecks (wayTo (now (s .entry)) h j) (length (now (s .entry)))) (Refusal.Done (startOf (now (s .entry)) h j) (lengthOf h j)) ⌝ }
 {
-    let size = length_of(s, j);
-    let way = way_to(s, j);
+    let size = length_of(h, j);
+    let way = way_to(s, h, j);
     match way {
         Way::Went(end) => Refusal::Done(end - size, size),
         Way::Short(_) => Refusal::CutShort(s.len()),
@@ -87,15 +83,16 @@ fn found(s: &[u8], j: usize) -> Refusal
 fn check_section(s: &[u8], w: usize, p: usize, j: usize) -> Refusal
     ensures { λ r. ⌜ r ≡ saySection (now (s .entry)) w p j ⌝ }
 {
-    let head = check_head(s, w, p);
-    if !is_done(head) {
-        return head;
+    let start = check_head(s, w, p);
+    if !is_done(start) {
+        return start;
     }
-    let number = check_number(j, levels_in(s));
+    let h = head_in(s);
+    let number = check_number(j, h.levels);
     if !is_done(number) {
         return number;
     }
-    found(s, j)
+    found(s, h, j)
 }
 
 // Where section j starts after its count, and how long it is.

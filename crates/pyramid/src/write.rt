@@ -4,12 +4,13 @@ ghost use mathlib.Core.Path.{_≡_};
 ghost use Prim.Native.Nat.{_+_, _*_, _<_, _≤_};
 ghost use lib.ListN.{length, take, drop};
 ghost use Rattle.answers.specs.Checks.{firstOf};
-ghost use Rattle.samples.specs.Le.{leBytes};
 ghost use Rattle.sizes.specs.Bands.{mostSamples, ups, downs, smallestOf};
 ghost use Rattle.dwt.specs.Filters.{Integers, widthOf, waveletOf, lowOf, highOf};
 ghost use Rattle.dwt.specs.Calls.{Room, Ready};
-ghost use Rattle.pyramid.specs.Files.{sectionOf, headCount, headSize, bodyOf, bodySize, fileSize, fileOf};
+ghost use Rattle.pyramid.specs.Files.{sectionOf, headSize, bodyOf, bodySize, fileSize, fileOf};
 ghost use Rattle.pyramid.specs.Writes.{writeChecks, sayWrite, Write};
+use crate::head::HEAD_SIZE;
+use crate::head::lay_head;
 use answers::err::Answer;
 use answers::err::Refusal;
 use answers::err::is_done;
@@ -31,18 +32,6 @@ fn body_size(f: Filter, levels: usize, n: usize) -> usize
     ensures { λ r. ⌜ r ≡ bodySize (widthOf f) levels n ⌝ }
 {
     4 * (levels + 1) + bytes_of(f, n)
-}
-
-// Section 0, at the front of the file.
-fn lay_head(f: Filter, levels: usize, n: usize, point: u32, file: &mut [u8])
-    requires { ⌜ (levels < 256) × (n ≤ mostSamples) × (headSize ≤ length (now file)) ⌝ }
-    ensures { λ _. ⌜ now (file .exit) ≡ sectionOf headCount (leBytes 1 (widthOf f) ++ (leBytes 1 levels ++ (leBytes 4 n ++ leBytes 4 point))) ++ drop headSize (now (file .entry)) ⌝ }
-{
-    write_u32(file, 0, 10);
-    file[4] = width(f) as u8;
-    file[5] = levels as u8;
-    write_u32(file, 6, n as u32);
-    write_u32(file, 10, point);
 }
 
 // Section 1: the deepest approximations after their count.
@@ -103,14 +92,14 @@ fn lay_file(
     two: &mut [u8],
 )
     requires { ⌜ Ready f levels n (length (now signal)) (length (now one)) (length (now two)) ⌝ }
-    requires { ⌜ fileSize (widthOf f) levels n ≤ length (now file) ⌝ }
-    ensures { λ _. ⌜ now (file .exit) ≡ fileOf f levels point (now (signal .entry)) ++ drop (fileSize (widthOf f) levels n) (now (file .entry)) ⌝ }
+    requires { ⌜ fileSize headSize (widthOf f) levels n ≤ length (now file) ⌝ }
+    ensures { λ _. ⌜ now (file .exit) ≡ fileOf f levels point (now (signal .entry)) ++ drop (fileSize headSize (widthOf f) levels n) (now (file .entry)) ⌝ }
     ensures { λ _. ⌜ drop (widthOf f * n) (now (one .exit)) ≡ drop (widthOf f * n) (now (one .entry)) ⌝ }
     ensures { λ _. ⌜ drop (widthOf f * n) (now (two .exit)) ≡ drop (widthOf f * n) (now (two .entry)) ⌝ }
 {
-    lay_head(f, levels, n, point, file);
+    lay_head(width(f), levels, n, point, file);
     bytes::copy(signal, one);
-    let start = 14;
+    let start = HEAD_SIZE;
     let end = start + body_size(f, levels, n);
     lay(f, levels, n, one, two, &mut file[start..end]);
 }
@@ -123,7 +112,7 @@ fn write_lengths(f: Filter, levels: usize, n: usize, b: usize, u: usize, v: usiz
     if !is_done(said) {
         return said;
     }
-    let need = 14 + body_size(f, at_least_one(levels), n);
+    let need = HEAD_SIZE + body_size(f, at_least_one(levels), n);
     if b < need {
         return Refusal::NoRoom(b, need);
     }

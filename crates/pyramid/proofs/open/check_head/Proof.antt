@@ -5,6 +5,7 @@ use Prim.Native.Nat.{_≤_}
 use lib.ListN.{length}
 use Rattle.answers.specs.declared.err.Refusal.the-variants.{Done}
 use Rattle.answers.specs.Answers.{done}
+use Rattle.answers.specs.Checks.{firstOf}
 use Rattle.answers.proofs.Passed.{passing, roomy, say-rest, say-stop}
 use Rattle.pyramid.specs.Files.{headSize}
 use Rattle.pyramid.specs.Opens.{headIn, startChecks, fieldChecks}
@@ -13,7 +14,7 @@ use Rattle.pyramid.proofs.open.check_head.Statement.{statement}
 use Rattle.pyramid.proofs.open.check_head.Tie as tie
 
 -- section 0 is there
-there : (c : tie.Else1) → headSize ≤ length (c .before .before .before .before .args .s .now)
+there : (c : tie.Else1) → headIn (c .before .before .before .before .args .s .now) .body ≤ length (c .before .before .before .before .args .s .now)
 there c =
     let s = c .before .before .before .before .args .s .now in
     let p = passing (startChecks s) (Done 0 0) (refl, (refl, (refl, tt))) (sym (ap done (c .before .before .check-start .ensures)) ∙ sym (c .before .is-done .ensures) ∙ not-false _ (c .if1 .left)) in
@@ -26,14 +27,12 @@ returns c =
 
 returns-2 : tie.Need-returns-2
 returns-2 c =
-    let a = c .before .before .before .before .before .before .before .before .before .args in
-    say-rest (startChecks (a .s .now)) (fieldChecks (headIn (a .s .now)) (a .w) (a .p)) (Done 0 0) (refl, (refl, (refl, tt))) (c .before .before .before .before .before .before .before .check-start .ensures) (sym (c .before .before .before .before .before .before .is-done .ensures) ∙ not-false _ (c .before .before .before .before .before .if1 .left))
-    (rw (sym (c .before .before .before .before .width-in .ensures .0), sym (c .before .before .before .levels-in .ensures .0), sym (c .before .before .samples-in .ensures .0), sym (c .before .point-in .ensures)) (c .check-fields .ensures))
+    let a = c .before .before .before .before .before .before .args in
+    say-rest (startChecks (a .s .now)) (fieldChecks (headIn (a .s .now)) (a .w) (a .p)) (Done 0 0) (refl, (refl, (refl, tt))) (c .before .before .before .before .check-start .ensures) (sym (c .before .before .before .is-done .ensures) ∙ not-false _ (c .before .before .if1 .left))
+    (c .check-fields .ensures ∙ ap (λ h. firstOf (fieldChecks h (a .w) (a .p)) (Done 0 0)) (c .before .head-in .ensures .0))
 
 pub check-head-spec : {M : Type 1} → statement M
 check-head-spec =
     tie.close
     (tie.spec
-    (λ c κs. search needs) (λ c κs. search needs) returns (λ c κs. there c)
-    (λ c κs. there (c .before)) (λ c κs. there (c .before .before))
-    (λ c κs. there (c .before .before .before)) (λ c κs. search needs) returns-2)
+    (λ c κs. search needs) (λ c κs. search needs) returns (λ c κs. there c) (λ c κs. search needs) returns-2)

@@ -3,24 +3,23 @@ use borrow.Author.Needs.{needs}
 use borrow.Author.Tests.{not-true, not-false}
 use mathlib.Core.Bool.{true}
 use mathlib.Core.List.{List, _++_}
-use mathlib.Core.Path.{_≡_, sym, ap, _∙_}
+use mathlib.Core.Path.{_≡_, refl, sym, ap, _∙_}
 use Prim.Native.Nat.{ℕ}
-use lib.ListN.{length}
 use Rattle.answers.specs.declared.err.Answer.{Answer}
 use Rattle.answers.specs.declared.err.Refusal.{Refusal}
 use Rattle.answers.specs.declared.err.Refusal.the-variants.{Done}
 use Rattle.answers.specs.Answers.{answerOf, done}
 use Rattle.answers.specs.Checks.{Check, firstOf}
-use Rattle.answers.proofs.Passed.{say-rest, say-stop}
+use Rattle.answers.proofs.Passed.{passing, through, say-rest, say-stop}
 use Rattle.samples.proofs.IntegerLaws.{width-of}
-use Rattle.pyramid.specs.Opens.{headChecks, wayIn, wayChecks, levelIn, countIn, sayFile, areaChecks, roomsFor, sayOpen}
-use Rattle.pyramid.proofs.Opening.{area-refuses, file-says, file-headed, file-rest, file-stop}
+use Rattle.pyramid.specs.Opens.{fileChecks, levelIn, countIn, sayFile, areaChecks, roomsFor, sayOpen}
+use Rattle.pyramid.proofs.Opening.{other-end, area-refuses, file-says, file-headed, file-rest, file-stop}
 use Rattle.pyramid.proofs.open.check_open.Statement.{statement}
 use Rattle.pyramid.proofs.open.check_open.Tie as tie
 
 -- what is checked after the areas
 abbrev rest : List ℕ → ℕ → ℕ → ℕ → ℕ → ℕ → List Check
-rest s w p o u v = headChecks s w p ++ (wayChecks (wayIn s) (length s) ++ roomsFor w (countIn s) o u v)
+rest s w p o u v = fileChecks s w p ++ roomsFor w (countIn s) o u v
 
 -- past the areas: what is said of the rest is said of all
 past : (c : tie.Else1) {z : Refusal} → let a = c .before .before .before .before .args in let s = a .s .now in
@@ -49,19 +48,36 @@ returns-2 c =
 taken : (c : tie.Else2) → let a = c .before .before .before .before .before .before .before .args in done (sayFile (a .s .now) (a .w) (a .p)) ≡ true
 taken c = sym (ap done (c .before .before .check-file .ensures)) ∙ sym (c .before .is-done2 .ensures) ∙ not-false _ (c .if2 .left)
 
+-- the rooms, for the count that is said
+rooms : (c : tie.After-check-rooms) → let a = c .before .before .before .before .before .before .before .before .before .args in c .check-rooms .result ≡ firstOf (roomsFor (a .w) (countIn (a .s .now)) (a .o) (a .u) (a .v)) (Done 0 0)
+rooms c =
+    let a = c .before .before .before .before .before .before .before .before .before .args in
+    let count : c .before .numbers .result .second ≡ countIn (a .s .now) =
+    ap (λ (r : Answer). r .second) (c .before .numbers .ensures ∙ ap answerOf (c .before .before .before .before .check-file .ensures ∙ file-says (a .s .now) (a .w) (a .p) (taken (c .before .before)))) in
+    c .check-rooms .ensures ∙ ap (λ (n : ℕ). firstOf (roomsFor (a .w) n (a .o) (a .u) (a .v)) (Done 0 0)) count
+
 returns-3 : tie.Need-returns-3
 returns-3 c =
-    let a = c .before .before .before .before .before .before .before .before .before .args in
+    let a = c .before .before .before .before .before .before .before .before .before .before .before .args in
     let s = a .s .now in
-    let d = taken (c .before .before) in
-    let e : c .before .numbers .result ≡ answerOf (Done (levelIn s) (countIn s)) = c .before .numbers .ensures ∙ ap answerOf (c .before .before .before .before .check-file .ensures ∙ file-says s (a .w) (a .p) d) in
-    past (c .before .before .before .before .before)
-    (c .check-rooms .ensures ∙ ap (λ (r : Answer). firstOf (roomsFor (a .w) (r .second) (a .o) (a .u) (a .v)) (Done (r .first) (r .second))) e
-    ∙ sym (file-rest s (a .w) (a .p) (roomsFor (a .w) (countIn s) (a .o) (a .u) (a .v)) _ d))
+    let r = roomsFor (a .w) (countIn s) (a .o) (a .u) (a .v) in
+    let e = rooms (c .before .before) in
+    past (c .before .before .before .before .before .before .before)
+    (e ∙ sym (other-end r (Done 0 0) (Done (levelIn s) (countIn s)) refl (sym (ap done e) ∙ sym (c .before .is-done3 .ensures) ∙ not-true _ (c .if3 .taken))) ∙ sym (file-rest s (a .w) (a .p) r _ (taken (c .before .before .before .before))))
+
+returns-4 : tie.Need-returns-4
+returns-4 c =
+    let a = c .before .before .before .before .before .before .before .before .before .before .before .args in
+    let s = a .s .now in
+    let r = roomsFor (a .w) (countIn s) (a .o) (a .u) (a .v) in
+    let d = taken (c .before .before .before .before) in
+    let q = passing r (Done 0 0) (refl, (refl, (refl, tt))) (sym (ap done (rooms (c .before .before))) ∙ sym (c .before .is-done3 .ensures) ∙ not-false _ (c .if3 .left)) in
+    past (c .before .before .before .before .before .before .before) (c .before .before .before .before .before .before .check-file .ensures ∙ file-says s (a .w) (a .p) d ∙ sym (through r _ q) ∙ sym (file-rest s (a .w) (a .p) r _ d))
 
 pub check-open-spec : {M : Type 1} → statement M
 check-open-spec =
     tie.close
     (tie.spec
     (λ c κs. search needs) (λ c κs. search needs) returns (λ c κs. search needs) (λ c κs. search needs) returns-2
-    (λ c κs. search needs) (λ c κs. let a = c .before .before .before .before .before .before .before .before .args in width-of _ (file-headed (a .s .now) (a .w) (a .p) (taken (c .before)) .known) .some) returns-3)
+    (λ c κs. search needs) (λ c κs. let a = c .before .before .before .before .before .before .before .before .args in width-of _ (file-headed (a .s .now) (a .w) (a .p) (taken (c .before)) .known) .some)
+    (λ c κs. search needs) returns-3 returns-4)

@@ -1,4 +1,4 @@
--- `check_rooms` meets its contract: a link for each check.
+-- `check_rooms` meets its contract: the output, then the two areas.
 use borrow.Author.Tests.{lt-ltb, le-ltb}
 use mathlib.Core.Path.{refl}
 use Rattle.answers.proofs.Chain.{by, stop}
@@ -11,8 +11,5 @@ check-rooms-spec =
     tie.close
     (tie.spec
     (λ c. search needs) (λ c. search needs) (λ c. stop _ (lt-ltb _ _ (c .if1 .taken)) refl)
-    (λ c. search needs) (λ c. search needs)
-    (λ c. by _ (le-ltb _ _ (c .before .if1 .left)) (stop _ (lt-ltb _ _ (c .if2 .taken)) refl))
-    (λ c. search needs) (λ c. search needs)
-    (λ c. by _ (le-ltb _ _ (c .before .before .if1 .left)) (by _ (le-ltb _ _ (c .before .if2 .left)) (stop _ (lt-ltb _ _ (c .if3 .taken)) refl)))
-    (λ c. by _ (le-ltb _ _ (c .before .before .if1 .left)) (by _ (le-ltb _ _ (c .before .if2 .left)) (by _ (le-ltb _ _ (c .if3 .left)) refl))))
+    (λ c. search needs) (λ c. search needs) (λ c κs. search needs)
+    (λ c. by _ (le-ltb _ _ (c .before .if1 .left)) (c .two-areas .ensures)))

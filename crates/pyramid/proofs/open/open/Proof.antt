@@ -1,8 +1,8 @@
 -- `open` meets its contract: the checks, then the levels where they let by. Looks into no filter.
 use borrow.Author.Needs.{needs}
 use mathlib.Core.Bool.{true}
-use mathlib.Core.List.{_++_}
-use mathlib.Core.Path.{_≡_, refl, sym, ap, _∙_}
+use mathlib.Core.List.{List, _++_}
+use mathlib.Core.Path.{_≡_, refl, sym, ap, ap₂, _∙_}
 use Prim.Native.Nat.{ℕ, _-_, _*_}
 use native.Mathlib.Omega.{arith}
 use lib.ListN.{length, drop}
@@ -11,10 +11,11 @@ use Rattle.answers.specs.declared.err.Refusal.the-variants.{Done}
 use Rattle.answers.specs.Answers.{answerOf, done}
 use Rattle.answers.proofs.Endings.{call-done, call-refused}
 use Rattle.dwt.specs.Filters.{widthOf}
-use Rattle.pyramid.specs.Files.{headSize}
-use Rattle.pyramid.specs.Walks.{restoredOf}
+use Rattle.trips.proofs.Undone.{wavelet-is}
+use Rattle.pyramid.specs.declared.head.Head.{Head}
+use Rattle.pyramid.specs.Walks.{restoredAt}
 use Rattle.pyramid.specs.Opens.{filterOf, headIn, wayIn, wholeDetails, levelIn, countIn, samplesIn, sayOpen}
-use Rattle.pyramid.proofs.Opening.{Opening, open-ready, open-says, filter-width, filter-wavelet}
+use Rattle.pyramid.proofs.Opening.{Opening, open-ready, open-says, filter-width, filter-integers}
 use Rattle.pyramid.proofs.open.open.Statement.{statement}
 use Rattle.pyramid.proofs.open.open.Tie as tie
 
@@ -28,41 +29,42 @@ ready c = let a = c .before .before .before .before .before .before .before .bef
 answer : (c : tie.Then1) → c .before .before .numbers .result ≡ answerOf (Done (levelIn (c .before .before .before .before .before .before .before .before .args .s .now)) (countIn (c .before .before .before .before .before .before .before .before .args .s .now)))
 answer c = let a = c .before .before .before .before .before .before .before .before .args in c .before .before .numbers .ensures ∙ ap answerOf (c .before .before .before .check-open .ensures ∙ open-says (a .s .now) (a .w) (a .p) _ _ _ (isDone c) .0)
 
--- the detail sections that are whole, and how many samples are given back, as the code has them
-details : (c : tie.After-levels-in) → let s = c .before .before .before .before .before .before .before .before .before .args .s .now in c .levels-in .result - c .before .before .before .numbers .result .first ≡ wholeDetails (wayIn s) (headIn s .levels)
+-- what section 0 says, the detail sections that are whole, and how many samples are given back, as the code has them
+details : (c : tie.After-head-in) → let s = c .before .before .before .before .before .before .before .before .before .args .s .now in c .head-in .result .levels - c .before .before .before .numbers .result .first ≡ wholeDetails (wayIn s (headIn s)) (headIn s .levels)
 details c =
     let e = ap (λ (r : Answer). r .first) (answer (c .before)) in
-    omega (arith, e, c .levels-in .ensures, ready (c .before) .some)
+    omega (arith, e, ap (λ (h : Head). h .levels) (c .head-in .ensures .0), ready (c .before) .some)
 
 count : (c : tie.Then1) → c .before .before .numbers .result .second ≡ countIn (c .before .before .before .before .before .before .before .before .args .s .now)
 count c = ap (λ (r : Answer). r .second) (answer c)
 
 restore-requires : tie.Need-restore-requires
 restore-requires c κs =
-    let a = c .before .before .before .before .before .before .before .before .before .before .before .before .args in
-    let r = ready (c .before .before .before .before) in
+    let a = c .before .before .before .before .before .before .before .before .before .before .before .before .before .args in
+    let r = ready (c .before .before .before .before .before) in
     let w = filter-width (a .w) (r .head .known) in
-    rw (c .before .before .filter-of .ensures, details (c .before .before .before), count (c .before .before .before .before))
-    (record { deep = rw (filter-wavelet (a .w)) (r .deep); short = r .short; first = rw w (r .output); second = rw w (r .first) }, rw w (r .held))
+    let i = filter-integers (a .w) in
+    rw (c .before .before .filter-of .ensures, details (c .before .before .before .before), count (c .before .before .before .before .before), ap (λ (h : Head). h .body) (c .before .before .before .before .head-in .ensures .0))
+    (i, (record { deep = rw (wavelet-is (filterOf (a .w)) i) (r .deep); short = r .short; first = rw w (r .output); second = rw w (r .first) }, rw w (r .held)))
 
 returns : tie.Need-returns
 unfolding samplesIn
 returns c =
-    let then = c .before .before .before .before .before .before .before .before .before in
+    let then = c .before .before .before .before .before .before .before .before .before .before in
     let a = then .before .before .before .before .before .before .before .before .args in
     let s = a .s .now in
     let r = ready then in
     let e = c .before .before .before .before .restore .ensures in
     let g = c .before .before .before .before .before .before .before .filter-of in
-    let m = c .before .before .before .before .before .before .before .before .levels-in .result - then .before .before .numbers .result .first in
+    let h = c .before .before .before .before .before .before .before .before .before .head-in in
+    let m = h .result .levels - then .before .before .numbers .result .first in
     let n = then .before .before .numbers .result .second in
-    let size : widthOf (g .result) * n ≡ a .w * countIn s = rw (g .ensures, filter-width (a .w) (r .head .known), count then) in
+    let wide : widthOf (g .result) ≡ a .w = ap widthOf (g .ensures) ∙ filter-width (a .w) (r .head .known) in
+    let size : widthOf (g .result) * n ≡ a .w * countIn s = ap₂ (λ (k j : ℕ). k * j) wide (count then) in
+    let all : restoredAt (widthOf (g .result)) s m n (h .result .body) ≡ samplesIn s =
+    rw (wide ∙ sym (r .head .width), details (c .before .before .before .before .before .before .before .before .before), count then) (ap (λ (i : Head). restoredAt (headIn s .width) s (wholeDetails (wayIn s (headIn s)) (headIn s .levels)) (countIn s) (i .body)) (h .ensures .0)) in
     call-done (then .before .before .before .check-open .ensures) (then .before .before .numbers .ensures) (sym (then .before .is-done .ensures) ∙ then .if1 .taken)
-    (e .0
-    ∙ ap (λ (j : ℕ). restoredOf (g .result) s m n headSize ++ drop j (a .out .now)) size
-    ∙ ap (λ h. restoredOf h s m n headSize ++ drop (a .w * countIn s) (a .out .now)) (g .ensures ∙ ap filterOf (sym (r .head .width)))
-    ∙ ap (λ (j : ℕ). restoredOf (filterOf (headIn s .width)) s j n headSize ++ drop (a .w * countIn s) (a .out .now)) (details (c .before .before .before .before .before .before .before .before))
-    ∙ ap (λ (j : ℕ). restoredOf (filterOf (headIn s .width)) s (wholeDetails (wayIn s) (headIn s .levels)) j headSize ++ drop (a .w * countIn s) (a .out .now)) (count then))
+    (e .0 ∙ ap₂ (λ (x : List ℕ) (j : ℕ). x ++ drop j (a .out .now)) all size)
     (rw size at (e .1 .0)) refl
 
 pub open-spec : {M : Type 1} → statement M
@@ -70,6 +72,7 @@ open-spec =
     tie.close
     (tie.spec
     (λ c κs. search needs) (λ c κs. search needs) (λ c κs. search needs)
-    (λ c κs. ready c .head .there) (λ c. omega (arith, ap (λ (r : Answer). r .first) (answer (c .before)), c .levels-in .ensures)) (λ c κs. search needs)
+    (λ c κs. ready c .head .there)
+    (λ c. omega (arith, ap (λ (r : Answer). r .first) (answer (c .before .before)), ap (λ (h : Head). h .levels) (c .before .head-in .ensures .0))) (λ c κs. search needs)
     restore-requires (λ c. search needs) (λ c. search needs) returns
     (λ c. call-refused (c .before .before .before .check-open .ensures) (c .before .before .numbers .ensures) (sym (c .before .is-done .ensures) ∙ c .if1 .left)))

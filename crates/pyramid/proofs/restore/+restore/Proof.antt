@@ -13,7 +13,7 @@ use Rattle.dwt.specs.Filters.{widthOf, waveletOf, backOf}
 use Rattle.dwt.proofs.Cuts.{split-width}
 use Rattle.dwt.proofs.Lists.{later}
 use Rattle.pyramid.specs.Files.{bodySize}
-use Rattle.pyramid.specs.Walks.{bytesAt, restoredOf}
+use Rattle.pyramid.specs.Walks.{bytesAt, restoredAt}
 use Rattle.pyramid.proofs.Parts.{restore-none, restore-more}
 use Prim.Native.Nat.{ℕ, _<_}
 use borrow.Fn.Kinds.{In}
@@ -53,7 +53,7 @@ level : (t : ℕ) (st : restore-lts.Start (claims t) (restore-at t) restore.Post
     → let a = st .args in (smallestOf (waveletOf (a .f)) ≤ a .n) × (a .levels - 1 ≤ depthOf (waveletOf (a .f)) (ups (a .n)))
 level t st h =
     let a = st .args in
-    let e : suc (a .levels - 1) ≤ depthOf (waveletOf (a .f)) (a .n) = omega (arith, st .pre .1 .0 .deep, h) in
+    let e : suc (a .levels - 1) ≤ depthOf (waveletOf (a .f)) (a .n) = omega (arith, st .pre .1 .1 .0 .deep, h) in
     step (smallestOf (waveletOf (a .f))) (two-below (waveletOf (a .f))) (a .levels - 1) (a .n) e
 
 restore-fetch-requires : (t : ℕ) → restore-lts.Need-fetch-requires (claims t) (restore-at t) restore.Post
@@ -71,7 +71,7 @@ restore-restore-requires t c κs =
     let a = st .args in
     let w = split-width (widthOf (a .f)) (a .n) in
     let s = level t st (c .before .before .if1 .left) in
-    (omega arith, (record { deep = s .1; short = omega arith; first = omega arith; second = omega arith }, omega arith))
+    (omega arith, (st .pre .1 .0, (record { deep = s .1; short = omega arith; first = omega arith; second = omega arith }, omega arith)))
 
 restore-cut-of-requires : (t : ℕ) → restore-lts.Need-cut-of-requires (claims t) (restore-at t) restore.Post
 restore-cut-of-requires t c κs = omega arith
@@ -99,7 +99,7 @@ restore-same-length t c = search needs
 restore-returns : (t : ℕ) → restore-lts.Need-returns (claims t) (restore-at t) restore.Post
 restore-returns t c =
     let a = c .before .before .before .before .before .before .before .before .args in
-    let e = restore-none (a .f) (a .s .now) (a .levels) (a .n) (a .at) (c .before .before .before .before .if1 .taken) in (
+    let e = restore-none (widthOf (a .f)) (a .s .now) (a .levels) (a .n) (a .at) (c .before .before .before .before .if1 .taken) in (
       c .before .before .fetch .ensures .0 ∙ ap (λ (u : List ℕ). u ++ drop (widthOf (a .f) * a .n) (a .to .now)) e,
       (refl, ap length (sym e) ∙ c .before .before .fetch .ensures .1),
     )
@@ -115,7 +115,7 @@ restore-returns-2 t c =
     let a = c .before .before .before .before .before .before .before .before .before .before .before .before .before .before .before .before .before .args in
     let b = widthOf (a .f) * a .n in
     let h = widthOf (a .f) * ups (a .n) in
-    let r = restoredOf (a .f) (a .s .now) (a .levels - 1) (ups (a .n)) (a .at) in
+    let r = restoredAt (widthOf (a .f)) (a .s .now) (a .levels - 1) (ups (a .n)) (a .at) in
     let rs = c .before .before .before .before .before .before .before .before .before .before .restore in
     let cu = c .before .before .before .before .before .cut-of in
     let bd = c .before .before .build in
@@ -123,12 +123,12 @@ restore-returns-2 t c =
     let below : h ≤ b = omega (arith, cu .ensures) in
     let there : place ≡ a .at + bodySize (widthOf (a .f)) (a .levels - 1) (ups (a .n)) = omega (arith, cu .ensures, c .before .before .before .before .before .before .before .before .before .before .before .before .before .if1 .left) in
     let tk : take h (rs .last .1 .1 .1 .1 .1 .0) ≡ r = ap (λ (u : List ℕ). take h u) (rs .ensures .0) ∙ take-at r (drop h (a .other .now)) h (rs .ensures .1 .1) in
-    let whole : backOf (a .f) (take h (rs .last .1 .1 .1 .1 .1 .0)) (bytesAt (widthOf (a .f)) (a .s .now) (downs (a .n)) place) ≡ restoredOf (a .f) (a .s .now) (a .levels) (a .n) (a .at) =
+    let whole : backOf (a .f) (take h (rs .last .1 .1 .1 .1 .1 .0)) (bytesAt (widthOf (a .f)) (a .s .now) (downs (a .n)) place) ≡ restoredAt (widthOf (a .f)) (a .s .now) (a .levels) (a .n) (a .at) =
     ap (λ (u : List ℕ). backOf (a .f) u (bytesAt (widthOf (a .f)) (a .s .now) (downs (a .n)) place)) tk
-    ∙ restore-more (a .f) (a .s .now) (a .levels) (a .n) (a .at) place (c .before .before .before .before .before .before .before .before .before .before .before .before .before .if1 .left) there in (
+    ∙ restore-more (a .f) (c .before .before .before .before .before .before .before .before .before .before .before .before .before .before .before .before .before .pre .1 .0) (a .s .now) (a .levels) (a .n) (a .at) place (c .before .before .before .before .before .before .before .before .before .before .before .before .before .if1 .left) there in (
       bd .ensures .0
           ∙ ap (λ (u : List ℕ). u ++ drop b (rs .last .1 .1 .1 .1 .1 .1 .0)) whole
-          ∙ ap (λ (u : List ℕ). restoredOf (a .f) (a .s .now) (a .levels) (a .n) (a .at) ++ u) (later h b _ _ below (rs .ensures .1 .0)),
+          ∙ ap (λ (u : List ℕ). restoredAt (widthOf (a .f)) (a .s .now) (a .levels) (a .n) (a .at) ++ u) (later h b _ _ below (rs .ensures .1 .0)),
       (
         later h b _ _ below (ap (λ (u : List ℕ). drop h u) (rs .ensures .0) ∙ drop-at r (drop h (a .other .now)) h (rs .ensures .1 .1)),
         ap length (sym whole) ∙ bd .ensures .1,

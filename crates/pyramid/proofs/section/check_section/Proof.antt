@@ -17,7 +17,7 @@ use Rattle.pyramid.proofs.section.check_section.Statement.{statement}
 use Rattle.pyramid.proofs.section.check_section.Tie as tie
 
 abbrev there : List ℕ → ℕ → Refusal
-there s j = Done (startOf s j) (lengthOf s j)
+there s j = Done (startOf s (headIn s) j) (lengthOf (headIn s) j)
 
 -- past section 0: what is said of the rest is said of all
 past1 : (c : tie.Else1) (m : List Check) {z : Refusal} → let a = c .before .before .before .before .args in z ≡ firstOf m (there (a .s .now) (a .j)) → z ≡ firstOf (headChecks (a .s .now) (a .w) (a .p) ++ m) (there (a .s .now) (a .j))
@@ -33,22 +33,22 @@ headed c =
 
 -- the number, of the levels that section 0 says
 number : (c : tie.After-check-number) → let a = c .before .before .before .before .before .before .args in c .check-number .result ≡ firstOf (numberChecks (a .j) (headIn (a .s .now) .levels)) (Done 0 0)
-number c = c .check-number .ensures ∙ ap (λ (l : ℕ). firstOf (numberChecks (c .before .before .before .before .before .before .args .j) l) (Done 0 0)) (c .before .levels-in .ensures .0)
+number c = c .check-number .ensures ∙ ap (λ (l : ℕ). firstOf (numberChecks (c .before .before .before .before .before .before .args .j) l) (Done 0 0)) (ap (λ h. h .levels) (c .before .head-in .ensures .0))
 
-inside : (c : tie.Else2) → let a = c .before .before .before .before .before .before .before .before .args in let l = headIn (a .s .now) .levels in (1 ≤ a .j) × (a .j ≤ l + 1) × (l < 256)
+inside : (c : tie.Else2) → let a = c .before .before .before .before .before .before .before .before .args in (1 ≤ a .j) × (a .j ≤ headIn (a .s .now) .levels + 1)
 inside c =
     let a = c .before .before .before .before .before .before .before .before .args in
     let l = headIn (a .s .now) .levels in
     let q = passing (numberChecks (a .j) l) (Done 0 0) (refl, (refl, tt)) (sym (ap done (number (c .before .before))) ∙ sym (c .before .is-done2 .ensures) ∙ not-false _ (c .if2 .left)) in
     let z = eqb-false (a .j) 0 (q .0) in
-    (omega (arith, z), roomy (l + 1) (a .j) (q .1 .0), omega (arith, c .before .before .before .levels-in .ensures))
+    (omega (arith, z), roomy (l + 1) (a .j) (q .1 .0))
 
 returns : tie.Need-returns
 unfolding saySection
 returns c =
     let a = c .before .before .before .before .args in
     let s = a .s .now in
-    say-stop (headChecks s (a .w) (a .p)) (numberChecks (a .j) (headIn s .levels) ++ sectionChecks (wayTo s (a .j)) (length s)) (there s (a .j)) (c .before .before .check-head .ensures) (sym (c .before .is-done .ensures) ∙ not-true _ (c .if1 .taken))
+    say-stop (headChecks s (a .w) (a .p)) (numberChecks (a .j) (headIn s .levels) ++ sectionChecks (wayTo s (headIn s) (a .j)) (length s)) (there s (a .j)) (c .before .before .check-head .ensures) (sym (c .before .is-done .ensures) ∙ not-true _ (c .if1 .taken))
 
 returns-2 : tie.Need-returns-2
 unfolding saySection
@@ -56,7 +56,7 @@ returns-2 c =
     let a = c .before .before .before .before .before .before .before .before .args in
     let s = a .s .now in
     let n = numberChecks (a .j) (headIn s .levels) in
-    let m = sectionChecks (wayTo s (a .j)) (length s) in
+    let m = sectionChecks (wayTo s (headIn s) (a .j)) (length s) in
     past1 (c .before .before .before .before) (n ++ m) (say-stop n m (there s (a .j)) (number (c .before .before)) (sym (c .before .is-done2 .ensures) ∙ not-true _ (c .if2 .taken)))
 
 returns-3 : tie.Need-returns-3
@@ -65,13 +65,13 @@ returns-3 c =
     let a = c .before .before .before .before .before .before .before .before .before .args in
     let s = a .s .now in
     let n = numberChecks (a .j) (headIn s .levels) in
-    let m = sectionChecks (wayTo s (a .j)) (length s) in
-    past1 (c .before .before .before .before .before) (n ++ m) (say-rest n m (there s (a .j)) (refl, (refl, tt)) (number (c .before .before .before)) (sym (c .before .before .is-done2 .ensures) ∙ not-false _ (c .before .if2 .left)) (c .found .ensures))
+    let m = sectionChecks (wayTo s (headIn s) (a .j)) (length s) in
+    past1 (c .before .before .before .before .before) (n ++ m) (say-rest n m (there s (a .j)) (refl, (refl, tt)) (number (c .before .before .before)) (sym (c .before .before .is-done2 .ensures) ∙ not-false _ (c .before .if2 .left)) (rw (c .before .before .before .before .head-in .ensures .0) at (c .found .ensures)))
 
 pub check-section-spec : {M : Type 1} → statement M
 check-section-spec =
     tie.close
     (tie.spec
     (λ c κs. search needs) (λ c κs. search needs) returns (λ c κs. headed c .there)
-    (λ c κs. omega (arith, c .levels-in .ensures)) (λ c κs. search needs) returns-2
-    (λ c κs. (headed (c .before .before .before .before) .there, inside c)) returns-3)
+    (λ c κs. omega (arith, c .head-in .ensures .1 .levels)) (λ c κs. search needs) returns-2
+    (λ c κs. let h = c .before .before .before .head-in .ensures in let i = inside c in (h .1, (i .0, omega (arith, i .1, ap (λ h. h .levels) (h .0))))) returns-3)

@@ -7,7 +7,7 @@ use native.Mathlib.Omega.{arith}
 use lib.Dec.{eqb}
 use lib.ListN.{length}
 use Rattle.answers.specs.Answers.{answerOf, done}
-use Rattle.pyramid.specs.Opens.{saySection, startOf, lengthOf}
+use Rattle.pyramid.specs.Opens.{headIn, saySection, startOf, lengthOf}
 use Rattle.pyramid.proofs.Sections.{section-is, section-part, section-none, section-place}
 use borrow.Author.Needs.{needs}
 use Rattle.pyramid.proofs.section.section.Statement.{statement}
@@ -22,7 +22,7 @@ numbers : (c : tie.Then1)
     → let a = c .before .before .before .before .args in
     let r = c .before .before .section-answer .result in
     let s = a .s .now in
-    (r .first ≡ startOf s (a .j)) × (r .second ≡ lengthOf s (a .j)) × (startOf s (a .j) + lengthOf s (a .j) ≤ length s)
+    (r .first ≡ startOf s (headIn s) (a .j)) × (r .second ≡ lengthOf (headIn s) (a .j)) × (startOf s (headIn s) (a .j) + lengthOf (headIn s) (a .j) ≤ length s)
 numbers c =
     let a = c .before .before .before .before .args in
     let i = section-is (a .s .now) (a .w) (a .p) (a .j) (isDone c) in

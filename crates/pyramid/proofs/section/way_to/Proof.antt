@@ -2,9 +2,7 @@
 use mathlib.Core.Path.{ap, _∙_}
 use Prim.Native.Nat.{ℕ, _-_}
 use native.Mathlib.Omega.{arith}
-use Rattle.pyramid.specs.Files.{headSize}
 use Rattle.pyramid.specs.Walks.{walkOf}
-use Rattle.pyramid.specs.Opens.{headIn}
 use Rattle.pyramid.proofs.Ways.{small}
 use borrow.Author.Needs.{needs}
 use Rattle.pyramid.proofs.section.way_to.Statement.{statement}
@@ -12,14 +10,15 @@ use Rattle.pyramid.proofs.section.way_to.Tie as tie
 
 returns : tie.Need-returns
 returns c =
-    let a = c .before .before .before .before .args in
-    let s = a .s .now in
-    c .walk .ensures ∙ ap (λ (k : ℕ). walkOf s k (a .j - 1) (c .before .place-of .result) headSize) (c .before .before .width-in .ensures .0) ∙ ap (λ (n : ℕ). walkOf s (headIn s .width) (a .j - 1) n headSize) (c .before .place-of .ensures .0)
+    let a = c .before .before .before .args in
+    c .walk .ensures ∙ ap (λ (n : ℕ). walkOf (a .s .now) (a .h .width) (a .j - 1) n (a .h .body)) (c .before .samples-to .ensures .0)
 
 pub way-to-spec : {M : Type 1} → statement M
 way-to-spec =
     tie.close
     (tie.spec
-    (λ c κs. search needs) (λ c. search needs) (λ c κs. search needs)
-    (λ c κs. (omega (arith, c .before .before .before .pre), small _ _ (c .before .width-in .ensures .1) (c .place-of .ensures .1), omega (arith, c .before .before .before .pre), omega (arith, c .place-of .ensures)))
+    (λ c. search needs) (λ c κs. (c .before .pre .1 .1, c .before .pre .0 .levels))
+    (λ c κs. let r = c .before .before .pre .0 in
+    let n = c .samples-to .ensures .1 in
+    (r .within, small _ _ (r .width) (omega (arith, n, r .samples)), omega (arith, r .levels, c .before .before .pre .1), omega (arith, n, r .samples)))
     returns)

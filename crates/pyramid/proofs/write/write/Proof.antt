@@ -7,7 +7,7 @@ use lib.ListN.{length, drop}
 use Rattle.answers.proofs.Endings.{call-done, call-refused}
 use Rattle.sizes.specs.Levels.{levelsOf}
 use Rattle.dwt.specs.Filters.{widthOf}
-use Rattle.pyramid.specs.Files.{fileSize, fileOf}
+use Rattle.pyramid.specs.Files.{headSize, fileSize, fileOf}
 use Rattle.pyramid.proofs.Writing.{write-ready, ready-for}
 use Rattle.pyramid.proofs.write.write.Statement.{statement}
 use Rattle.pyramid.proofs.write.write.Tie as tie
@@ -31,8 +31,8 @@ returns c =
     let en : n ≡ x / widthOf (a .f) = ap (λ (i : ℕ). x / i) (k .ensures .0) in
     let w : widthOf (a .f) * n ≡ x = ap (λ (i : ℕ). widthOf (a .f) * i) en ∙ sym (ready .0 .whole) in
     call-done (said .ensures) (c .before .before .before .before .before .before .before .before .before .before .before .before .before .before .numbers .ensures) t
-    (e .0 ∙ ap (λ (l : ℕ). fileOf (a .f) l (a .point) (a .signal .now) ++ drop (fileSize (widthOf (a .f)) l n) (a .file .now)) (c .before .before .before .before .before .before .before .before .before .before .at-least-one .ensures)
-    ∙ ap (λ (i : ℕ). fileOf (a .f) (levelsOf (a .levels)) (a .point) (a .signal .now) ++ drop (fileSize (widthOf (a .f)) (levelsOf (a .levels)) i) (a .file .now)) en)
+    (e .0 ∙ ap (λ (l : ℕ). fileOf (a .f) l (a .point) (a .signal .now) ++ drop (fileSize headSize (widthOf (a .f)) l n) (a .file .now)) (c .before .before .before .before .before .before .before .before .before .before .at-least-one .ensures)
+    ∙ ap (λ (i : ℕ). fileOf (a .f) (levelsOf (a .levels)) (a .point) (a .signal .now) ++ drop (fileSize headSize (widthOf (a .f)) (levelsOf (a .levels)) i) (a .file .now)) en)
     (rw w at (e .1 .0)) (rw w at (e .1 .1))
 
 returns-2 : tie.Need-returns-2

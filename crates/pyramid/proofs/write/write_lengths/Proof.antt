@@ -18,7 +18,7 @@ use Rattle.dwt.specs.Filters.{widthOf, waveletOf}
 use Rattle.dwt.specs.Calls.{levelsChecks}
 use Rattle.dwt.proofs.Cuts.{width-room}
 use Rattle.dwt.proofs.Multi.{levels-refuse}
-use Rattle.pyramid.specs.Files.{bodySize, fileSize}
+use Rattle.pyramid.specs.Files.{headSize, bodySize, fileSize}
 use Rattle.pyramid.specs.Writes.{writeChecks}
 use Rattle.pyramid.proofs.Writing.{few-levels}
 use Rattle.pyramid.proofs.write.write_lengths.Statement.{statement}
@@ -27,14 +27,14 @@ use Rattle.pyramid.proofs.write.write_lengths.Tie as tie
 returns : tie.Need-returns
 returns c =
     let a = c .before .before .before .args in
-    say-stop (levelsChecks (a .f) (a .levels) (a .n)) (tight (a .b) (fileSize (widthOf (a .f)) (levelsOf (a .levels)) (a .n)) ∷ twoAreas (a .u) (a .v) (a .n)) (Done 0 0) (c .before .before .check-levels .ensures) (sym (c .before .is-done .ensures) ∙ not-true _ (c .if1 .taken))
+    say-stop (levelsChecks (a .f) (a .levels) (a .n)) (tight (a .b) (fileSize headSize (widthOf (a .f)) (levelsOf (a .levels)) (a .n)) ∷ twoAreas (a .u) (a .v) (a .n)) (Done 0 0) (c .before .before .check-levels .ensures) (sym (c .before .is-done .ensures) ∙ not-true _ (c .if1 .taken))
 
 -- past the levels: what is said of the rest is said of all
 past : (c : tie.Else1) {z : Refusal} → let a = c .before .before .before .args in
-    z ≡ firstOf (tight (a .b) (fileSize (widthOf (a .f)) (levelsOf (a .levels)) (a .n)) ∷ twoAreas (a .u) (a .v) (a .n)) (Done 0 0) → z ≡ firstOf (writeChecks (a .f) (a .levels) (a .n) (a .b) (a .u) (a .v)) (Done 0 0)
+    z ≡ firstOf (tight (a .b) (fileSize headSize (widthOf (a .f)) (levelsOf (a .levels)) (a .n)) ∷ twoAreas (a .u) (a .v) (a .n)) (Done 0 0) → z ≡ firstOf (writeChecks (a .f) (a .levels) (a .n) (a .b) (a .u) (a .v)) (Done 0 0)
 past c q =
     let a = c .before .before .before .args in
-    say-rest (levelsChecks (a .f) (a .levels) (a .n)) (tight (a .b) (fileSize (widthOf (a .f)) (levelsOf (a .levels)) (a .n)) ∷ twoAreas (a .u) (a .v) (a .n)) (Done 0 0) (levels-refuse (a .f) (a .levels) (a .n)) (c .before .before .check-levels .ensures) (sym (c .before .is-done .ensures) ∙ not-false _ (c .if1 .left)) q
+    say-rest (levelsChecks (a .f) (a .levels) (a .n)) (tight (a .b) (fileSize headSize (widthOf (a .f)) (levelsOf (a .levels)) (a .n)) ∷ twoAreas (a .u) (a .v) (a .n)) (Done 0 0) (levels-refuse (a .f) (a .levels) (a .n)) (c .before .before .check-levels .ensures) (sym (c .before .is-done .ensures) ∙ not-false _ (c .if1 .left)) q
 
 -- within the limit, and the levels fit a byte
 within : (c : tie.Else1) → let a = c .before .before .before .args in (a .n ≤ mostSamples) × (levelsOf (a .levels) < 256)
@@ -45,8 +45,8 @@ within c =
     (m, few-levels (waveletOf (a .f)) (levelsOf (a .levels)) (a .n) (roomy (depthOf (waveletOf (a .f)) (a .n)) (levelsOf (a .levels)) (p .1 .0)) m)
 
 -- the size of the file, as the code has it and as the list has it
-size : (c : tie.After-body-size) → let a = c .before .before .before .before .before .args in 14 + c .body-size .result ≡ fileSize (widthOf (a .f)) (levelsOf (a .levels)) (a .n)
-size c = let a = c .before .before .before .before .before .args in ap (λ (i : ℕ). 14 + i) (c .body-size .ensures ∙ ap (λ (l : ℕ). bodySize (widthOf (a .f)) l (a .n)) (c .before .at-least-one .ensures))
+size : (c : tie.After-body-size) → let a = c .before .before .before .before .before .args in headSize + c .body-size .result ≡ fileSize headSize (widthOf (a .f)) (levelsOf (a .levels)) (a .n)
+size c = let a = c .before .before .before .before .before .args in ap (λ (i : ℕ). headSize + i) (c .body-size .ensures ∙ ap (λ (l : ℕ). bodySize (widthOf (a .f)) l (a .n)) (c .before .at-least-one .ensures))
 
 pub write-lengths-spec : {M : Type 1} → statement M
 write-lengths-spec =
