@@ -7,15 +7,13 @@ use mathlib.Core.Path.{_≡_, sym, ap, ap₂, subst, _∙_}
 use Prim.Native.Nat.{ℕ, zero, suc, _+_, _-_, _*_, _≤_, _<_}
 use native.Mathlib.Nat.{zero-add, suc-add}
 use native.Mathlib.Omega.{arith}
-use borrow.Author.Tests.{lt-ltb, le-ltb, ne-eqb}
+use borrow.Author.Tests.{le-ltb, ne-eqb}
 use lib.ListN.{length, take, drop}
 use lib.Seq.{drop-at}
 use Rattle.answers.specs.declared.err.Refusal.{Refusal}
 use Rattle.answers.specs.declared.err.Refusal.the-variants.{Done, CutShort}
-use Rattle.answers.specs.Checks.{firstOf}
-use Rattle.answers.proofs.Chain.{by, stop}
+use Rattle.answers.specs.Checks.{Check, firstOf}
 use Rattle.order.proofs.Order.{lt-or-le}
-use Rattle.answers.proofs.Passed.{Passing}
 use Rattle.sizes.specs.Bands.{ups, downs}
 use Rattle.sizes.specs.Levels.{places}
 use Rattle.sizes.proofs.Counts.{places-le}
@@ -24,18 +22,19 @@ use Rattle.dwt.specs.Filters.{widthOf, lowOf, highOf}
 use Rattle.dwt.specs.Pyramids.{approxAt}
 use Rattle.dwt.proofs.Cuts.{split-width}
 use Rattle.trips.proofs.Lengths.{length-low, length-high, length-approx}
+use Rattle.pyramid.specs.declared.head.Head.{Head}
 use Rattle.pyramid.specs.declared.walk.Way.{Way}
-use Rattle.pyramid.specs.declared.walk.Way.the-variants.{Short}
-use Rattle.pyramid.specs.Files.{mostBytes, Head, headSize, sectionOf, bodyOf, bodySize, fileOf, fileSize}
+use Rattle.pyramid.specs.declared.walk.Way.the-variants.{Went, Short}
+use Rattle.pyramid.specs.Files.{sectionOf, bodyOf, bodySize, fileSize}
 use Rattle.pyramid.specs.Walks.{walkOf, lastCount}
 use Rattle.pyramid.specs.Opens.{headIn, headChecks, wayTo, sectionChecks, numberChecks, lengthOf, endBy, startOf, saySection}
+use Rattle.pyramid.proofs.Opening.{pass-on}
 use Rattle.cuts.specs.Sees.{wholeIn, reach}
-use Rattle.cuts.proofs.Sized.{frontOf, front-length, body-length}
+use Rattle.cuts.proofs.Sized.{body-length}
 use Rattle.cuts.proofs.CutWalk.{walk-cut, reach-whole, past}
 use Rattle.cuts.proofs.Restored.{bytes-whole}
-use Rattle.cuts.proofs.Heads.{Recording, cut-parts, cut-length, head-is, own-head-passes}
+use Rattle.cuts.proofs.Filed.{Filed, cut-parts, cut-length}
 use Rattle.cuts.proofs.Whole.{reach-none, reach-short}
-use Rattle.cuts.proofs.Survives.{skip}
 
 -- the sections of the first i levels, which stand behind those of all levels after them
 restOf : Filter → ℕ → ℕ → List ℕ → List ℕ
@@ -56,152 +55,140 @@ short-stops : (v : Way) (j b : ℕ) (s : Refusal) → v ≡ Short j → firstOf 
 short-stops v j b s e = ap (λ (w : Way). firstOf (sectionChecks w b) s) e
 
 -- where the bytes of the last section start
-start-at : (k j m : ℕ) → headSize + bodySize k (suc j) m - k * downs m ≡ headSize + bodySize k j (ups m) + 4
-start-at k j m = omega (arith, split-width k m)
+start-at : (z k j m : ℕ) → z + bodySize k (suc j) m - k * downs m ≡ z + bodySize k j (ups m) + 4
+start-at z k j m = omega (arith, split-width k m)
 
 -- its bytes are within what is there
-within-at : (k j m b : ℕ) → headSize + bodySize k (suc j) m ≤ b → 4 + k * downs m ≤ b - headSize - bodySize k j (ups m)
-within-at k j m b h = omega (arith, split-width k m)
+within-at : (z k j m b : ℕ) → z + bodySize k (suc j) m ≤ b → 4 + k * downs m ≤ b - z - bodySize k j (ups m)
+within-at z k j m b h = omega (arith, split-width k m)
 
 -- the bytes of sections 0 to q
-abbrev pub upTo : ℕ → ℕ → ℕ → ℕ → ℕ
-upTo k l n q = headSize + bodySize k (q - 1) (places (l + 1 - q) n)
+abbrev pub upTo : ℕ → ℕ → ℕ → ℕ → ℕ → ℕ
+upTo z k l n q = z + bodySize k (q - 1) (places (l + 1 - q) n)
 
-module _ (f : Filter) (l n p : ℕ) (x : List ℕ) (r : Recording f l n p x) (b : ℕ) (c : headSize ≤ b) (e : b ≤ fileSize (widthOf f) l n) where
-  -- the file, where i + j are its levels
-  parts : (i j : ℕ) → i + j ≡ l
-      → take b (fileOf f l p x) ≡ frontOf f l n p ++ take (b - headSize) (bodyOf f j (places i n) (approxAt f i x) ++ restOf f i n x)
-  parts i j q =
-      cut-parts f l p n x b (r .size) c
-      ∙ ap (λ (s : List ℕ). frontOf f l n p ++ take (b - headSize) s) (append-nil (bodyOf f l n x) ∙ ap (λ (m : ℕ). bodyOf f m n x) (sym q) ∙ body-deeper f i j n x)
+module _ {z : ℕ} {f : Filter} {l n p : ℕ} {x s : List ℕ} (d : Filed z f l n p x s) (b : ℕ) where
+  abbrev k : ℕ
+  k = widthOf f
 
-  -- the walk through the sections of its last j levels
-  walk-parts : (i j : ℕ) → i + j ≡ l → walkOf (take b (fileOf f l p x)) (widthOf f) j (places i n) headSize ≡ reach (widthOf f) j (places i n) headSize (b - headSize)
-  walk-parts i j q =
-      let k = widthOf f in
-      let front = frontOf f l n p in
-      let y = approxAt f i x in
-      let body = bodyOf f j (places i n) y in
-      let t = restOf f i n x in
-      let same : bodyOf f l n x ≡ body ++ t = ap (λ (m : ℕ). bodyOf f m n x) (sym q) ∙ body-deeper f i j n x in
-      let room : b - headSize ≤ length (body ++ t) = omega (arith, ap length same, body-length f l n x (r .size)) in
-      ap (λ (s : List ℕ). walkOf s k j (places i n) headSize) (parts i j q)
-      ∙ subst (λ (a : ℕ). walkOf (front ++ take (b - headSize) (body ++ t)) k j (places i n) a ≡ reach k j (places i n) a (b - headSize)) (front-length f l n p)
-      (walk-cut f j (places i n) y front t (b - headSize) (length-approx f i x n (r .size)) (omega (arith, r .most, places-le i n)) room)
+  -- what is left of the file, and what its section 0 says
+  abbrev t : List ℕ
+  t = take b s
 
-  -- the walk through section q
-  pub way-to : (q : ℕ) → 1 ≤ q → q ≤ l + 1 → wayTo (take b (fileOf f l p x)) q ≡ reach (widthOf f) (q - 1) (places (l + 1 - q) n) headSize (b - headSize)
-  way-to q h g =
-      let s = take b (fileOf f l p x) in
-      ap (λ (h : Head). walkOf s (h .width) (q - 1) (places (h .levels + 1 - q) (h .samples)) headSize) (head-is f l n p x b r c)
-      ∙ walk-parts (l + 1 - q) (q - 1) (omega arith)
+  abbrev h : Head
+  h = headIn (take b s)
 
-  -- how many bytes section q has
-  pub length-is : (q : ℕ) → lengthOf (take b (fileOf f l p x)) q ≡ widthOf f * lastCount (q - 1) (places (l + 1 - q) n)
-  length-is q = ap (λ (h : Head). h .width * lastCount (q - 1) (places (h .levels + 1 - q) (h .samples))) (head-is f l n p x b r c)
-
-  -- where they start, if the section is whole
-  pub start-is : (q : ℕ) → 1 ≤ q → q ≤ l + 1 → upTo (widthOf f) l n q ≤ b
-      → startOf (take b (fileOf f l p x)) q ≡ upTo (widthOf f) l n q - widthOf f * lastCount (q - 1) (places (l + 1 - q) n)
-  start-is q h g w =
-      let k = widthOf f in
-      ap₂ (λ (v : Way) (m : ℕ). endBy v - m) (way-to q h g ∙ sym (reach-whole k (q - 1) (places (l + 1 - q) n) headSize (b - headSize) (omega arith))) (length-is q)
-
-  numbers-pass : (q : ℕ) → 1 ≤ q → q ≤ l + 1 → Passing (numberChecks q (headIn (take b (fileOf f l p x)) .levels))
-  numbers-pass q h g =
-      let el = ap (λ (h : Head). h .levels) (head-is f l n p x b r c) in
-      (ne-eqb q 0 (λ z. omega arith), (le-ltb (headIn (take b (fileOf f l p x)) .levels + 1) q (omega arith), tt))
-
-  -- a section that is whole is found
-  pub section-found : (q : ℕ) → 1 ≤ q → q ≤ l + 1 → upTo (widthOf f) l n q ≤ b
-      → saySection (take b (fileOf f l p x)) (widthOf f) p q ≡ Done (startOf (take b (fileOf f l p x)) q) (lengthOf (take b (fileOf f l p x)) q)
+  -- cut in section 0: "10", whatever the number
+  pub section-early : (q : ℕ) → b < z → saySection t k p q ≡ CutShort b
   unfolding saySection
-  section-found q h g w =
-      let k = widthOf f in
-      let s = take b (fileOf f l p x) in
-      let numbers = numberChecks q (headIn s .levels) in
-      let ways = sectionChecks (wayTo s q) (length s) in
-      let end = Done (startOf s q) (lengthOf s q) in
-      skip (headChecks s k p) (numbers ++ ways) end (own-head-passes f l n p x b r c e)
-      ∙ skip numbers ways end (numbers-pass q h g)
-      ∙ ap (λ (v : Way). firstOf (sectionChecks v (length s)) end) (way-to q h g ∙ sym (reach-whole k (q - 1) (places (l + 1 - q) n) headSize (b - headSize) (omega arith)))
+  section-early q a = d .early b a (numberChecks q (h .levels) ++ sectionChecks (wayTo t h q) (length t)) (Done (startOf t h q) (lengthOf h q))
 
-  -- "a cut at or before it is 10"
-  pub section-cut : (q : ℕ) → 1 ≤ q → q ≤ l + 1 → b < upTo (widthOf f) l n q → saySection (take b (fileOf f l p x)) (widthOf f) p q ≡ CutShort b
-  unfolding saySection
-  section-cut q h g w =
-      let k = widthOf f in
-      let s = take b (fileOf f l p x) in
-      let numbers = numberChecks q (headIn s .levels) in
-      let ways = sectionChecks (wayTo s q) (length s) in
-      let end = Done (startOf s q) (lengthOf s q) in
-      let m = places (l + 1 - q) n in
-      let j = b - headSize in
-      skip (headChecks s k p) (numbers ++ ways) end (own-head-passes f l n p x b r c e)
-      ∙ skip numbers ways end (numbers-pass q h g)
-      ∙ ⊎-elim
-      (λ (a : j < bodySize k 0 (places (q - 1) m)). short-stops (wayTo s q) 1 (length s) end (way-to q h g ∙ reach-none k (q - 1) m headSize j a))
-      (λ (a : bodySize k 0 (places (q - 1) m) ≤ j). short-stops (wayTo s q) (wholeIn k (q - 1) m j + 2) (length s) end (way-to q h g ∙ reach-short k (q - 1) m headSize j a (omega arith)))
-      (lt-or-le j (bodySize k 0 (places (q - 1) m)))
-      ∙ ap CutShort (cut-length f l n p x b (r .size) e)
+  -- cut after it
+  module _ (c : z ≤ b) (e : b ≤ fileSize z (widthOf f) l n) where
+    -- the file, where i + j are its levels
+    parts : (i j : ℕ) → i + j ≡ l → t ≡ d .front ++ take (b - z) (bodyOf f j (places i n) (approxAt f i x) ++ restOf f i n x)
+    parts i j q =
+        cut-parts d b c
+        ∙ ap (λ (u : List ℕ). d .front ++ take (b - z) u) (append-nil (bodyOf f l n x) ∙ ap (λ (m : ℕ). bodyOf f m n x) (sym q) ∙ body-deeper f i j n x)
 
-  -- section 1 is the deepest approximations
-  pub section-approx : upTo (widthOf f) l n 1 ≤ b → take (lengthOf (take b (fileOf f l p x)) 1) (drop (startOf (take b (fileOf f l p x)) 1) (take b (fileOf f l p x))) ≡ approxAt f l x
-  unfolding bodyOf
-  section-approx w =
-      let k = widthOf f in
-      let s = take b (fileOf f l p x) in
-      let front = frontOf f l n p in
-      let y = approxAt f l x in
-      let t = restOf f l n x in
-      let m = places l n in
-      let il : l + 1 - 1 ≡ l = omega arith in
-      let el : lengthOf s 1 ≡ k * m = length-is 1 ∙ ap (λ (i : ℕ). k * places i n) il in
-      let es : startOf s 1 ≡ headSize + 4 = start-is 1 (omega arith) (omega arith) w ∙ ap (λ (i : ℕ). headSize + bodySize k 0 (places i n) - k * places i n) il ∙ omega arith in
-      let d : drop headSize s ≡ take (b - headSize) (sectionOf m y ++ t) =
-      ap (drop headSize) (parts l 0 (omega arith)) ∙ drop-at front (take (b - headSize) (sectionOf m y ++ t)) headSize (front-length f l n p) in
-      let w′ : headSize + bodySize k 0 m ≤ b = subst (λ (i : ℕ). headSize + bodySize k 0 (places i n) ≤ b) il w in
-      ap₂ (λ (i a : ℕ). take i (drop a s)) el es
-      ∙ bytes-whole s y t k m headSize (b - headSize) d (length-approx f l x n (r .size)) (omega arith)
+    -- the walk through the sections of its last j levels
+    walk-parts : (i j : ℕ) → i + j ≡ l → walkOf t k j (places i n) z ≡ reach k j (places i n) z (b - z)
+    walk-parts i j q =
+        let r = d .recording in
+        let y = approxAt f i x in
+        let body = bodyOf f j (places i n) y in
+        let rest = restOf f i n x in
+        let same : bodyOf f l n x ≡ body ++ rest = ap (λ (m : ℕ). bodyOf f m n x) (sym q) ∙ body-deeper f i j n x in
+        let room : b - z ≤ length (body ++ rest) = omega (arith, ap length same, body-length f l n x (r .size)) in
+        ap (λ (u : List ℕ). walkOf u k j (places i n) z) (parts i j q)
+        ∙ subst (λ (a : ℕ). walkOf (d .front ++ take (b - z) (body ++ rest)) k j (places i n) a ≡ reach k j (places i n) a (b - z)) (d .long)
+        (walk-cut f j (places i n) y (d .front) rest (b - z) (length-approx f i x n (r .size)) (omega (arith, r .most, places-le i n)) room)
 
-  -- section j + 2 is the details of level l - j, of the approximations of the level before it
-  pub section-details : (j : ℕ) → j < l → upTo (widthOf f) l n (j + 2) ≤ b
-      → take (lengthOf (take b (fileOf f l p x)) (j + 2)) (drop (startOf (take b (fileOf f l p x)) (j + 2)) (take b (fileOf f l p x))) ≡ highOf f (approxAt f (l - 1 - j) x)
-  unfolding bodyOf
-  section-details j h w =
-      let k = widthOf f in
-      let s = take b (fileOf f l p x) in
-      let front = frontOf f l n p in
-      let i = l - 1 - j in
-      let y = approxAt f i x in
-      let m = places i n in
-      let t = restOf f i n x in
-      let ey = length-approx f i x n (r .size) in
-      let body = bodyOf f j (ups m) (lowOf f y) in
-      let sec = sectionOf (downs m) (highOf f y) in
-      let z = bodySize k j (ups m) in
-      let g = b - headSize in
-      let sw = split-width k m in
-      let ij : l + 1 - (j + 2) ≡ i = omega arith in
-      let jj : j + 2 - 1 ≡ suc j = omega arith in
-      let el : lengthOf s (j + 2) ≡ k * downs m =
-      length-is (j + 2) ∙ ap₂ (λ (a d : ℕ). k * lastCount a (places d n)) jj ij ∙ ap (λ (a : Bool). k * cond a m (downs m)) (ne-eqb (suc j) 0 (λ q. omega arith)) in
-      let up : upTo k l n (j + 2) ≡ headSize + bodySize k (suc j) m = ap₂ (λ (a d : ℕ). headSize + bodySize k a (places d n)) jj ij in
-      let w′ : headSize + bodySize k (suc j) m ≤ b = subst (λ (a : ℕ). a ≤ b) up w in
-      let es : startOf s (j + 2) ≡ headSize + z + 4 =
-      start-is (j + 2) (omega arith) (omega arith) w ∙ ap₂ (λ (a d : ℕ). a - d) up (sym (length-is (j + 2)) ∙ el) ∙ start-at k j m in
-      let whole : (body ++ sec) ++ t ≡ body ++ (sec ++ t) = append-assoc body sec t in
-      let lb = body-length f j (ups m) (lowOf f y) (length-low f y m ey) in
-      let d : drop (headSize + z) s ≡ take (g - z) (sec ++ t) =
-      ap (drop (headSize + z)) (parts i (suc j) (omega arith) ∙ ap (λ (u : List ℕ). front ++ take g u) whole)
-      ∙ subst (λ (a : ℕ). drop (a + z) (front ++ take g (body ++ (sec ++ t))) ≡ take (g - z) (sec ++ t)) (front-length f l n p) (past front body (sec ++ t) z g lb (omega arith)) in
-      ap₂ (λ (q a : ℕ). take q (drop a s)) el es
-      ∙ bytes-whole s (highOf f y) t k (downs m) (headSize + z) (g - z) d (length-high f y m ey) (within-at k j m b w′)
+    -- the walk through section q
+    pub way-to : (q : ℕ) → 1 ≤ q → q ≤ l + 1 → wayTo t h q ≡ reach k (q - 1) (places (l + 1 - q) n) z (b - z)
+    way-to q some most = ap (λ (i : Head). wayTo t i q) (d .head b c) ∙ walk-parts (l + 1 - q) (q - 1) (omega arith)
 
--- cut in section 0, whatever the number
-pub section-early : (f : Filter) (l n p : ℕ) (x : List ℕ) → Recording f l n p x → (b q : ℕ) → b < headSize → saySection (take b (fileOf f l p x)) (widthOf f) p q ≡ CutShort b
-unfolding saySection
-section-early f l n p x r b q h =
-    let s = take b (fileOf f l p x) in
-    let size : length s ≡ b = cut-length f l n p x b (r .size) (omega arith) in
-    sym (by _ (le-ltb mostBytes (length s) (omega arith)) (stop _ (lt-ltb (length s) headSize (omega arith)) (ap CutShort (sym size))))
+    -- where it is whole
+    went : (q : ℕ) → 1 ≤ q → q ≤ l + 1 → upTo z k l n q ≤ b → wayTo t h q ≡ Went (upTo z k l n q)
+    went q some most up = way-to q some most ∙ sym (reach-whole k (q - 1) (places (l + 1 - q) n) z (b - z) (omega arith))
+
+    -- how many bytes section q has
+    pub length-is : (q : ℕ) → lengthOf h q ≡ k * lastCount (q - 1) (places (l + 1 - q) n)
+    length-is q = ap (λ (i : Head). lengthOf i q) (d .head b c)
+
+    -- where they start, if the section is whole
+    pub start-is : (q : ℕ) → 1 ≤ q → q ≤ l + 1 → upTo z k l n q ≤ b → startOf t h q ≡ upTo z k l n q - k * lastCount (q - 1) (places (l + 1 - q) n)
+    start-is q some most up = ap₂ (λ (v : Way) (m : ℕ). endBy v - m) (went q some most up) (length-is q)
+
+    -- section 0 and the number let by
+    by-number : (q : ℕ) → 1 ≤ q → q ≤ l + 1 → (m : List Check) (w : Refusal) → firstOf (headChecks t k p ++ (numberChecks q (h .levels) ++ m)) w ≡ firstOf m w
+    by-number q some most m w =
+        let el = ap (λ (i : Head). i .levels) (d .head b c) in
+        pass-on (headChecks t k p) (numberChecks q (h .levels) ++ m) w (d .passes b c e)
+        ∙ pass-on (numberChecks q (h .levels)) m w (ne-eqb q 0 (λ z. omega arith), (le-ltb (h .levels + 1) q (omega arith), tt))
+
+    -- a section that is whole is found
+    pub section-found : (q : ℕ) → 1 ≤ q → q ≤ l + 1 → upTo z k l n q ≤ b → saySection t k p q ≡ Done (startOf t h q) (lengthOf h q)
+    unfolding saySection
+    section-found q some most up =
+        let end = Done (startOf t h q) (lengthOf h q) in
+        by-number q some most (sectionChecks (wayTo t h q) (length t)) end ∙ ap (λ (v : Way). firstOf (sectionChecks v (length t)) end) (went q some most up)
+
+    -- "a cut at or before it is 10"
+    pub section-cut : (q : ℕ) → 1 ≤ q → q ≤ l + 1 → b < upTo z k l n q → saySection t k p q ≡ CutShort b
+    unfolding saySection
+    section-cut q some most up =
+        let m = places (l + 1 - q) n in
+        let j = b - z in
+        let end = Done (startOf t h q) (lengthOf h q) in
+        by-number q some most (sectionChecks (wayTo t h q) (length t)) end
+        ∙ ⊎-elim
+        (λ (a : j < bodySize k 0 (places (q - 1) m)). short-stops (wayTo t h q) 1 (length t) end (way-to q some most ∙ reach-none k (q - 1) m z j a))
+        (λ (a : bodySize k 0 (places (q - 1) m) ≤ j). short-stops (wayTo t h q) (wholeIn k (q - 1) m j + 2) (length t) end (way-to q some most ∙ reach-short k (q - 1) m z j a (omega arith)))
+        (lt-or-le j (bodySize k 0 (places (q - 1) m)))
+        ∙ ap CutShort (cut-length d b e)
+
+    -- section 1 is the deepest approximations
+    pub section-approx : upTo z k l n 1 ≤ b → take (lengthOf h 1) (drop (startOf t h 1) t) ≡ approxAt f l x
+    unfolding bodyOf
+    section-approx up =
+        let y = approxAt f l x in
+        let rest = restOf f l n x in
+        let m = places l n in
+        let il : l + 1 - 1 ≡ l = omega arith in
+        let el : lengthOf h 1 ≡ k * m = length-is 1 ∙ ap (λ (i : ℕ). k * places i n) il in
+        let es : startOf t h 1 ≡ z + 4 = start-is 1 (omega arith) (omega arith) up ∙ ap (λ (i : ℕ). z + bodySize k 0 (places i n) - k * places i n) il ∙ omega arith in
+        let after : drop z t ≡ take (b - z) (sectionOf m y ++ rest) =
+        ap (drop z) (parts l 0 (omega arith)) ∙ drop-at (d .front) (take (b - z) (sectionOf m y ++ rest)) z (d .long) in
+        let up′ : z + bodySize k 0 m ≤ b = subst (λ (i : ℕ). z + bodySize k 0 (places i n) ≤ b) il up in
+        ap₂ (λ (i a : ℕ). take i (drop a t)) el es
+        ∙ bytes-whole t y rest k m z (b - z) after (length-approx f l x n (d .recording .size)) (omega arith)
+
+    -- section j + 2 is the details of level l - j, of the approximations of the level before it
+    pub section-details : (j : ℕ) → j < l → upTo z k l n (j + 2) ≤ b → take (lengthOf h (j + 2)) (drop (startOf t h (j + 2)) t) ≡ highOf f (approxAt f (l - 1 - j) x)
+    unfolding bodyOf
+    section-details j less up =
+        let i = l - 1 - j in
+        let y = approxAt f i x in
+        let m = places i n in
+        let rest = restOf f i n x in
+        let ey = length-approx f i x n (d .recording .size) in
+        let body = bodyOf f j (ups m) (lowOf f y) in
+        let sec = sectionOf (downs m) (highOf f y) in
+        let a = bodySize k j (ups m) in
+        let g = b - z in
+        let sw = split-width k m in
+        let ij : l + 1 - (j + 2) ≡ i = omega arith in
+        let jj : j + 2 - 1 ≡ suc j = omega arith in
+        let el : lengthOf h (j + 2) ≡ k * downs m =
+        length-is (j + 2) ∙ ap₂ (λ (a d : ℕ). k * lastCount a (places d n)) jj ij ∙ ap (λ (a : Bool). k * cond a m (downs m)) (ne-eqb (suc j) 0 (λ q. omega arith)) in
+        let eu : upTo z k l n (j + 2) ≡ z + bodySize k (suc j) m = ap₂ (λ (a d : ℕ). z + bodySize k a (places d n)) jj ij in
+        let up′ : z + bodySize k (suc j) m ≤ b = subst (λ (a : ℕ). a ≤ b) eu up in
+        let es : startOf t h (j + 2) ≡ z + a + 4 =
+        start-is (j + 2) (omega arith) (omega arith) up ∙ ap₂ (λ (a d : ℕ). a - d) eu (sym (length-is (j + 2)) ∙ el) ∙ start-at z k j m in
+        let whole : (body ++ sec) ++ rest ≡ body ++ (sec ++ rest) = append-assoc body sec rest in
+        let lb = body-length f j (ups m) (lowOf f y) (length-low f y m ey) in
+        let after : drop (z + a) t ≡ take (g - a) (sec ++ rest) =
+        ap (drop (z + a)) (parts i (suc j) (omega arith) ∙ ap (λ (u : List ℕ). d .front ++ take g u) whole)
+        ∙ subst (λ (i : ℕ). drop (i + a) (d .front ++ take g (body ++ (sec ++ rest))) ≡ take (g - a) (sec ++ rest)) (d .long) (past (d .front) body (sec ++ rest) a g lb (omega arith)) in
+        ap₂ (λ (q i : ℕ). take q (drop i t)) el es
+        ∙ bytes-whole t (highOf f y) rest k (downs m) (z + a) (g - a) after (length-high f y m ey) (within-at z k j m b up′)

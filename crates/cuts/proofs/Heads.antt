@@ -1,155 +1,95 @@
--- Section 0 of a file that was written is read back from any 14 bytes or more of it, and the checks that opening makes of it let it by.
-use mathlib.Core.Bool.{true, not}
-use mathlib.Core.List.{List, [], _++_, append-nil}
-use mathlib.Core.Path.{_≡_, refl, sym, ap, _∙_}
-use Prim.Native.Nat.{ℕ, _+_, _-_, _*_, _^_, _≤_, _<_}
+-- A file that was written is a file of its recording: section 0 is read back from any 14 bytes or more of it, and the checks that opening makes of it let it by.
+use mathlib.Core.Bool.{not}
+use mathlib.Core.List.{List, _++_}
+use mathlib.Core.Path.{_≡_, refl, sym, ap, subst, _∙_}
+use Prim.Native.Nat.{ℕ, _+_, _≤_, _<_}
 use native.Mathlib.Nat.{mul-le-mul-right}
 use native.Mathlib.Omega.{arith}
-use borrow.Author.Tests.{le-ltb, ne-eqb}
+use borrow.Author.Tests.{lt-ltb, le-ltb, ne-eqb}
 use lib.ListN.{length, take}
-use lib.Seq.{length-take-le, take-append-add}
-use Rattle.answers.specs.declared.err.Refusal.the-variants.{MinFilterSize}
-use Rattle.answers.proofs.Chain.{same}
+use lib.Seq.{length-take-le}
+use Rattle.answers.specs.declared.err.Refusal.{Refusal}
+use Rattle.answers.specs.declared.err.Refusal.the-variants.{CutShort}
+use Rattle.answers.specs.Checks.{Check, firstOf}
+use Rattle.answers.proofs.Chain.{by, stop, same}
 use Rattle.answers.proofs.Passed.{Passing}
 use Rattle.sizes.specs.declared.Wavelet.the-variants.{Cdf53}
 use Rattle.sizes.specs.Bands.{mostSamples}
 use Rattle.sizes.specs.Levels.{depthOf}
 use Rattle.sizes.proofs.Depths.{depth-at-most}
-use Rattle.samples.specs.Le.{Bytes, leAt, leBytes}
-use Rattle.samples.specs.Integers.{isWidth}
+use Rattle.samples.specs.Le.{leAt, leBytes}
 use Rattle.samples.proofs.LeLaws.{leAt-take}
 use Rattle.dwt.specs.declared.filter.Filter.{Filter}
-use Rattle.dwt.specs.declared.filter.Filter.the-variants.{Cdf53I8, Cdf53I16, Cdf53I32, Cdf53F32, Cdf53F64, Cdf97F32, Cdf97F64}
-use Rattle.dwt.specs.Filters.{widthOf, Integers}
-use Rattle.dwt.specs.Calls.{short}
-use Rattle.pyramid.specs.Files.{mostBytes, Head, headCount, headSize, bodyOf, fileOf, fileSize}
-use Rattle.pyramid.specs.Opens.{filterOf, headIn, headChecks}
-use Rattle.cuts.proofs.Sized.{frontOf, front-length, file-parts, file-length}
+use Rattle.dwt.specs.Filters.{widthOf}
+use Rattle.pyramid.specs.declared.head.Head.{Head}
+use Rattle.pyramid.specs.Files.{mostBytes, headCount, headOf, headSize, bodyOf, fileOf, fileSize}
+use Rattle.pyramid.specs.Opens.{headIn, fieldChecks, headChecks}
+use Rattle.pyramid.proofs.Writing.{head-length, file-parts}
+use Rattle.cuts.proofs.Sized.{file-length}
+use Rattle.cuts.proofs.Filed.{Recording, common, Filed}
 
--- a recording that can be written: x are the bytes of n samples of an integer filter f, for l levels and for point p
-pub record Recording (f : Filter) (l n p : ℕ) (x : List ℕ) : Type 0 where
-  pub integers : Integers f
-  pub bytes : Bytes x
-  pub size : length x ≡ widthOf f * n
-  pub least : 3 ≤ n
-  pub most : n ≤ mostSamples
-  pub some : 1 ≤ l
-  pub deep : l ≤ depthOf Cdf53 n
-  pub point : p < 2 ^ 32
+module _ {f : Filter} {l n p : ℕ} {x : List ℕ} (r : Recording f l n p x) where
+  abbrev k : ℕ
+  k = widthOf f
 
--- what the integer filters have in common
-pub record Common (f : Filter) : Type 0 where
-  pub width : isWidth (widthOf f) ≡ true
-  pub again : filterOf (widthOf f) ≡ f
-  pub narrow : widthOf f ≤ 4
-  pub early : (n : ℕ) → short f n ≡ MinFilterSize n 3
+  abbrev s : List ℕ
+  s = fileOf f l p x
 
--- each of them has it
-pub common : (f : Filter) → Integers f → Common f
-common Cdf53I8 i = record { width = refl; again = refl; narrow = omega arith; early = λ n. refl }
-common Cdf53I16 i = record { width = refl; again = refl; narrow = omega arith; early = λ n. refl }
-common Cdf53I32 i = record { width = refl; again = refl; narrow = omega arith; early = λ n. refl }
-common Cdf53F32 i = absurd i
-common Cdf53F64 i = absurd i
-common Cdf97F32 i = absurd i
-common Cdf97F64 i = absurd i
+  parts : s ≡ headOf k l n p ++ bodyOf f l n x
+  parts = file-parts f l p n x (r .size)
 
--- what is left of a file that was cut after section 0: section 0, and of the rest so many bytes less
-pub cut-parts : (f : Filter) (l p n : ℕ) (x : List ℕ) (b : ℕ) → length x ≡ widthOf f * n → headSize ≤ b
-    → take b (fileOf f l p x) ≡ frontOf f l n p ++ take (b - headSize) (bodyOf f l n x ++ [])
-cut-parts f l p n x b h c =
-    let front = frontOf f l n p in
-    let body = bodyOf f l n x in
-    let q : b ≡ length front + (b - headSize) = omega (arith, front-length f l n p) in
-    ap (λ (s : List ℕ). take b s) (file-parts f l p n x h)
-    ∙ ap (λ (i : ℕ). take i (front ++ body)) q
-    ∙ take-append-add front body (b - headSize)
-    ∙ ap (λ (s : List ℕ). front ++ take (b - headSize) s) (sym (append-nil body))
+  -- its levels are few
+  few : l ≤ 23
+  few = omega (arith, r .deep, depth-at-most 23 n (r .most))
 
-module _ (f : Filter) (l p n : ℕ) (x : List ℕ) (b : ℕ) (h : length x ≡ widthOf f * n) (c : headSize ≤ b) where
-  -- its count
-  pub count-read : leAt 4 (take b (fileOf f l p x)) 0 ≡ headCount
+  -- so it is not too long
+  most : fileSize headSize k l n ≤ mostBytes
+  most = let g = mul-le-mul-right n (common f (r .integers) .narrow) in omega (arith, few, r .most)
+
+  size : (b : ℕ) → b ≤ fileSize headSize k l n → length (take b s) ≡ b
+  size b e = length-take-le b s (omega (arith, file-length f l n headSize x (headOf k l n p) s (r .size) (head-length k l n p) parts))
+
+  -- a number of j bytes in section 0, of the first b bytes
+  number-read : (j q b : ℕ) → q + j ≤ headSize → headSize ≤ b → leAt j (take b s) q ≡ leAt j (headOf k l n p ++ bodyOf f l n x) q
+  number-read j q b h c = leAt-take j b s q (omega arith) ∙ ap (λ (t : List ℕ). leAt j t q) parts
+
+  count-read : (b : ℕ) → headSize ≤ b → leAt 4 (take b s) 0 ≡ headCount
   unfolding leAt leBytes
-  count-read = leAt-take 4 b (fileOf f l p x) 0 (omega arith) ∙ ap (λ (s : List ℕ). leAt 4 s 0) (file-parts f l p n x h) ∙ refl
-
-  width-read : widthOf f ≤ 4 → leAt 1 (take b (fileOf f l p x)) 4 ≡ widthOf f
-  unfolding leAt leBytes
-  width-read g = leAt-take 1 b (fileOf f l p x) 4 (omega arith) ∙ ap (λ (s : List ℕ). leAt 1 s 4) (file-parts f l p n x h) ∙ omega arith
-
-  levels-read : l < 256 → leAt 1 (take b (fileOf f l p x)) 5 ≡ l
-  unfolding leAt leBytes
-  levels-read g = leAt-take 1 b (fileOf f l p x) 5 (omega arith) ∙ ap (λ (s : List ℕ). leAt 1 s 5) (file-parts f l p n x h) ∙ omega arith
-
-  samples-read : n < 2 ^ 32 → leAt 4 (take b (fileOf f l p x)) 6 ≡ n
-  unfolding leAt leBytes
-  samples-read g = leAt-take 4 b (fileOf f l p x) 6 (omega arith) ∙ ap (λ (s : List ℕ). leAt 4 s 6) (file-parts f l p n x h) ∙ omega arith
-
-  point-read : p < 2 ^ 32 → leAt 4 (take b (fileOf f l p x)) 10 ≡ p
-  unfolding leAt leBytes
-  point-read g = leAt-take 4 b (fileOf f l p x) 10 (omega arith) ∙ ap (λ (s : List ℕ). leAt 4 s 10) (file-parts f l p n x h) ∙ omega arith
+  count-read b c = number-read 4 0 b (omega arith) c ∙ refl
 
   -- what section 0 says is what was written
-  pub head-read : widthOf f ≤ 4 → l < 256 → n < 2 ^ 32 → p < 2 ^ 32
-      → headIn (take b (fileOf f l p x)) ≡ record { width = widthOf f; levels = l; samples = n; point = p }
-  head-read gw gl gn gp = λ i. record { width = width-read gw i; levels = levels-read gl i; samples = samples-read gn i; point = point-read gp i }
+  head-read : (b : ℕ) → headSize ≤ b → headIn (take b s) ≡ record { width = k; levels = l; samples = n; point = p; body = headSize }
+  unfolding leAt leBytes
+  head-read b c =
+      let ek : leAt 1 (take b s) 4 ≡ k = number-read 1 4 b (omega arith) c ∙ omega (arith, common f (r .integers) .narrow) in
+      let el : leAt 1 (take b s) 5 ≡ l = number-read 1 5 b (omega arith) c ∙ omega (arith, few) in
+      let en : leAt 4 (take b s) 6 ≡ n = number-read 4 6 b (omega arith) c ∙ omega (arith, r .most) in
+      let ep : leAt 4 (take b s) 10 ≡ p = number-read 4 10 b (omega arith) c ∙ omega (arith, r .point) in
+      λ i. record { width = ek i; levels = el i; samples = en i; point = ep i; body = headSize }
 
--- the levels of a recording are few
-pub levels-at-most : {f : Filter} {l n p : ℕ} {x : List ℕ} → Recording f l n p x → l ≤ 23
-levels-at-most {n = n} r = omega (arith, r .deep, depth-at-most 23 n (r .most))
+  -- the checks of section 0 let the file by
+  fields-pass : Passing (fieldChecks (record { width = k; levels = l; samples = n; point = p; body = headSize }) k p)
+  fields-pass = (
+    same k k refl,
+    (
+      ap not (common f (r .integers) .width),
+      (le-ltb n 3 (r .least), (le-ltb mostSamples n (r .most), (ne-eqb l 0 (λ z. omega (arith, r .some)), (le-ltb (depthOf Cdf53 n) l (r .deep), (same p p refl, tt))))),
+    ),
+  )
 
--- so the file is not too long
-pub file-most : (f : Filter) (l n p : ℕ) (x : List ℕ) → Recording f l n p x → fileSize (widthOf f) l n ≤ mostBytes
-file-most f l n p x r =
-    let g = levels-at-most r in
-    let w = mul-le-mul-right n (common f (r .integers) .narrow) in
-    omega (arith, r .most)
+  heads-pass : (b : ℕ) → headSize ≤ b → b ≤ fileSize headSize k l n → Passing (headChecks (take b s) k p)
+  heads-pass b c e = (
+    le-ltb mostBytes (length (take b s)) (omega (arith, size b e, most)),
+    (
+      le-ltb (length (take b s)) headSize (omega (arith, size b e)),
+      (same (leAt 4 (take b s) 0) headCount (count-read b c), subst (λ (h : Head). Passing (fieldChecks h k p)) (sym (head-read b c)) fields-pass),
+    ),
+  )
 
--- how much is left
-pub cut-length : (f : Filter) (l n p : ℕ) (x : List ℕ) (b : ℕ) → length x ≡ widthOf f * n → b ≤ fileSize (widthOf f) l n → length (take b (fileOf f l p x)) ≡ b
-cut-length f l n p x b h c = length-take-le b (fileOf f l p x) (omega (arith, file-length f l p n x h))
+  early : (b : ℕ) → b < headSize → (m : List Check) (e : Refusal) → firstOf (headChecks (take b s) k p ++ m) e ≡ CutShort b
+  early b h m e =
+      let z = size b (omega arith) in
+      sym (by _ (le-ltb mostBytes (length (take b s)) (omega arith)) (stop _ (lt-ltb (length (take b s)) headSize (omega arith)) (ap CutShort (sym z))))
 
--- the header of a recording's file
-pub head-is : (f : Filter) (l n p : ℕ) (x : List ℕ) (b : ℕ) → Recording f l n p x → headSize ≤ b
-    → headIn (take b (fileOf f l p x)) ≡ record { width = widthOf f; levels = l; samples = n; point = p }
-head-is f l n p x b r c = head-read f l p n x b (r .size) c (common f (r .integers) .narrow) (omega (arith, levels-at-most r)) (omega (arith, r .most)) (r .point)
-
--- the checks of section 0 let the file by
-pub own-head-passes : (f : Filter) (l n p : ℕ) (x : List ℕ) (b : ℕ) → Recording f l n p x → headSize ≤ b → b ≤ fileSize (widthOf f) l n
-    → Passing (headChecks (take b (fileOf f l p x)) (widthOf f) p)
-own-head-passes f l n p x b r c e =
-    let s = take b (fileOf f l p x) in
-    let k = widthOf f in
-    let w = head-is f l n p x b r c in
-    let ew : leAt 1 s 4 ≡ k = ap (λ (h : Head). h .width) w in
-    let el : leAt 1 s 5 ≡ l = ap (λ (h : Head). h .levels) w in
-    let en : leAt 4 s 6 ≡ n = ap (λ (h : Head). h .samples) w in
-    let ep : leAt 4 s 10 ≡ p = ap (λ (h : Head). h .point) w in
-    let size : length s ≡ b = cut-length f l n p x b (r .size) e in
-    let most = file-most f l n p x r in (
-      le-ltb mostBytes (length s) (omega arith),
-      (
-        le-ltb (length s) headSize (omega arith),
-        (
-          same (leAt 4 s 0) headCount (count-read f l p n x b (r .size) c),
-          (
-            same (leAt 1 s 4) k ew,
-            (
-              ap not (common f (r .integers) .width),
-              (
-                le-ltb (leAt 4 s 6) 3 (omega (arith, r .least)),
-                (
-                  le-ltb mostSamples (leAt 4 s 6) (omega (arith, r .most)),
-                  (
-                    ne-eqb (leAt 1 s 5) 0 (λ z. omega (arith, r .some)),
-                    (
-                      le-ltb (depthOf Cdf53 (leAt 4 s 6)) (leAt 1 s 5) (omega (arith, r .deep, ap (depthOf Cdf53) en)),
-                      (same (leAt 4 s 10) p ep, tt),
-                    ),
-                  ),
-                ),
-              ),
-            ),
-          ),
-        ),
-      ),
-    )
+  pub filed : Filed headSize f l n p x (fileOf f l p x)
+  filed = record { recording = r; front = headOf k l n p; long = head-length k l n p; parts = parts; head = head-read; passes = heads-pass; early = early }

@@ -1,10 +1,12 @@
 pub mod Sized
 pub mod CutWalk
 pub mod Restored
+pub mod Filed
 pub mod Heads
 pub mod Whole
 pub mod Survives
 pub mod Answers
+pub mod Opened
 pub mod Bands
 pub mod Kept
 pub mod WriteFits

@@ -1,5 +1,5 @@
--- What the sections of a file restore: all of them the samples, and those that are whole in a cut file the approximations of the level that they reach. Of a
--- filter whose level undoes itself, as each integer filter's does.
+-- What the sections of a file restore: all of them the samples, and those that are whole in a cut file the approximations of the level that they reach. Each of
+-- the integer filters.
 use mathlib.Core.List.{List, _++_, append-assoc}
 use mathlib.Core.Logic.{⊎-elim}
 use mathlib.Core.Path.{_≡_, refl, sym, ap, ap₂, subst, _∙_}
@@ -14,14 +14,16 @@ use Rattle.sizes.specs.Levels.{places, depthOf}
 use Rattle.sizes.proofs.Depths.{step, two-below}
 use Rattle.samples.specs.Le.{Bytes, leBytes}
 use Rattle.samples.proofs.LeLaws.{length-leBytes}
+use Rattle.cdf53i.specs.Bands.{back}
 use Rattle.dwt.specs.declared.filter.Filter.{Filter}
-use Rattle.dwt.specs.Filters.{widthOf, waveletOf, lowOf, highOf, backOf}
+use Rattle.dwt.specs.Filters.{widthOf, waveletOf, lowOf, highOf, Integers}
 use Rattle.dwt.specs.Pyramids.{approxAt}
 use Rattle.dwt.proofs.Cuts.{split-width}
 use Rattle.trips.proofs.Lengths.{length-low, length-high}
-use Rattle.trips.proofs.Undone.{Undoes}
+use Rattle.trips.proofs.Undone.{Undoes, undoes}
 use Rattle.pyramid.specs.Files.{sectionOf, bodyOf, bodySize}
-use Rattle.pyramid.specs.Walks.{bytesAt, restoredOf}
+use Rattle.pyramid.specs.Walks.{bytesAt, restoredAt}
+use Rattle.pyramid.proofs.Parts.{back-is}
 use Rattle.cuts.specs.Sees.{wholeIn}
 use Rattle.cuts.proofs.Sized.{body-length}
 use Rattle.cuts.proofs.CutWalk.{past}
@@ -58,11 +60,14 @@ pub whole-less : (k l n b : ℕ) → b < bodySize k (suc l) n → wholeIn k (suc
 unfolding wholeIn
 whole-less k l n b h = rw (lt-leb (bodySize k (suc l) n) b h)
 
-module _ (f : Filter) (u : Undoes f) where
+module _ (f : Filter) (int : Integers f) where
+  u : Undoes f
+  u = undoes f int
+
   -- sections that are all there restore the samples, after any front, and whatever stands behind them
   pub restored-whole : (l n : ℕ) (x front t : List ℕ) (b : ℕ) → Bytes x → length x ≡ widthOf f * n → l ≤ depthOf (waveletOf f) n → bodySize (widthOf f) l n ≤ b
-      → restoredOf f (front ++ take b (bodyOf f l n x ++ t)) l n (length front) ≡ x
-  unfolding restoredOf bodyOf
+      → restoredAt (widthOf f) (front ++ take b (bodyOf f l n x ++ t)) l n (length front) ≡ x
+  unfolding restoredAt bodyOf
   restored-whole zero n x front t b v h g c =
       bytes-whole (front ++ take b (sectionOf n x ++ t)) x t (widthOf f) n (length front) b (drop-at front (take b (sectionOf n x ++ t)) (length front) refl) h (omega arith)
   restored-whole (suc l) n x front t b v h g c =
@@ -79,15 +84,15 @@ module _ (f : Filter) (u : Undoes f) where
       let lb = body-length f l (ups n) a ea in
       let sw = split-width k n in
       let st = step (smallestOf w) (two-below w) l n g in
-      let inner : restoredOf f s l (ups n) (length front) ≡ a = restored-whole l (ups n) a front r b (u .low-bytes x) ea (st .1) (omega arith) in
+      let inner : restoredAt (widthOf f) s l (ups n) (length front) ≡ a = restored-whole l (ups n) a front r b (u .low-bytes x) ea (st .1) (omega arith) in
       let outer : bytesAt k s (downs n) (length front + z) ≡ d =
       bytes-whole s d t k (downs n) (length front + z) (b - z) (past front body r z b lb (omega arith)) (length-high f x n h) (omega arith) in
-      subst (λ (y : List ℕ). restoredOf f (front ++ take b y) (suc l) n (length front) ≡ x) (sym whole)
-      (ap₂ (λ (y q : List ℕ). backOf f y q) inner outer ∙ u .there x n v h (omega (arith, st .0, two-below w)))
+      subst (λ (y : List ℕ). restoredAt (widthOf f) (front ++ take b y) (suc l) n (length front) ≡ x) (sym whole)
+      (ap₂ (back k) inner outer ∙ ap (λ g. g a d) (sym (back-is f int)) ∙ u .there x n v h (omega (arith, st .0, two-below w)))
 
   -- sections of which the first b bytes are there: those that are whole restore the approximations of the level that they reach
   pub restored-cut : (l n : ℕ) (x front t : List ℕ) (b : ℕ) → Bytes x → length x ≡ widthOf f * n → l ≤ depthOf (waveletOf f) n → bodySize (widthOf f) 0 (places l n) ≤ b
-      → restoredOf f (front ++ take b (bodyOf f l n x ++ t)) (wholeIn (widthOf f) l n b) (places (l - wholeIn (widthOf f) l n b) n) (length front)
+      → restoredAt (widthOf f) (front ++ take b (bodyOf f l n x ++ t)) (wholeIn (widthOf f) l n b) (places (l - wholeIn (widthOf f) l n b) n) (length front)
       ≡ approxAt f (l - wholeIn (widthOf f) l n b) x
   unfolding bodyOf places approxAt wholeIn
   restored-cut zero n x front t b v h g c = restored-whole zero n x front t b v h g c

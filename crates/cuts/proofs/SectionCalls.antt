@@ -20,44 +20,46 @@ use Rattle.dwt.specs.Pyramids.{approxAt}
 use Rattle.dwt.specs.Calls.{sayMulti, Multi}
 use Rattle.trips.proofs.ThereAndBack.{call-approx, call-level}
 use Rattle.pyramid.specs.Files.{headSize, fileOf, fileSize}
-use Rattle.pyramid.specs.Opens.{lengthOf, startOf, sectionIn}
-use Rattle.pyramid.specs.Writes.{sayWrite, Write}
-use Rattle.cuts.proofs.Heads.{Recording}
+use Rattle.pyramid.specs.Opens.{headIn, lengthOf, startOf, sectionIn}
+use Rattle.pyramid.specs.Writes.{Write}
+use Rattle.cuts.proofs.Filed.{Filed}
 use Rattle.cuts.proofs.Bands.{upTo, section-found, section-approx, section-details}
-use Rattle.cuts.proofs.Kept.{recorded, front-in}
+use Rattle.cuts.proofs.Kept.{written, front-in}
 
 -- every section ends within the file
-up-most : (k l n j : ℕ) → j ≤ l → upTo k l n (1 + j) ≤ fileSize k l n
-up-most k l n j h =
+up-most : (z k l n j : ℕ) → j ≤ l → upTo z k l n (1 + j) ≤ fileSize z k l n
+up-most z k l n j h =
     let e : 1 + j - 1 ≡ j = omega arith in
     let q = places-le (l + 1 - (1 + j)) n in
     omega (arith, e, mul-le-mul-left k q)
 
 -- in the first c bytes of a recording's file
-module _ (f : Filter) (l n p : ℕ) (x : List ℕ) (r : Recording f l n p x) (c : ℕ) (e : c ≤ fileSize (widthOf f) l n) where
-  headed : (q : ℕ) → upTo (widthOf f) l n q ≤ c → headSize ≤ c
+module _ {z : ℕ} {f : Filter} {l n p : ℕ} {x s : List ℕ} (d : Filed z f l n p x s) (c : ℕ) (e : c ≤ fileSize z (widthOf f) l n) where
+  headed : (q : ℕ) → upTo z (widthOf f) l n q ≤ c → z ≤ c
   headed q up = omega arith
 
-  found-bytes : (q : ℕ) → 1 ≤ q → q ≤ l + 1 → upTo (widthOf f) l n q ≤ c → let s = take c (fileOf f l p x) in sectionIn s (widthOf f) p q ≡ take (lengthOf s q) (drop (startOf s q) s)
+  found-bytes : (q : ℕ) → 1 ≤ q → q ≤ l + 1 → upTo z (widthOf f) l n q ≤ c
+      → let t = take c s in let h = headIn t in sectionIn t (widthOf f) p q ≡ take (lengthOf h q) (drop (startOf t h q) t)
   unfolding sectionIn
-  found-bytes q h g up =
-      let s = take c (fileOf f l p x) in
-      ap (λ (t : Refusal). cond (done t) (take (lengthOf s q) (drop (startOf s q) s)) []) (section-found f l n p x r c (headed q up) e q h g up)
+  found-bytes q some most up =
+      let t = take c s in
+      let h = headIn t in
+      ap (λ (r : Refusal). cond (done r) (take (lengthOf h q) (drop (startOf t h q) t)) []) (section-found d c (headed q up) e q some most up)
 
-  file-first : upTo (widthOf f) l n 1 ≤ c → sectionIn (take c (fileOf f l p x)) (widthOf f) p 1 ≡ approxAt f l x
-  file-first up = found-bytes 1 (omega arith) (omega arith) up ∙ section-approx f l n p x r c (headed 1 up) e up
+  file-first : upTo z (widthOf f) l n 1 ≤ c → sectionIn (take c s) (widthOf f) p 1 ≡ approxAt f l x
+  file-first up = found-bytes 1 (omega arith) (omega arith) up ∙ section-approx d c (headed 1 up) e up
 
-  file-later : (j : ℕ) → 1 ≤ j → j ≤ l → upTo (widthOf f) l n (1 + j) ≤ c → sectionIn (take c (fileOf f l p x)) (widthOf f) p (1 + j) ≡ highOf f (approxAt f (l - j) x)
+  file-later : (j : ℕ) → 1 ≤ j → j ≤ l → upTo z (widthOf f) l n (1 + j) ≤ c → sectionIn (take c s) (widthOf f) p (1 + j) ≡ highOf f (approxAt f (l - j) x)
   file-later j some most up =
-      let k = widthOf f in
-      let s = take c (fileOf f l p x) in
+      let t = take c s in
+      let h = headIn t in
       let less : j - 1 < l = omega arith in
       let eq : j - 1 + 2 ≡ 1 + j = omega arith in
       let ei : l - 1 - (j - 1) ≡ l - j = omega arith in
-      let up′ : upTo k l n (j - 1 + 2) ≤ c = subst (λ (q : ℕ). upTo k l n q ≤ c) (sym eq) up in
+      let up′ : upTo z (widthOf f) l n (j - 1 + 2) ≤ c = subst (λ (q : ℕ). upTo z (widthOf f) l n q ≤ c) (sym eq) up in
       found-bytes (1 + j) (omega arith) (omega arith) up
-      ∙ ap (λ (q : ℕ). take (lengthOf s q) (drop (startOf s q) s)) (sym eq)
-      ∙ section-details f l n p x r c (headed (1 + j) up) e (j - 1) less up′
+      ∙ ap (λ (q : ℕ). take (lengthOf h q) (drop (startOf t h q) t)) (sym eq)
+      ∙ section-details d c (headed (1 + j) up) e (j - 1) less up′
       ∙ ap (λ (q : ℕ). highOf f (approxAt f q x)) ei
 
 -- both calls are done
@@ -74,8 +76,8 @@ module _ (f : Filter) (i : Integers f) (l p : ℕ) (hp : p < 2 ^ 32) (x : List �
   abbrev L : ℕ
   L = levelsOf l
 
-  written : Recording f L n p x
-  written = recorded f l p x (length b) (length u) (length v) i bx hp (is-done (sayWrite f l (length x) (length b) (length u) (length v)) a (w .answer) z)
+  file : Filed headSize f L n p x (fileOf f L p x)
+  file = written f l p x i bx hp b u v a b′ u′ v′ w z
 
   made : done (sayMulti f l (length x) (length o) (length g) (length h)) ≡ true
   made = is-done (sayMulti f l (length x) (length o) (length g) (length h)) r (m .answer) y
@@ -87,21 +89,21 @@ module _ (f : Filter) (i : Integers f) (l p : ℕ) (hp : p < 2 ^ 32) (x : List �
       sym (call-level f l x m made (L - j) (omega arith)) ∙ ap (λ (q : ℕ). take (k * downs (places (L - j) n)) (drop (k * places q n) o′)) e
 
   -- cut to c bytes, which have the section whole
-  pub section-in-cut : (c : ℕ) → c ≤ fileSize k L n
-      → (upTo k L n 1 ≤ c → sectionIn (take c b′) k p 1 ≡ take (k * places L n) o′)
-      × ((j : ℕ) → 1 ≤ j → j ≤ L → upTo k L n (1 + j) ≤ c → sectionIn (take c b′) k p (1 + j) ≡ take (k * downs (places (L - j) n)) (drop (k * places (L + 1 - j) n) o′))
+  pub section-in-cut : (c : ℕ) → c ≤ fileSize headSize k L n
+      → (upTo headSize k L n 1 ≤ c → sectionIn (take c b′) k p 1 ≡ take (k * places L n) o′)
+      × ((j : ℕ) → 1 ≤ j → j ≤ L → upTo headSize k L n (1 + j) ≤ c → sectionIn (take c b′) k p (1 + j) ≡ take (k * downs (places (L - j) n)) (drop (k * places (L + 1 - j) n) o′))
   section-in-cut c e =
       let front = front-in f l p x i bx hp b u v a b′ u′ v′ w z c e in (
-        λ up. ap (λ (s : List ℕ). sectionIn s k p 1) front ∙ file-first f L n p x written c e up ∙ sym (call-approx f l x m made),
+        λ up. ap (λ (s : List ℕ). sectionIn s k p 1) front ∙ file-first file c e up ∙ sym (call-approx f l x m made),
         λ j some most up.
             ap (λ (s : List ℕ). sectionIn s k p (1 + j)) front
-            ∙ file-later f L n p x written c e j some most up
+            ∙ file-later file c e j some most up
             ∙ level-at j some most,
       )
 
   -- the whole file: section 1 is the approximations, section 1 + j the details of level L + 1 - j
-  pub section-is-band : (sectionIn (take (fileSize k L n) b′) k p 1 ≡ take (k * places L n) o′)
-      × ((j : ℕ) → 1 ≤ j → j ≤ L → sectionIn (take (fileSize k L n) b′) k p (1 + j) ≡ take (k * downs (places (L - j) n)) (drop (k * places (L + 1 - j) n) o′))
+  pub section-is-band : (sectionIn (take (fileSize headSize k L n) b′) k p 1 ≡ take (k * places L n) o′)
+      × ((j : ℕ) → 1 ≤ j → j ≤ L → sectionIn (take (fileSize headSize k L n) b′) k p (1 + j) ≡ take (k * downs (places (L - j) n)) (drop (k * places (L + 1 - j) n) o′))
   section-is-band =
-      let t = section-in-cut (fileSize k L n) (omega arith) in
-      (t .0 (up-most k L n 0 (omega arith)), λ j some most. t .1 j some most (up-most k L n j most))
+      let t = section-in-cut (fileSize headSize k L n) (omega arith) in
+      (t .0 (up-most headSize k L n 0 (omega arith)), λ j some most. t .1 j some most (up-most headSize k L n j most))

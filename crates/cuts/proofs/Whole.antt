@@ -17,7 +17,7 @@ use Rattle.dwt.specs.Backward.{total}
 use Rattle.dwt.proofs.Cuts.{split-width}
 use Rattle.trips.proofs.Lengths.{length-lengths, places-total}
 use Rattle.pyramid.specs.declared.walk.Way.the-variants.{Short}
-use Rattle.pyramid.specs.Files.{headSize, bodySize}
+use Rattle.pyramid.specs.Files.{bodySize}
 use Rattle.cuts.specs.Sees.{firstWhole, needed, wholeOf, wholeIn, reach}
 use Rattle.cuts.proofs.CutWalk.{reach-whole}
 use Rattle.cuts.proofs.Restored.{whole-all, whole-most}
@@ -88,11 +88,10 @@ whole-first k (suc l) n b c =
     (lt-or-le b (bodySize k (suc l) n))
 
 -- the same of a whole file
-pub whole-is : (k l n b : ℕ) → needed k l n ≤ b → wholeIn k l n (b - headSize) ≡ wholeOf k l n b
-whole-is k l n b h =
-    let z = bodySize k 0 (places l n) in
-    let e : b - headSize - z ≡ b - needed k l n = omega arith in
-    whole-first k l n (b - headSize) (omega arith) ∙ ap (firstWhole k (lengthsOf l n)) e
+pub whole-is : (z k l n b : ℕ) → needed z k l n ≤ b → wholeIn k l n (b - z) ≡ wholeOf z k l n b
+whole-is z k l n b h =
+    let e : b - z - bodySize k 0 (places l n) ≡ b - needed z k l n = omega arith in
+    whole-first k l n (b - z) (omega arith) ∙ ap (firstWhole k (lengthsOf l n)) e
 
 -- ---- it is the largest such number
 
@@ -130,18 +129,18 @@ next-out k (suc l) n b c =
     (lt-or-le b (bodySize k (suc l) n))
 
 -- the sections up to that one are within b bytes
-pub whole-fits : (k l n b : ℕ) → needed k l n ≤ b → headSize + bodySize k (wholeOf k l n b) (places (l - wholeOf k l n b) n) ≤ b
-whole-fits k l n b c =
-    let j = b - headSize in
+pub whole-fits : (z k l n b : ℕ) → needed z k l n ≤ b → z + bodySize k (wholeOf z k l n b) (places (l - wholeOf z k l n b) n) ≤ b
+whole-fits z k l n b c =
+    let j = b - z in
     let f : bodySize k (wholeIn k l n j) (places (l - wholeIn k l n j) n) ≤ j = fits-in k l n j (omega arith) in
-    let g : bodySize k (wholeOf k l n b) (places (l - wholeOf k l n b) n) ≤ j = subst (λ (m : ℕ). bodySize k m (places (l - m) n) ≤ j) (whole-is k l n b c) f in
+    let g : bodySize k (wholeOf z k l n b) (places (l - wholeOf z k l n b) n) ≤ j = subst (λ (m : ℕ). bodySize k m (places (l - m) n) ≤ j) (whole-is z k l n b c) f in
     omega arith
 
 -- and with the next one they are not
-pub whole-next : (k l n b : ℕ) → needed k l n ≤ b → wholeOf k l n b < l → b < headSize + bodySize k (suc (wholeOf k l n b)) (places (l - suc (wholeOf k l n b)) n)
-whole-next k l n b c h =
-    let j = b - headSize in
-    let e = whole-is k l n b c in
+pub whole-next : (z k l n b : ℕ) → needed z k l n ≤ b → wholeOf z k l n b < l → b < z + bodySize k (suc (wholeOf z k l n b)) (places (l - suc (wholeOf z k l n b)) n)
+whole-next z k l n b c h =
+    let j = b - z in
+    let e = whole-is z k l n b c in
     let f : j < bodySize k (suc (wholeIn k l n j)) (places (l - suc (wholeIn k l n j)) n) = next-out k l n j (omega arith) in
-    let g : j < bodySize k (suc (wholeOf k l n b)) (places (l - suc (wholeOf k l n b)) n) = subst (λ (m : ℕ). j < bodySize k (suc m) (places (l - suc m) n)) e f in
+    let g : j < bodySize k (suc (wholeOf z k l n b)) (places (l - suc (wholeOf z k l n b)) n) = subst (λ (m : ℕ). j < bodySize k (suc m) (places (l - suc m) n)) e f in
     omega arith

@@ -14,11 +14,11 @@ use Rattle.dwt.specs.declared.filter.Filter.{Filter}
 use Rattle.dwt.specs.Filters.{widthOf, waveletOf}
 use Rattle.dwt.specs.Calls.{Ready}
 use Rattle.dwt.proofs.Cuts.{width-pos}
-use Rattle.pyramid.specs.Files.{fileSize}
+use Rattle.pyramid.specs.Files.{headSize, fileSize}
 use Rattle.pyramid.specs.Writes.{writeChecks, sayWrite}
 
 -- n samples that have the levels, a file area of b bytes with room for the file, and work areas of p and q samples
-pub write-fits : (f : Filter) (l n p q x b u v : ℕ) → Ready f (levelsOf l) n x u v → fileSize (widthOf f) (levelsOf l) n ≤ b → u ≡ widthOf f * p → v ≡ widthOf f * q
+pub write-fits : (f : Filter) (l n p q x b u v : ℕ) → Ready f (levelsOf l) n x u v → fileSize headSize (widthOf f) (levelsOf l) n ≤ b → u ≡ widthOf f * p → v ≡ widthOf f * q
     → sayWrite f l x b u v ≡ Done 0 0
 unfolding sayWrite
 write-fits f l n p q x b u v r room eu ev =
@@ -37,7 +37,7 @@ write-fits f l n p q x b u v r room eu ev =
             le-ltb mostSamples n (r .short),
             (
               le-ltb (depthOf (waveletOf f) n) (levelsOf l) (r .deep),
-              (le-ltb b (fileSize k (levelsOf l) n) room, (le-ltb p n up, (le-ltb q n vp, tt))),
+              (le-ltb b (fileSize headSize k (levelsOf l) n) room, (le-ltb p n up, (le-ltb q n vp, tt))),
             ),
           ),
         ),

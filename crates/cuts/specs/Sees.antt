@@ -1,5 +1,5 @@
 -- What the first b bytes of a file let see, from document 01: "a cut in section 1 is 10; later it ends the file there, and the broken section is ignored". Over
--- k bytes a sample, l levels and n samples.
+-- z bytes of section 0, k bytes a sample, l levels and n samples.
 use mathlib.Core.Bool.{cond}
 use mathlib.Core.List.{List, [], _∷_, _++_}
 use mathlib.Core.Path.{_≡_}
@@ -16,7 +16,7 @@ use Rattle.dwt.specs.Filters.{widthOf}
 use Rattle.dwt.specs.Pyramids.{approxAt, lengthsOf}
 use Rattle.pyramid.specs.declared.walk.Way.{Way}
 use Rattle.pyramid.specs.declared.walk.Way.the-variants.{Went, Short, Wrong}
-use Rattle.pyramid.specs.Files.{headSize, bodySize, fileSize}
+use Rattle.pyramid.specs.Files.{bodySize, fileSize}
 use Rattle.pyramid.specs.Opens.{sayOpen, samplesIn, Open}
 
 -- ---- how much is whole
@@ -27,12 +27,12 @@ firstWhole k [] b = 0
 firstWhole k (c ∷ cs) b = cond (leb (4 + k * c) b) (suc (firstWhole k cs (b - (4 + k * c)))) 0
 
 -- the bytes of sections 0 and 1: the header and the deepest approximations
-abbrev pub needed : ℕ → ℕ → ℕ → ℕ
-needed k l n = headSize + bodySize k 0 (places l n)
+abbrev pub needed : ℕ → ℕ → ℕ → ℕ → ℕ
+needed z k l n = z + bodySize k 0 (places l n)
 
 -- how many sections of details, deepest first, are whole in the first b bytes of a file
-abbrev pub wholeOf : ℕ → ℕ → ℕ → ℕ → ℕ
-wholeOf k l n b = firstWhole k (lengthsOf l n) (b - needed k l n)
+abbrev pub wholeOf : ℕ → ℕ → ℕ → ℕ → ℕ → ℕ
+wholeOf z k l n b = firstWhole k (lengthsOf l n) (b - needed z k l n)
 
 -- ---- the same, as a walk finds it
 
@@ -75,31 +75,31 @@ pub record OpensTo (s : List ℕ) (k p o u v level count : ℕ) (x : List ℕ) :
 -- ---- demand 3
 
 -- the level that the first c bytes give, of a file of l levels of n samples of k bytes: l less the detail sections that are whole
-abbrev pub levelLeft : ℕ → ℕ → ℕ → ℕ → ℕ
-levelLeft k l n c = l - wholeOf k l n c
+abbrev pub levelLeft : ℕ → ℕ → ℕ → ℕ → ℕ → ℕ
+levelLeft z k l n c = l - wholeOf z k l n c
 
 -- the answer r, and the output o′, that opening the first c bytes of the file of x, of l levels and n samples, leaves in the output o
-pub record Opened (f : Filter) (l n c : ℕ) (x o : List ℕ) (r : Answer) (o′ : List ℕ) : Type 0 where
+pub record Opened (z : ℕ) (f : Filter) (l n c : ℕ) (x o : List ℕ) (r : Answer) (o′ : List ℕ) : Type 0 where
   -- below the end of the coarsest section it is 10 (c, 0), nothing is written, and nowhere else is it 10
-  pub cut : c < needed (widthOf f) l n → (r ≡ say 10 c 0) × (o′ ≡ o)
-  pub only-cut : r .number ≡ 10 → c < needed (widthOf f) l n
+  pub cut : c < needed z (widthOf f) l n → (r ≡ say 10 c 0) × (o′ ≡ o)
+  pub only-cut : r .number ≡ 10 → c < needed z (widthOf f) l n
   -- from there on it is done, with the level, its count, and exactly its approximations
-  pub level : needed (widthOf f) l n ≤ c
-      → (r ≡ say 0 (levelLeft (widthOf f) l n c) (places (levelLeft (widthOf f) l n c) n))
-      × (o′ ≡ approxAt f (levelLeft (widthOf f) l n c) x ++ drop (widthOf f * places (levelLeft (widthOf f) l n c) n) o)
+  pub level : needed z (widthOf f) l n ≤ c
+      → (r ≡ say 0 (levelLeft z (widthOf f) l n c) (places (levelLeft z (widthOf f) l n c) n))
+      × (o′ ≡ approxAt f (levelLeft z (widthOf f) l n c) x ++ drop (widthOf f * places (levelLeft z (widthOf f) l n c) n) o)
   -- and in an output of just that many samples nothing else
-  pub just : needed (widthOf f) l n ≤ c → length o ≡ widthOf f * places (levelLeft (widthOf f) l n c) n → o′ ≡ approxAt f (levelLeft (widthOf f) l n c) x
+  pub just : needed z (widthOf f) l n ≤ c → length o ≡ widthOf f * places (levelLeft z (widthOf f) l n c) n → o′ ≡ approxAt f (levelLeft z (widthOf f) l n c) x
   -- the whole file gives level 0, which is the samples, and nothing less gives it
-  pub all : c ≡ fileSize (widthOf f) l n → (r ≡ say 0 0 n) × (o′ ≡ x ++ drop (length x) o)
-  pub only-all : r .number ≡ 0 → r .first ≡ 0 → c ≡ fileSize (widthOf f) l n
+  pub all : c ≡ fileSize z (widthOf f) l n → (r ≡ say 0 0 n) × (o′ ≡ x ++ drop (length x) o)
+  pub only-all : r .number ≡ 0 → r .first ≡ 0 → c ≡ fileSize z (widthOf f) l n
   -- so many detail sections are whole: they end within c bytes, and the next one does not
-  pub within : needed (widthOf f) l n ≤ c → headSize + bodySize (widthOf f) (wholeOf (widthOf f) l n c) (places (levelLeft (widthOf f) l n c) n) ≤ c
-  pub next : needed (widthOf f) l n ≤ c → wholeOf (widthOf f) l n c < l
-      → c < headSize + bodySize (widthOf f) (suc (wholeOf (widthOf f) l n c)) (places (l - suc (wholeOf (widthOf f) l n c)) n)
+  pub within : needed z (widthOf f) l n ≤ c → z + bodySize (widthOf f) (wholeOf z (widthOf f) l n c) (places (levelLeft z (widthOf f) l n c) n) ≤ c
+  pub next : needed z (widthOf f) l n ≤ c → wholeOf z (widthOf f) l n c < l
+      → c < z + bodySize (widthOf f) (suc (wholeOf z (widthOf f) l n c)) (places (l - suc (wholeOf z (widthOf f) l n c)) n)
 
 -- every opening, for the same width and point, of the first c bytes of s, with an output and work areas of whole samples that have room for the count given back
-abbrev pub Openings : Filter → ℕ → ℕ → ℕ → List ℕ → List ℕ → Type 0
-Openings f l n p x s =
-    (c : ℕ) → c ≤ fileSize (widthOf f) l n → (o g h : List ℕ) → Sampled (widthOf f) (length o) (length g) (length h)
-    → (needed (widthOf f) l n ≤ c → Roomy (widthOf f) (places (levelLeft (widthOf f) l n c) n) (length o) (length g) (length h))
-    → (r : Answer) (o′ g′ h′ : List ℕ) → Open (take c s) (widthOf f) p o g h r o′ g′ h′ → Opened f l n c x o r o′
+abbrev pub Openings : ℕ → Filter → ℕ → ℕ → ℕ → List ℕ → List ℕ → Type 0
+Openings z f l n p x s =
+    (c : ℕ) → c ≤ fileSize z (widthOf f) l n → (o g h : List ℕ) → Sampled (widthOf f) (length o) (length g) (length h)
+    → (needed z (widthOf f) l n ≤ c → Roomy (widthOf f) (places (levelLeft z (widthOf f) l n c) n) (length o) (length g) (length h))
+    → (r : Answer) (o′ g′ h′ : List ℕ) → Open (take c s) (widthOf f) p o g h r o′ g′ h′ → Opened z f l n c x o r o′
