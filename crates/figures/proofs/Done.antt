@@ -24,7 +24,8 @@ use Rattle.dwt.specs.Calls.{Ready}
 use Rattle.dwt.specs.Backward.{total, Rising}
 use Rattle.dwt.proofs.Cuts.{width-pos}
 use Rattle.trips.proofs.Fitting.{lengths-fit, back-fits, multi-fits, dwt-fits}
-use Rattle.cuts.proofs.Heads.{Recording}
+use Rattle.cuts.proofs.Filed.{Recording}
+use Rattle.cuts.proofs.Heads.{filed}
 use Rattle.cuts.proofs.Answers.{opens-whole}
 use Rattle.cuts.proofs.WriteFits.{write-fits}
 use Rattle.figures.specs.ShutOut.{Long, twoFour, EachDone}
@@ -85,7 +86,7 @@ module _ (f : Filter) where
             number-of (m .answer) (write-fits f 2 8 8 8 (length x) (length b) (length u) (length v) (ready (length x) (length u) (length v) ex eu ev) (omega (arith, eb)) eu ev);
         opens = λ i x o u v bx ex eo eu ev m.
             number-of (m .answer)
-            (opens-whole f 2 8 14 x (recording x i bx ex) (length o) (length u) (length v)
+            (opens-whole (filed (recording x i bx ex))
             (record { output = whole (length o) eo; first = whole (length u) eu; second = whole (length v) ev })
             (record { output = omega (arith, eo); first = omega (arith, eu); second = omega (arith, ev) }) .says);
       }

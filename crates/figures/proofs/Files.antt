@@ -15,10 +15,11 @@ use Rattle.cdf53i.specs.Lift.{detail, details, approx, approxs}
 use Rattle.cdf53i.specs.Bands.{low, high}
 use Rattle.dwt.specs.declared.filter.Filter.the-variants.{Cdf53I8}
 use Rattle.dwt.specs.Pyramids.{approxAt, lengthsOf}
-use Rattle.pyramid.specs.Files.{bodyOf, fileOf}
+use Rattle.pyramid.specs.Files.{headSize, bodyOf, fileOf}
 use Rattle.pyramid.specs.Opens.{sayOpen}
 use Rattle.cuts.specs.Sees.{firstWhole, wholeOf, Sampled, Roomy, OpensTo}
-use Rattle.cuts.proofs.Heads.{Recording}
+use Rattle.cuts.proofs.Filed.{Recording}
+use Rattle.cuts.proofs.Heads.{filed}
 use Rattle.cuts.proofs.Survives.{cut-short, survives}
 use Rattle.cuts.proofs.Answers.{opens-whole}
 use Rattle.figures.specs.Worked.{five, thirtyOne, File}
@@ -46,20 +47,20 @@ room : (c : ℕ) → c ≤ 5 → Roomy 1 c 5 5 5
 room c h = record { output = omega arith; first = omega arith; second = omega arith }
 
 -- no section of details is whole, and one is
-none : (b : ℕ) → b ≤ 24 → wholeOf 1 2 5 b ≡ 0
+none : (b : ℕ) → b ≤ 24 → wholeOf headSize 1 2 5 b ≡ 0
 unfolding places lengthsOf firstWhole
 none b h = rw (lt-leb 5 (b - 20) (omega arith))
 
-one : (b : ℕ) → 25 ≤ b → b ≤ 30 → wholeOf 1 2 5 b ≡ 1
+one : (b : ℕ) → 25 ≤ b → b ≤ 30 → wholeOf headSize 1 2 5 b ≡ 1
 unfolding places lengthsOf firstWhole
 one b h g = rw (le-leb 5 (b - 20) (omega arith), lt-leb 6 (b - 20 - 5) (omega arith))
 
 -- what so many whole sections give
-given : (b m : ℕ) → 20 ≤ b → b ≤ 31 → wholeOf 1 2 5 b ≡ m → places (2 - m) 5 ≤ 5 → OpensTo (take b (fileOf Cdf53I8 2 14 five)) 1 14 5 5 5 (2 - m) (places (2 - m) 5) (approxAt Cdf53I8 (2 - m) five)
+given : (b m : ℕ) → 20 ≤ b → b ≤ 31 → wholeOf headSize 1 2 5 b ≡ m → places (2 - m) 5 ≤ 5 → OpensTo (take b (fileOf Cdf53I8 2 14 five)) 1 14 5 5 5 (2 - m) (places (2 - m) 5) (approxAt Cdf53I8 (2 - m) five)
 unfolding places
 given b m c e q h =
     subst (λ (i : ℕ). OpensTo (take b (fileOf Cdf53I8 2 14 five)) 1 14 5 5 5 (2 - i) (places (2 - i) 5) (approxAt Cdf53I8 (2 - i) five)) q
-    (survives Cdf53I8 2 5 14 five recording 5 5 5 sampled b c e (subst (λ (i : ℕ). Roomy 1 (places (2 - i) 5) 5 5 5) (sym q) (room (places (2 - m) 5) h)))
+    (survives (filed recording) sampled b c e (subst (λ (i : ℕ). Roomy 1 (places (2 - i) 5) 5 5 5) (sym q) (room (places (2 - m) 5) h)))
 
 -- they hold
 pub p6-to-p10 : File
@@ -67,8 +68,8 @@ unfolding places approxAt leAt leBytes tabulate wordAt wordsOf bytesOf val resid
 p6-to-p10 =
     record {
       p6 = file;
-      p7 = λ b h. subst (λ (s : List ℕ). sayOpen (take b s) 1 14 5 5 5 ≡ CutShort b) file (cut-short Cdf53I8 2 5 14 five recording 5 5 5 sampled b (omega arith));
+      p7 = λ b h. subst (λ (s : List ℕ). sayOpen (take b s) 1 14 5 5 5 ≡ CutShort b) file (cut-short (filed recording) sampled b (omega arith));
       p8 = λ b h g. subst (λ (s : List ℕ). OpensTo (take b s) 1 14 5 5 5 2 2 (255 ∷ 3 ∷ [])) file (given b 0 h (omega arith) (none b g) (omega arith));
       p9 = λ b h g. subst (λ (s : List ℕ). OpensTo (take b s) 1 14 5 5 5 1 3 (3 ∷ 253 ∷ 7 ∷ [])) file (given b 1 (omega arith) (omega arith) (one b h g) (omega arith));
-      p10 = subst (λ (s : List ℕ). OpensTo s 1 14 5 5 5 0 5 five) file (opens-whole Cdf53I8 2 5 14 five recording 5 5 5 sampled (room 5 (omega arith)));
+      p10 = subst (λ (s : List ℕ). OpensTo s 1 14 5 5 5 0 5 five) file (opens-whole (filed recording) sampled (room 5 (omega arith)));
     }

@@ -24,7 +24,7 @@ use Rattle.dwt.specs.Filters.{widthOf, lowOf, highOf, Integers}
 use Rattle.dwt.specs.Pyramids.{approxAt}
 use Rattle.dwt.specs.Calls.{OneForward, OneInverse, Dwt, sayMulti, Multi}
 use Rattle.dwt.specs.Backward.{MultiBack}
-use Rattle.pyramid.specs.Files.{fileSize, fileOf}
+use Rattle.pyramid.specs.Files.{headSize, fileSize, fileOf}
 use Rattle.pyramid.specs.Writes.{Write}
 use Rattle.pyramid.specs.Opens.{Open, saySection, sectionIn}
 use Rattle.figures.specs.Worked.{five, thirtyOne}
@@ -124,7 +124,7 @@ pub record EachDone (f : Filter) : Type 0 where
   pub last : {x a d u v : List ℕ} {r : Answer} {a′ d′ u′ v′ : List ℕ} → Long f 8 x → Long f 2 a → Long f 2 d → Long f 8 u → Long f 8 v → Dwt f 2 x a d u v r a′ d′ u′ v′ → r .number ≡ 0
   pub down : (x o u v : List ℕ) {r : Answer} {o′ u′ v′ : List ℕ} → Long f 8 x → Long f 8 o → Long f 8 u → Long f 8 v → Multi f 2 x o u v r o′ u′ v′ → r .number ≡ 0
   pub back : (a d o u v : List ℕ) {r : Answer} {o′ u′ v′ : List ℕ} → Long f 2 a → Long f 6 d → Long f 8 o → Long f 8 u → Long f 8 v → MultiBack f a d twoFour o u v r o′ u′ v′ → r .number ≡ 0
-  pub writes : Integers f → (x b u v : List ℕ) {r : Answer} {b′ u′ v′ : List ℕ} → Long f 8 x → length b ≡ fileSize (widthOf f) 2 8 → Long f 8 u → Long f 8 v → Write f 2 14 x b u v r b′ u′ v′
+  pub writes : Integers f → (x b u v : List ℕ) {r : Answer} {b′ u′ v′ : List ℕ} → Long f 8 x → length b ≡ fileSize headSize (widthOf f) 2 8 → Long f 8 u → Long f 8 v → Write f 2 14 x b u v r b′ u′ v′
       → r .number ≡ 0
   pub opens : Integers f → (x o u v : List ℕ) {r : Answer} {o′ u′ v′ : List ℕ} → Bytes x → Long f 8 x → Long f 8 o → Long f 8 u → Long f 8 v → Open (fileOf f 2 14 x) (widthOf f) 14 o u v r o′ u′ v′
       → r .number ≡ 0

@@ -8,7 +8,6 @@ use Rattle.answers.specs.Answers.{answerOf}
 use Rattle.answers.proofs.Endings.{is-done}
 use Rattle.samples.specs.Integers.{Width}
 use Rattle.samples.proofs.IntegerLaws.{width-of}
-use Rattle.pyramid.specs.Files.{headSize}
 use Rattle.pyramid.specs.Opens.{headIn, countIn, sayOpen, Open}
 use Rattle.pyramid.proofs.Opening.{open-ready, open-says}
 
@@ -17,7 +16,7 @@ as-many c n w d m k ed em ek h = rw (ed, em, ek) h
 
 -- what an opened file has: section 0, whose width is one, and room for the samples in an area as long as the output
 pub record Shown (s o : List ℕ) (r : Answer) : Type 0 where
-  pub there : headSize ≤ length s
+  pub there : headIn s .body ≤ length s
   pub known : (k : ℕ) → k ≡ headIn s .width → Width k
   pub room : (n k : ℕ) → n ≡ length o → k ≡ headIn s .width → r .second ≤ n / k
 

@@ -3,19 +3,16 @@ ghost use mathlib.Core.Path.{_≡_};
 ghost use Prim.Native.Nat.{_/_, _^_, _≤_, _<_};
 ghost use lib.ListN.{length};
 ghost use Rattle.samples.specs.Integers.{Width, val};
-ghost use Rattle.pyramid.specs.Files.{headSize};
 ghost use Rattle.pyramid.specs.Opens.{Open, ownWidth, ownPoint};
 ghost use Rattle.show.specs.Numbers.{numberOf};
 use answers::err::Answer;
 use libc::STDIN_FILENO;
 use libc::STDOUT_FILENO;
-use pyramid::open::levels_in;
+use pyramid::head::Head;
+use pyramid::head::head_in;
 use pyramid::open::open;
 use pyramid::open::own_point;
 use pyramid::open::own_width;
-use pyramid::open::point_in;
-use pyramid::open::samples_in;
-use pyramid::open::width_in;
 use samples::integers::get;
 
 // The longest input.
@@ -88,13 +85,11 @@ fn print_number(v: Number) {
 }
 
 // What section 0 says.
-fn print_head(s: &[u8])
-    requires { ⌜ headSize ≤ length (now s) ⌝ }
-{
-    print_named(b"point ", point_in(s) as u64);
-    print_named(b" width ", width_in(s) as u64);
-    print_named(b" samples ", samples_in(s) as u64);
-    print_named(b" levels ", levels_in(s) as u64);
+fn print_head(h: Head) {
+    print_named(b"point ", h.point as u64);
+    print_named(b" width ", h.width as u64);
+    print_named(b" samples ", h.samples as u64);
+    print_named(b" levels ", h.levels as u64);
     end_line();
 }
 
@@ -124,11 +119,12 @@ fn show(s: &[u8], out: &mut [u8], one: &mut [u8], two: &mut [u8]) {
         print_refused(r.number);
         return;
     }
-    print_head(s);
+    let h = head_in(s);
+    print_head(h);
     print_named(b"level ", r.first);
     print_named(b" count ", r.second);
     end_line();
-    print_samples(width_in(s), out, r.second as usize);
+    print_samples(h.width, out, r.second as usize);
 }
 
 fn main() {
