@@ -27,7 +27,7 @@ use Rattle.pyramid.specs.declared.walk.Way.{Way}
 use Rattle.pyramid.specs.declared.walk.Way.the-variants.{Went, Short, Wrong}
 use Rattle.pyramid.specs.Files.{headSize, bodySize}
 use Rattle.pyramid.specs.Walks.{walkOf}
-use Rattle.pyramid.specs.Opens.{filterOf, headIn, headChecks, wayIn, wayChecks, wholeDetails, levelIn, countIn, areaChecks, roomsFor, sayOpen, fileChecks, sayFile}
+use Rattle.pyramid.specs.Opens.{filterOf, headIn, startChecks, fieldChecks, headChecks, wayIn, wayChecks, wholeDetails, levelIn, countIn, areaChecks, roomsFor, sayOpen, fileChecks, sayFile}
 use Rattle.pyramid.proofs.Ways.{walk-size, walk-short}
 
 -- the integer filter of a width has that width
@@ -52,14 +52,22 @@ pub record Headed (s : List ℕ) (w : ℕ) : Type 0 where
   pub short : headIn s .samples ≤ mostSamples
   pub deep : headIn s .levels ≤ depthOf Cdf53 (headIn s .samples)
 
+-- once the start has passed, section 0 is there
+pub start-refuses : (s : List ℕ) → Refusing (startChecks s)
+start-refuses s = (refl, (refl, (refl, tt)))
+
+pub start-passes : (s : List ℕ) → Passing (startChecks s) → headIn s .body ≤ length s
+start-passes s q = roomy (length s) headSize (q .1 .0)
+
 pub head-refuses : (s : List ℕ) (w p : ℕ) → Refusing (headChecks s w p)
-head-refuses s w p = (refl, (refl, (refl, (refl, (refl, (refl, (refl, (refl, (refl, (refl, tt))))))))))
+head-refuses s w p = both-refuse (startChecks s) (fieldChecks (headIn s) w p) (start-refuses s) (refl, (refl, (refl, (refl, (refl, (refl, (refl, tt)))))))
 
 pub head-passes : (s : List ℕ) (w p : ℕ) → Passing (headChecks s w p) → Headed s w
 head-passes s w p q =
-    let f = q .1 .1 .1 in
+    let b = both-pass (startChecks s) (fieldChecks (headIn s) w p) q in
+    let f = b .1 in
     record {
-      there = roomy (length s) headSize (q .1 .0);
+      there = start-passes s (b .0);
       width = right (headIn s .width) w (f .0);
       known = not-false (isWidth w) (f .1 .0);
       short = roomy mostSamples (headIn s .samples) (f .1 .1 .1 .0);

@@ -1,7 +1,6 @@
 -- `way_in` meets its contract: a byte and a u32 are small, whatever they say.
 use native.Mathlib.Omega.{arith}
 use Rattle.pyramid.proofs.Ways.{small}
-use borrow.Author.Needs.{needs}
 use Rattle.pyramid.proofs.open.way_in.Statement.{statement}
 use Rattle.pyramid.proofs.open.way_in.Tie as tie
 
