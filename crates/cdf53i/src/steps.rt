@@ -89,7 +89,7 @@ fn half_sum(k: usize, p: u32, q: u32) -> u32
     mean_u32(p, q)
 }
 
-// Half the sum of the numbers of two words, rounded down, and half of all words more.
+// floor((x + z) / 2) + 256^k / 2, of the numbers x and z of two words.
 fn mean(k: usize, x: u32, z: u32) -> u32
     requires { ⌜ Width k ⌝ }
     requires { ⌜ (x < 256 ^ k) × (z < 256 ^ k) ⌝ }
@@ -101,7 +101,7 @@ fn mean(k: usize, x: u32, z: u32) -> u32
     half_sum(k, p, q)
 }
 
-// A quarter of the sum of the numbers of two words and 2, rounded down, and a quarter of all words more.
+// floor((x + z + 2) / 4) + 256^k / 4, of the numbers x and z of two words.
 fn mean4(k: usize, x: u32, z: u32) -> u32
     requires { ⌜ Width k ⌝ }
     requires { ⌜ (x < 256 ^ k) × (z < 256 ^ k) ⌝ }

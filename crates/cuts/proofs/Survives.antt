@@ -34,7 +34,7 @@ use Rattle.cuts.proofs.Restored.{restored-cut, whole-all}
 use Rattle.cuts.proofs.Heads.{Recording, common, cut-parts, cut-length, file-most, head-is, own-head-passes}
 use Rattle.cuts.proofs.Whole.{first-most, reach-none, reach-short, whole-is}
 
--- checks that let by, and then others
+-- checks that pass, and then others
 pub skip : (l m : List Check) (s : Refusal) → Passing l → firstOf (l ++ m) s ≡ firstOf m s
 skip [] m s h = refl
 skip (c ∷ l) m s h = ap (λ t. cond t (c .1) (firstOf (l ++ m) s)) (h .0) ∙ skip l m s (h .1)
@@ -78,7 +78,7 @@ module _ (f : Filter) (l n p : ℕ) (x : List ℕ) (r : Recording f l n p x) whe
       (lt-or-le j (bodySize k l n))
       ∙ whole-is k l n b c
 
-  -- and the walk lets by
+  -- and the walk passes
   way-passes : (b : ℕ) → needed (widthOf f) l n ≤ b → b ≤ fileSize (widthOf f) l n → Passing (wayChecks (wayIn (take b (fileOf f l p x))) (length (take b (fileOf f l p x))))
   way-passes b c e =
       let k = widthOf f in

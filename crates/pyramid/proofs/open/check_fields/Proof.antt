@@ -20,7 +20,7 @@ use Rattle.pyramid.proofs.open.check_fields.Tie as tie
 none : (c : tie.Then2) → let a = c .before .before .before .args in not (isWidth (a .w)) ≡ true
 none c = ap not (sym (c .before .is-width .ensures)) ∙ c .if2 .taken
 
--- past the widths: what is said of the rest is said of all
+-- past the widths: the whole list says what the rest says
 past2 : (c : tie.Else2) {y z : Refusal} → z ≡ y → let a = c .before .before .before .args in z ≡ firstOf ((not (eqb (a .k) (a .w)), OtherWidth (a .k) (a .w)) ∷ (not (isWidth (a .w)), OtherWidth (a .k) (a .w)) ∷ []) y
 past2 c q = by _ (same _ _ (c .before .before .if1 .left)) (by _ (ap not (sym (c .before .is-width .ensures)) ∙ c .if2 .left) q)
 
