@@ -1,11 +1,11 @@
--- A call that makes its checks in a row says `firstOf` of their list: one link for each check that lets by, and one for the check that refuses.
+-- A call that makes its checks in a row says `firstOf` of their list: one link for each check that passes, and one for the check that refuses.
 use mathlib.Core.Bool.{Bool, true, false, cond, not}
 use mathlib.Core.Path.{_≡_, sym, ap, _∙_}
 use Prim.Native.Nat.{ℕ}
 use borrow.Author.Tests.{eq-eqb, ne-eqb}
 use lib.Dec.{eqb}
 
--- the check lets by
+-- the check passes
 pub by : {A : Type 0} {b : Bool} (x : A) {y z : A} → b ≡ false → z ≡ y → z ≡ cond b x y
 by x {y} e q = q ∙ sym (ap (λ t. cond t x y) e)
 

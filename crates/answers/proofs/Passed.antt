@@ -21,7 +21,7 @@ abbrev pub Refusing : List Check → Type 0
 Refusing [] = Unit {0}
 Refusing (p ∷ rest) = (done (p .1) ≡ false) × Refusing rest
 
--- each check of the list lets by
+-- each check of the list passes
 abbrev pub Passing : List Check → Type 0
 Passing [] = Unit {0}
 Passing (p ∷ rest) = (p .0 ≡ false) × Passing rest
@@ -45,12 +45,12 @@ pub pass-both : (l m : List Check) → Passing l → Passing m → Passing (l ++
 pass-both [] m h g = g
 pass-both (p ∷ l) m h g = (h .0, pass-both l m (h .1) g)
 
--- and a call whose checks all let by says s
+-- and a call whose checks all pass says s
 pub through : (l : List Check) (s : Refusal) → Passing l → firstOf l s ≡ s
 through [] s h = refl
 through (p ∷ rest) s h = ap (λ t. cond t (p .1) (firstOf rest s)) (h .0) ∙ through rest s (h .1)
 
--- checks in two parts: where the first part lets by, the second decides; where it refuses, it has decided
+-- checks in two parts: where the first part passes, the second decides; where it refuses, it has decided
 pub then-rest : (l m : List Check) (s : Refusal) → Refusing l → done (firstOf l (Done 0 0)) ≡ true → firstOf (l ++ m) s ≡ firstOf m s
 then-rest [] m s r h = refl
 then-rest (p ∷ l) m s r h =
@@ -66,7 +66,7 @@ then-stop (p ∷ l) m s h = pick (p .0) (λ g. then-stop l m s g) h
     pick true f h = refl
     pick false f h = f h
 
--- r is what the first part says: where it lets by, what the rest says is said of all, and where it refuses, r is
+-- r is what the first part says: where it passes, the whole list says what the rest says; where it refuses, the whole list says r
 pub say-rest : (l m : List Check) (s : Refusal) {r t : Refusal} → Refusing l → r ≡ firstOf l (Done 0 0) → done r ≡ true → t ≡ firstOf m s → t ≡ firstOf (l ++ m) s
 say-rest l m s q e h g = g ∙ sym (then-rest l m s q (sym (ap done e) ∙ h))
 

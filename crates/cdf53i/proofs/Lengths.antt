@@ -18,15 +18,15 @@ use Rattle.cdf53i.specs.Bands.{low, high, back}
 
 -- ---- on whole numbers
 
-length-approxs : (keep : ℤ → ℤ) (x : List ℤ) → length (approxs keep x) ≡ ups (length x)
+pub length-approxs : (keep : ℤ → ℤ) (x : List ℤ) → length (approxs keep x) ≡ ups (length x)
 unfolding approxs
 length-approxs keep x = length-tabulate (ups (length x)) _
 
-length-details : (keep : ℤ → ℤ) (x : List ℤ) → length (details keep x) ≡ downs (length x)
+pub length-details : (keep : ℤ → ℤ) (x : List ℤ) → length (details keep x) ≡ downs (length x)
 unfolding details
 length-details keep x = length-tabulate (downs (length x)) _
 
-length-restored : (keep : ℤ → ℤ) (a d : List ℤ) → length (restored keep a d) ≡ length a + length d
+pub length-restored : (keep : ℤ → ℤ) (a d : List ℤ) → length (restored keep a d) ≡ length a + length d
 unfolding restored
 length-restored keep a d = length-tabulate (length a + length d) _
 

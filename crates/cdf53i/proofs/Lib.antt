@@ -1,6 +1,7 @@
 pub mod Extension
 pub mod T800
 pub mod StepLaws
+pub mod Words
 pub mod Turns
 pub mod Undo
 pub mod Round

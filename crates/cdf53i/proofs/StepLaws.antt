@@ -1,5 +1,5 @@
--- The lifting steps on words, once over the width: 4 Q words stand for the numbers from -2 Q to 2 Q - 1. The code adds 2 Q to a word (its bias),
--- so that the order and the sums of the biased words are those of the numbers, and floors are divisions of naturals.
+-- The lifting steps on words, once over the width: 4 Q words stand for the numbers from -2 Q to 2 Q - 1. The code adds 2 Q to a word modulo 4 Q:
+-- its bias, which is its number plus 2 Q. So floor((x + z) / 2) + 2 Q is half the sum of two biases, a division of naturals.
 use mathlib.Core.Path.{_≡_, refl, sym, ap, _∙_}
 use Prim.Native.Nat.{ℕ, _+_, _-_, _*_, _/_, _%_, _^_, _<_}
 use native.Mathlib.Nat.{mod-lt, mod-add-mod}
@@ -11,7 +11,7 @@ use Rattle.samples.specs.Integers.{Width, quarter, val, residue}
 use Rattle.samples.proofs.Diff.{sub-same, pos-sub, sub-add, sub-sub, floor-half, floor-quarter, residue-sub}
 use Rattle.samples.proofs.IntegerLaws.{bias, val-sub}
 
--- half a sum, rounded down, is what both have and half of what one has
+-- (p + q) / 2 = (p & q) + (p ^ q) / 2
 pub half-law : (p q : ℕ) → bitAnd p q + bitXor p q / 2 ≡ (p + q) / 2
 half-law p q = omega (arith, xor-add-and p q)
 

@@ -22,7 +22,8 @@ use Rattle.samples.specs.Halves.{joined}
 use Rattle.cdf53i.specs.Bands as bytes
 use Rattle.cdf53i.specs.T800.{extended, high, low, highs, lows, interleaved, evenBack, oddBack, back, backs}
 use Rattle.cdf53i.proofs.Extension.{place, extended-at, extended-before}
-use Rattle.cdf53i.proofs.Undo.{details-length, at-details}
+use Rattle.cdf53i.proofs.Lengths.{length-details}
+use Rattle.cdf53i.proofs.Undo.{at-details}
 
 -- ---- forward
 
@@ -64,7 +65,7 @@ module _ (keep : ℤ → ℤ) (x : List ℤ) (some : 2 ≤ length x) where
 
   right : (i : ℕ) → i < ups (length x) → at (details keep x) (min i (length (details keep x) - 1)) ≡ keep (high x (pos i))
   right i h =
-      rw (details-length keep x)
+      rw (length-details keep x)
       (⊎-elim
       (λ k. ap (at (details keep x)) (omega arith) ∙ at-details keep x i k ∙ detail-is i k)
       (λ k. ap (at (details keep x)) (omega arith) ∙ at-details keep x (i - 1) (omega arith) ∙ after (i - 1) (omega arith) ∙ ap (λ j. keep (high x (pos j))) (omega arith))

@@ -198,7 +198,7 @@ room-of p s m n e l = let h = holds p s m e in record { holds = rw (h .count) h;
 pub room-on : {k n : ℕ} {s : List ℕ} (t : List ℕ) → Room k n s → length t ≡ length s → Room k n t
 room-on {k} t r e = let h = holds-on t (r .holds) e in record { holds = rw (h .count) h; most = rw (h .count) (r .most) }
 
--- 1024 bytes are whole words, and 1028 are a word more or several
+-- 1024 bytes and 1028 bytes are whole words, and 1028 hold one more at least
 pub whole-words : {k : ℕ} → Width k → (1024 ≡ k * (1024 / k)) × (1028 ≡ k * (1028 / k)) × (1024 / k + 1 ≤ 1028 / k) × (0 < 1024 / k)
 whole-words w =
     ⊎-elim

@@ -18,8 +18,9 @@ use Rattle.samples.proofs.Words.{length-tabulate, getD-tabulate}
 use Rattle.samples.proofs.Diff.{pos-sub, sub-lt, sub-ge, sub-add, mod-cancel, residue-sub}
 use Rattle.samples.proofs.IntegerLaws.{residue-lt, word-wrap}
 use Rattle.cdf53i.specs.Lift.{at, floorDiv, evens, odds, detail, details, approx, approxs, even, odd, sample, restored}
+use Rattle.cdf53i.proofs.Lengths.{length-approxs, length-details, length-restored}
 
--- what is kept of a sum or a difference with t still tells the other number, as far as that is kept
+-- t added and taken away again, or the other way round, with each result kept, leaves what is kept of z
 pub record Undoes (keep : ℤ → ℤ) : Type 0 where
   pub add : (z t : ℤ) → keep (keep (z +ℤ t) -ℤ t) ≡ keep z
   pub sub : (z t : ℤ) → keep (keep (z -ℤ t) +ℤ t) ≡ keep z
@@ -85,14 +86,6 @@ module _ {k : ℕ} (w : Width k) where
   }
 
 module _ (keep : ℤ → ℤ) (x : List ℤ) where
-  approxs-length : length (approxs keep x) ≡ evens x
-  unfolding approxs
-  approxs-length = length-tabulate (evens x) (approx keep x (details keep x))
-
-  pub details-length : length (details keep x) ≡ odds x
-  unfolding details
-  details-length = length-tabulate (odds x) (detail keep x)
-
   pub at-details : (i : ℕ) → i < odds x → at (details keep x) i ≡ detail keep x i
   unfolding details
   at-details i h = getD-tabulate (odds x) (detail keep x) i (pos 0) h
@@ -108,7 +101,7 @@ module _ (keep : ℤ → ℤ) (u : Undoes keep) (x : List ℤ) (long : 2 ≤ len
   odd-back : (i : ℕ) → i < odds x → odd keep (even keep (approxs keep x) (details keep x)) (length (approxs keep x)) (details keep x) i ≡ at x (2 * i + 1)
   unfolding odd detail
   odd-back i h =
-      rw (approxs-length keep x, at-details keep x i h, even-back i (omega arith), even-back (min (i + 1) (evens x - 1)) (omega arith))
+      rw (length-approxs keep x, at-details keep x i h, even-back i (omega arith), even-back (min (i + 1) (evens x - 1)) (omega arith))
       (u .sub (at x (2 * i + 1)) (floorDiv (at x (2 * i) +ℤ at x (2 * min (i + 1) (evens x - 1))) 2) ∙ fits (2 * i + 1) (omega arith))
 
   sample-back : (j : ℕ) → j < length x → sample keep (approxs keep x) (details keep x) j ≡ at x j
@@ -120,7 +113,7 @@ module _ (keep : ℤ → ℤ) (u : Undoes keep) (x : List ℤ) (long : 2 ≤ len
       (lt-or-le (j % 2) 1)
 
   restored-length : length (approxs keep x) + length (details keep x) ≡ length x
-  restored-length = omega (arith, approxs-length keep x, details-length keep x)
+  restored-length = omega (arith, length-approxs keep x, length-details keep x)
 
   pub undone : restored keep (approxs keep x) (details keep x) ≡ x
   unfolding restored
@@ -135,10 +128,6 @@ module _ (keep : ℤ → ℤ) (u : Undoes keep) (x : List ℤ) (long : 2 ≤ len
 -- ---- and the transform undoes the inverse
 module _ (keep : ℤ → ℤ) (u : Undoes keep) (a d : List ℤ) (more : length d ≤ length a) (less : length a ≤ length d + 1) (one : 1 ≤ length d)
     (fit-a : (i : ℕ) → i < length a → keep (at a i) ≡ at a i) (fit-d : (i : ℕ) → i < length d → keep (at d i) ≡ at d i) where
-  length-restored : length (restored keep a d) ≡ length a + length d
-  unfolding restored
-  length-restored = length-tabulate (length a + length d) (sample keep a d)
-
   at-restored : (j : ℕ) → j < length a + length d → at (restored keep a d) j ≡ sample keep a d j
   unfolding restored
   at-restored j h = getD-tabulate (length a + length d) (sample keep a d) j (pos 0) h
@@ -154,7 +143,7 @@ module _ (keep : ℤ → ℤ) (u : Undoes keep) (a d : List ℤ) (more : length 
   detail-again : (i : ℕ) → i < length d → detail keep (restored keep a d) i ≡ at d i
   unfolding detail odd
   detail-again i h =
-      let n : evens (restored keep a d) ≡ length a = omega (arith, length-restored) in
+      let n : evens (restored keep a d) ≡ length a = omega (arith, length-restored keep a d) in
       let p = floorDiv (even keep a d i +ℤ even keep a d (min (i + 1) (length a - 1))) 2 in
       rw (n, at-odd i h, at-even i (omega arith), at-even (min (i + 1) (length a - 1)) (omega arith)) (u .add (at d i) p ∙ fit-d i h)
 
@@ -162,7 +151,7 @@ module _ (keep : ℤ → ℤ) (u : Undoes keep) (a d : List ℤ) (more : length 
   unfolding details
   details-again =
       let x = restored keep a d in
-      let n : odds x ≡ length d = omega (arith, length-restored) in
+      let n : odds x ≡ length d = omega (arith, length-restored keep a d) in
       let len : length (tabulate (odds x) (detail keep x)) ≡ length d = length-tabulate (odds x) (detail keep x) ∙ n in
       ext-getD (pos 0) (tabulate (odds x) (detail keep x)) d len
       (λ i h. getD-tabulate (odds x) (detail keep x) i (pos 0) (omega arith) ∙ detail-again i (omega arith))
@@ -175,7 +164,7 @@ module _ (keep : ℤ → ℤ) (u : Undoes keep) (a d : List ℤ) (more : length 
   unfolding approxs
   approxs-again =
       let x = restored keep a d in
-      let n : evens x ≡ length a = omega (arith, length-restored) in
+      let n : evens x ≡ length a = omega (arith, length-restored keep a d) in
       let len : length (tabulate (evens x) (approx keep x d)) ≡ length a = length-tabulate (evens x) (approx keep x d) ∙ n in
       rw details-again
       (ext-getD (pos 0) (tabulate (evens x) (approx keep x d)) a len

@@ -58,7 +58,7 @@ pub fn forward(k: usize, x: &[u8], a: &mut [u8], d: &mut [u8])
     update(k, x, a, d);
 }
 
-// The details i - 1 to i + n - 1 of the samples in x, of which the first has the word e, to the front of t: detail 0 stands before itself.
+// The details i - 1 to i + n - 1 of the samples in x to the front of t, where detail -1 is detail 0. The first has the word e.
 fn details_from(k: usize, x: &[u8], i: usize, n: usize, e: u32, t: &mut [u8])
     requires { ⌜ Unmirrored k (now x) i n ⌝ }
     requires { ⌜ (e ≡ detailWord k (now x) (i - 1)) × (e < 256 ^ k) ⌝ }
@@ -112,7 +112,7 @@ fn approximate_block(
     get(k, t, n)
 }
 
-// The last approximation that has a detail after it, where the detail before it has the word e, and what comes after: the ends, whose right neighbours are mirrored.
+// Approximation `last`, the number of the last detail, and the one after it where there is one: the ends, whose right neighbours are mirrored. Detail last - 1 has the word e.
 fn approximate_end(k: usize, x: &[u8], a: &mut [u8], last: usize, e: u32)
     requires { ⌜ Input k (now x) ⌝ }
     requires { ⌜ Approximating k (now x) (now a) last e ⌝ }
@@ -226,7 +226,7 @@ fn restore_block(
     get(k, t, n)
 }
 
-// The last even sample that has an odd one after it, of the word e, and what comes after: the ends, whose right neighbours are mirrored.
+// Even sample `last`, of the word e, the odd one after it, and the even one after that where there is one: the ends, whose right neighbours are mirrored.
 fn restore_end(k: usize, a: &[u8], d: &[u8], x: &mut [u8], last: usize, e: u32)
     requires { ⌜ Bands k (now x) (now a) (now d) ⌝ }
     requires { ⌜ Restoring k (length (now x) / k) (now a) (now d) (now x) last e ⌝ }

@@ -1,5 +1,5 @@
-// The lifting steps on words of k bytes. A word plus half of all words, kept, is in the order of the numbers that the words stand for: so
-// floors are divisions of unsigned numbers.
+// The lifting steps on words of k bytes. The number of a word u is (u + h) % 256^k - h, where h = 256^k / 2: so words u + h are added and halved
+// as unsigned numbers, and a division rounds down.
 ghost use mathlib.Core.Path.{_≡_};
 ghost use Prim.Native.Nat.{_+_, _-_, _*_, _/_, _%_, _^_, _<_, min};
 ghost use lib.IntN.{pos, _+ℤ_, _-ℤ_};
@@ -89,7 +89,7 @@ fn half_sum(k: usize, p: u32, q: u32) -> u32
     mean_u32(p, q)
 }
 
-// Half the sum of the numbers of two words, rounded down, and half of all words more.
+// floor((x + z) / 2) + 256^k / 2, of the numbers x and z of two words.
 fn mean(k: usize, x: u32, z: u32) -> u32
     requires { ⌜ Width k ⌝ }
     requires { ⌜ (x < 256 ^ k) × (z < 256 ^ k) ⌝ }
@@ -101,7 +101,7 @@ fn mean(k: usize, x: u32, z: u32) -> u32
     half_sum(k, p, q)
 }
 
-// A quarter of the sum of the numbers of two words and 2, rounded down, and a quarter of all words more.
+// floor((x + z + 2) / 4) + 256^k / 4, of the numbers x and z of two words.
 fn mean4(k: usize, x: u32, z: u32) -> u32
     requires { ⌜ Width k ⌝ }
     requires { ⌜ (x < 256 ^ k) × (z < 256 ^ k) ⌝ }
@@ -112,7 +112,7 @@ fn mean4(k: usize, x: u32, z: u32) -> u32
 }
 
 // y - floor((x + z) / 2)
-fn detail_of(k: usize, x: u32, y: u32, z: u32) -> u32
+pub fn detail_of(k: usize, x: u32, y: u32, z: u32) -> u32
     requires { ⌜ Width k ⌝ }
     requires { ⌜ (x < 256 ^ k) × (y < 256 ^ k) × (z < 256 ^ k) ⌝ }
     ensures { λ r. ⌜ (r ≡ residue (256 ^ k) (val (256 ^ k) y -ℤ shrZ (val (256 ^ k) x +ℤ val (256 ^ k) z) 2)) × (r < 256 ^ k) ⌝ }
@@ -139,7 +139,7 @@ pub fn odd_of(k: usize, x: u32, y: u32, z: u32) -> u32
 }
 
 // x - floor((d + e + 2) / 4)
-fn even_of(k: usize, x: u32, d: u32, e: u32) -> u32
+pub fn even_of(k: usize, x: u32, d: u32, e: u32) -> u32
     requires { ⌜ Width k ⌝ }
     requires { ⌜ (x < 256 ^ k) × (d < 256 ^ k) × (e < 256 ^ k) ⌝ }
     ensures { λ r. ⌜ (r ≡ residue (256 ^ k) (val (256 ^ k) x -ℤ shrZ (val (256 ^ k) d +ℤ val (256 ^ k) e +ℤ pos 2) 4)) × (r < 256 ^ k) ⌝ }

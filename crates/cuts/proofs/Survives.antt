@@ -74,7 +74,7 @@ module _ {z : ℕ} {f : Filter} {l n p : ℕ} {x s : List ℕ} (d : Filed z f l 
       (lt-or-le j (bodySize k l n))
       ∙ whole-is z k l n b c
 
-  -- and the walk lets by
+  -- and the walk passes
   way-passes : (b : ℕ) → needed z k l n ≤ b → b ≤ fileSize z k l n → Passing (wayChecks (wayIn (take b s) (headIn (take b s))) (length (take b s)))
   way-passes b c e =
       let j = b - z in

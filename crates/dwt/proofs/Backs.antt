@@ -21,7 +21,7 @@ use Rattle.dwt.specs.Calls.{roomChecks}
 use Rattle.dwt.specs.Backward.{total, bandChecks, wholeChecks, backChecks, sayBack, Fits, Rising}
 use Rattle.dwt.proofs.Rises.{bands-refuse}
 
--- bands that the checks let by are those of levels
+-- bands that pass the checks are those of levels
 pub bands-fit : (w : Wavelet) (a : ℕ) (ms : List ℕ) → Passing (bandChecks w a ms) → Fits w a ms
 unfolding bandChecks Fits
 bands-fit w a [] h = tt

@@ -34,7 +34,7 @@ pub total-end : (ms : List ℕ) (i : ℕ) → length ms ≤ i → total (drop i 
 unfolding total
 total-end ms i h = ap total (drop-of-length-le ms h)
 
--- r is what the checks of length i say: they let by, or they refuse
+-- r is what the checks of length i say: they pass, or they refuse
 pub bands-more : (w : Wavelet) (n : ℕ) (ms : List ℕ) (i m : ℕ) {r : Refusal} → i < length ms → m ≡ getD ms i 0 → r ≡ firstOf (inverseBands w (n + m) n m) (Done 0 0) → done r ≡ true
     → firstOf (bandChecks w n (drop i ms)) (Done 0 0) ≡ firstOf (bandChecks w (n + m) (drop (i + 1) ms)) (Done 0 0)
 unfolding bandChecks

@@ -1,5 +1,5 @@
 // `multi_idwt`: the levels back, from the deepest, written once over the filter. Ported from the macros of osclet's src/cdf53i.rs and src/cdf53f.rs.
-ghost use mathlib.Core.List.{[], _∷_};
+ghost use mathlib.Core.List.{[], _∷_, _++_};
 ghost use mathlib.Core.Path.{_≡_};
 ghost use Prim.Native.Nat.{_+_, _*_, _/_, _<_, _≤_, _^_};
 ghost use lib.ListN.{length, take, drop, getD};
@@ -173,6 +173,19 @@ pub fn restore(f: Filter, n: usize, a: &[u8], d: &[u8], to: &mut [u8])
     execute_inverse(f, a, d, to);
 }
 
+// One level back: of the n approximations in front of `from` and the m details in front of `details`, to the front of `to`.
+fn level_back(f: Filter, n: usize, m: usize, from: &[u8], details: &[u8], to: &mut [u8])
+    requires { ⌜ Level (waveletOf f) (widthOf f) (n + m) (widthOf f * (n + m)) (widthOf f * n) (widthOf f * m) ⌝ }
+    requires { ⌜ (widthOf f * n ≤ length (now from)) × (widthOf f * m ≤ length (now details)) × (widthOf f * (n + m) ≤ length (now to)) ⌝ }
+    ensures { λ _. ⌜ now (to .exit) ≡ backOf f (take (widthOf f * n) (now (from .entry))) (take (widthOf f * m) (now (details .entry))) ++ drop (widthOf f * (n + m)) (now (to .entry)) ⌝ }
+    ensures { λ _. ⌜ length (backOf f (take (widthOf f * n) (now (from .entry))) (take (widthOf f * m) (now (details .entry)))) ≡ widthOf f * (n + m) ⌝ }
+{
+    let here = bytes_of(f, n);
+    let seam = bytes_of(f, m);
+    let there = bytes_of(f, n + m);
+    restore(f, n + m, &from[..here], &details[..seam], &mut to[..there]);
+}
+
 // The levels from length i on: `from` holds n approximations in front, `to` is room, and the two change roles at each level. The last goes straight to the output.
 fn up(
     f: Filter,
@@ -190,16 +203,13 @@ fn up(
     ensures { λ _. ⌜ drop (length (now (out .entry))) (now (from .exit)) ≡ drop (length (now (out .entry))) (now (from .entry)) ⌝ }
     ensures { λ _. ⌜ drop (length (now (out .entry))) (now (to .exit)) ≡ drop (length (now (out .entry))) (now (to .entry)) ⌝ }
 {
-    let here = bytes_of(f, n);
     let m = length_at(lengths, i);
-    let seam = bytes_of(f, m);
-    let all = n + m;
     if i + 1 == lengths.len() / 4 {
-        restore(f, all, &from[..here], details, out);
+        level_back(f, n, m, from, details, out);
     } else {
-        let there = bytes_of(f, all);
-        restore(f, all, &from[..here], &details[..seam], &mut to[..there]);
-        up(f, all, i + 1, &details[seam..], lengths, to, from, out);
+        level_back(f, n, m, from, details, to);
+        let seam = bytes_of(f, m);
+        up(f, n + m, i + 1, &details[seam..], lengths, to, from, out);
     }
 }
 

@@ -40,7 +40,7 @@ passes n l q =
       wide = within-depth n l (omega (arith, eqb-false l 0 (q .1 .0))) (ltb-false (depthOf Cdf53 n) l (q .1 .1 .0));
     }
 
--- a call that asks for its level first: r is what the level's checks said, and b whether they let by
+-- a call that asks for its level first: r is what the level's checks said, and b whether they passed
 module _ (n l : ℕ) {r : Refusal} {b : Bool} (e : r ≡ firstOf (levelChecks n l) (Done 0 0)) (d : b ≡ done r) where
   pub drawn : not b ≡ false → Drawn n l
   drawn h = passes n l (passing (levelChecks n l) (Done 0 0) (refl, (refl, (refl, tt))) (sym (ap done e) ∙ sym d ∙ not-false b h))

@@ -1,4 +1,4 @@
--- Opening: what each part of the checks leaves when it lets by, and that the levels which a cut left can be restored.
+-- Opening: what each part of the checks leaves when it passes, and that the levels which a cut left can be restored.
 use Rattle.answers.specs.declared.err.Refusal.{Refusal}
 use mathlib.Core.Bool.{Bool, true, false, cond}
 use mathlib.Core.List.{List, [], _∷_, _++_, append-nil}
@@ -44,7 +44,7 @@ filter-integers w = pick (eqb w 1) (eqb w 2)
     pick false true = tt
     pick false false = tt
 
--- what section 0 tells when its checks let by
+-- what section 0 tells when its checks pass
 pub record Headed (s : List ℕ) (w : ℕ) : Type 0 where
   pub there : headIn s .body ≤ length s
   pub width : headIn s .width ≡ w
@@ -74,7 +74,7 @@ head-passes s w p q =
       deep = roomy (depthOf Cdf53 (headIn s .samples)) (headIn s .levels) (f .1 .1 .1 .1 .1 .0);
     }
 
--- the way lets by: the detail sections that are whole are some of all, and they and section 1 are in the file
+-- the way passes: the detail sections that are whole are some of all, and they and section 1 are in the file
 pub way-refuses : (v : Way) (b : ℕ) → Refusing (wayChecks v b)
 way-refuses (Went p) b = (refl, tt)
 way-refuses (Short j) b = (refl, tt)

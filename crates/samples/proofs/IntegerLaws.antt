@@ -53,7 +53,7 @@ unfolding residue
 residue-lt M (pos n) h = mod-lt n h
 residue-lt M (negsuc n) h = omega arith
 
--- the word u plus half of the 4 Q words, kept: in the order of the numbers that the words stand for
+-- (u + 2 Q) modulo 4 Q, of a word u of the 4 Q words: 2 Q more than the number that u stands for
 abbrev pub bias : ℕ → ℕ → ℕ
 bias Q u = (u + 2 * Q) % (4 * Q)
 

@@ -26,22 +26,23 @@ approximate-block-requires c κs =
     let l = c .before .before .before .before .loop in
     let w = st .pre .0 .width in
     let ww = whole-words w in
-    (record { input = st .pre .0; details = omega arith }, (l .inv .2, room-of (w .some) (l .t) (1028 / st .args .k) (c .before .before .lesser .result + 1) (l .inv .1 ∙ ww .1) (omega arith)))
+    let n = c .before .before .lesser in
+    (record { input = st .pre .0; details = omega (arith, n .ensures, c .before .before .before .loop-test .taken) }, (l .inv .2, room-of (w .some) (l .t) (1028 / st .args .k) (n .result + 1) (l .inv .1 ∙ ww .1) (omega (arith, n .ensures, ww .2))))
 
 loop-less : tie.Need-loop-less Inv-loop μ-loop
-loop-less c = let ww = whole-words (c .before .before .before .before .before .before .before .before .before .before .before .before .pre .0 .width) in omega arith
+loop-less c = omega (arith, whole-words (c .before .before .before .before .before .before .before .before .before .before .before .before .pre .0 .width) .3, c .before .before .before .before .before .before .before .loop-test .taken, c .before .before .before .before .before .before .lesser .ensures)
 
 loop-again : tie.Need-loop-again Inv-loop μ-loop
 loop-again c =
     let r = c .before .before .before .approximate-block in
-    (omega arith, r .kept .1 .1 .1 .1 .1 .1 .0 ∙ c .before .before .before .before .before .before .before .before .loop .inv .1, r .ensures)
+    (omega (arith, c .before .before .before .before .before .before .before .loop-test .taken, c .before .before .before .before .before .before .lesser .ensures), r .kept .1 .1 .1 .1 .1 .1 .0 ∙ c .before .before .before .before .before .before .before .before .loop .inv .1, r .ensures)
 
 approximate-end-requires : tie.Need-approximate-end-requires Inv-loop μ-loop
 approximate-end-requires c κs =
     let l = c .before .before .loop in
     let st = c .before .before .before .before .before .before in
-    let all : l .i ≡ length (st .args .x .now) / st .args .k / 2 - 1 = omega arith in
-    (st .pre .0, (rw all at (l .inv .2), omega arith))
+    let all : l .i ≡ length (st .args .x .now) / st .args .k / 2 - 1 = omega (arith, l .inv .0, c .before .loop-test .left) in
+    (st .pre .0, (rw all at (l .inv .2), refl))
 
 pub approximate-spec : {M : Type 1} → statement M
 approximate-spec =

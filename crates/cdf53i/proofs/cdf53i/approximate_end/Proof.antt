@@ -13,7 +13,7 @@ put-requires-2 : tie.Need-put-requires-2
 put-requires-2 c κs =
     let st = c .before .before .before .before .before .before .before .before .before .before .before .before .before in
     let h = holds-on (c .before .before .before .before .before .before .put .last .1 .0) (st .pre .1 .0 .front .holds) (c .before .before .before .before .before .before .put .kept .1 .0) in
-    (st .pre .0 .width, (omega arith, c .approx-of2 .ensures .1))
+    (st .pre .0 .width, (omega (arith, h .count, c .before .before .before .if1 .taken), c .approx-of2 .ensures .1))
 
 -- one more: both its neighbours are the last detail
 returns : tie.Need-returns
@@ -25,6 +25,9 @@ returns c =
     let last = st .args .last in
     let r = st .pre .1 .0 in
     let f = c .before .before .before .before .before .before .before .before .before .before .before .before .before .detail-at .ensures .0 in
+    let long = st .pre .0 .long in
+    let el = st .pre .1 .1 in
+    let more = c .before .before .before .before .before .before .if1 .taken in
     approximated w x _ _
     (approx-more w x (last + 1) last
     (approx-more w x last last (r .front) (omega arith) (omega arith) (omega arith) (c .before .before .before .before .before .before .before .before .before .before .before .get .ensures .0) (r .left) f (c .before .before .before .before .before .before .before .before .before .before .approx-of .ensures .0) (c .before .before .before .before .before .before .before .before .before .put .ensures))
@@ -39,6 +42,9 @@ returns-2 c =
     let x = st .args .x .now in
     let last = st .args .last in
     let r = st .pre .1 .0 in
+    let long = st .pre .0 .long in
+    let el = st .pre .1 .1 in
+    let none = c .if1 .left in
     approximated w x _ _
     (approx-more w x last last (r .front) (omega arith) (omega arith) (omega arith) (c .before .before .before .before .before .get .ensures .0) (r .left) (c .before .before .before .before .before .before .before .detail-at .ensures .0) (c .before .before .before .before .approx-of .ensures .0) (c .before .before .before .put .ensures))
     (omega arith)
@@ -47,8 +53,12 @@ pub approximate-end-spec : {M : Type 1} → statement M
 approximate-end-spec =
     tie.close
     (tie.spec
-    (λ c. search needs) (λ c. search needs) (λ c. search needs) (λ c κs. search needs)
-    (λ c. search needs) (λ c κs. search needs) (λ c κs. search needs) (λ c κs. search needs)
+    (λ c. search needs) (λ c. search needs) (λ c. search needs)
+    (λ c κs. let pre = c .before .before .pre in (pre .0 .width, (pre .0 .samples, omega (arith, pre .0 .long, pre .1 .1))))
+    (λ c. search needs) (λ c κs. let pre = c .before .before .before .before .pre in (pre .0 .width, omega (arith, pre .0 .long, pre .1 .1)))
+    (λ c κs. let pre = c .before .before .before .before .before .pre in (pre .0 .width, (c .get .ensures .1, pre .1 .0 .small, c .before .before .detail-at .ensures .1)))
+    (λ c κs. let pre = c .before .before .before .before .before .before .pre in (pre .0 .width, (omega (arith, pre .0 .long, pre .1 .1, pre .1 .0 .front .holds .count), c .approx-of .ensures .1)))
     (λ c. search needs) (λ c. search needs) (λ c. search needs) (λ c. search needs)
-    (λ c κs. search needs) (λ c κs. search needs) put-requires-2
-    (λ c. search needs) returns (λ c. search needs) returns-2)
+    (λ c κs. (c .before .before .before .before .before .before .before .before .before .before .before .pre .0 .width, omega (arith, c .before .if1 .taken)))
+    (λ c κs. let f = c .before .before .before .before .before .before .before .before .before .detail-at .ensures .1 in (c .before .before .before .before .before .before .before .before .before .before .before .before .pre .0 .width, (c .get2 .ensures .1, f, f)))
+    put-requires-2 (λ c. search needs) returns (λ c. search needs) returns-2)

@@ -25,7 +25,9 @@ loop-again c =
     let w = st .pre .0 .input .width in
     let x = st .args .x .now in
     let i = st .args .i in
-    let t = st .pre .1 .0 .0 in (
+    let t = st .pre .1 .0 .0 in
+    let lt = c .before .before .before .before .before .before .before .before .loop-test .taken in
+    let inside = st .pre .0 .details in (
       omega arith,
       front-at _
           (approx-more w x (i + l .j) (i + l .j) (l .inv .1) (omega arith) (omega arith) (omega arith)
@@ -43,8 +45,12 @@ approxs-from-spec =
     Inv-loop μ-loop
     (λ c. (omega arith, front-at _ (c .before .before .before .pre .1 .1) (omega arith)))
     (λ c. omega arith) (λ c. omega arith) (λ c. omega arith)
-    (λ c κs. search needs) (λ c κs. search needs) (λ c. omega arith) (λ c κs. search needs)
-    (λ c κs. search needs) (λ c κs. search needs)
+    (λ c κs. let pre = c .before .before .before .before .before .before .pre .0 in (pre .input .width, omega (arith, pre .details, c .before .loop-test .taken)))
+    (λ c κs. let pre = c .before .before .before .before .before .before .before .pre in (pre .0 .input .width, omega (arith, pre .1 .0 .1 .most, c .before .before .loop-test .taken)))
+    (λ c. omega arith)
+    (λ c κs. let pre = c .before .before .before .before .before .before .before .before .pre in (pre .0 .input .width, omega (arith, pre .1 .0 .1 .most, c .before .before .before .loop-test .taken)))
+    (λ c κs. (c .before .before .before .before .before .before .before .before .before .pre .0 .input .width, (c .before .before .get .ensures .1, c .before .get2 .ensures .1, c .get3 .ensures .1)))
+    (λ c κs. let pre = c .before .before .before .before .before .before .before .before .before .before .pre .0 in (pre .input .width, (omega (arith, c .before .before .before .before .before .before .loop .inv .1 .holds .count, pre .details, c .before .before .before .before .before .loop-test .taken), c .approx-of .ensures .1)))
     (λ c. omega arith) (λ c. omega arith) loop-again
     (λ c. omega arith)
     (λ c. front-at _ (c .before .loop .inv .1) (omega arith)))

@@ -22,6 +22,7 @@ unfolding detailsFrom
 loop-holds c =
     let st = c .before .before .before .before .before .before in
     let a = st .args in
+    let most = st .pre .1 .1 .most in
     let f = front-more (front-none (detailsFrom (a .k) (a .x .now) (a .i)) (st .pre .1 .1 .holds)) refl (omega arith) (st .pre .1 .0 .0 ∙ ap (detailWord (a .k) (a .x .now)) (omega arith)) (c .before .before .put .ensures) in
     (omega arith, refl, omega (arith, f .holds .count), front-now f)
 
@@ -30,6 +31,8 @@ unfolding detailsFrom detailWord
 loop-again c =
     let a = c .before .before .before .before .before .before .before .before .before .before .before .before .before .args in
     let l = c .before .before .before .before .before .before .loop in
+    let lt = c .before .before .before .before .before .loop-test .taken in
+    let most = l .inv .2 in
     let f = front-more (l .inv .3) refl (omega arith) (c .before .before .before .detail-at .ensures .0 ∙ ap (detailWord (a .k) (a .x .now)) (omega arith)) (c .before .before .put2 .ensures) in
     (omega arith, omega (arith, f .holds .size, l .inv .3 .holds .size), omega (arith, f .holds .count), front-now f)
 
@@ -37,9 +40,12 @@ pub details-from-spec : {M : Type 1} → statement M
 details-from-spec =
     tie.close
     (tie.spec
-    Inv-loop μ-loop (λ c κs. search needs) loop-holds
+    Inv-loop μ-loop
+    (λ c κs. let pre = c .before .before .before .pre in (pre .0 .input .width, (omega (arith, pre .1 .1 .most), pre .1 .0 .1)))
+    loop-holds
     (λ c. omega arith) (λ c. omega arith) (λ c. omega arith) (λ c. omega arith)
-    (λ c κs. search needs) (λ c κs. search needs)
+    (λ c κs. let pre = c .before .before .before .before .before .before .before .before .before .pre .0 in (pre .input .width, (pre .input .samples, omega (arith, pre .details, c .before .loop-test .taken))))
+    (λ c κs. (c .before .before .before .before .before .before .before .before .before .before .pre .0 .input .width, (omega (arith, c .before .before .before .loop .inv .2, c .before .before .loop-test .taken), c .detail-at .ensures .1)))
     (λ c. omega arith) (λ c. omega arith) loop-again
     (λ c. search needs)
     (λ c. front-at _ (c .before .loop .inv .3) (omega arith)))

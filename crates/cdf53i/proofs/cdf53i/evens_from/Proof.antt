@@ -23,6 +23,7 @@ loop-holds c =
     let p = c .before .before in
     let st = p .before .before .before .before .before in
     let a = st .args in
+    let most = st .pre .1 .1 .most in
     let f = front-more (front-none (evensFrom (a .k) (a .a .now) (a .d .now) (a .i)) (st .pre .1 .1 .holds)) refl (omega arith) (st .pre .1 .0 .0 ∙ ap (evenWord (a .k) (a .a .now) (a .d .now)) (omega arith)) (p .put .ensures) in
     (omega arith, refl, omega (arith, f .holds .count), front-now f)
 
@@ -33,6 +34,8 @@ loop-again c =
     let l = p .before .before .before .before .loop in
     let st = p .before .before .before .before .before .before .before .before .before .before .before .before in
     let a = st .args in
+    let lt = p .before .before .before .loop-test .taken in
+    let most = l .inv .2 in
     let f = front-more (l .inv .3) refl (omega arith) (p .before .even-at .ensures .0 ∙ ap (evenWord (a .k) (a .a .now) (a .d .now)) (omega arith)) (p .put2 .ensures) in
     (omega arith, omega (arith, f .holds .size, l .inv .3 .holds .size), omega (arith, f .holds .count), front-now f)
 
@@ -41,11 +44,11 @@ evens-from-spec =
     tie.close
     (tie.spec
     Inv-loop μ-loop
-    (λ c κs. let st = c .before .before .before .before in (st .pre .0 .width, (omega arith, st .pre .1 .0 .1)))
+    (λ c κs. let pre = c .before .before .before .before .pre in (pre .0 .width, (omega (arith, pre .1 .1 .most), pre .1 .0 .1)))
     loop-holds
     (λ c. omega arith) (λ c. omega arith) (λ c. omega arith) (λ c. omega arith) (λ c. omega arith) (λ c. omega arith)
-    (λ c κs. let st = c .before .before .before .before .before .before .before .before .before .before in (st .pre .0 .width, omega arith))
-    (λ c κs. let st = c .before .before .before .before .before .before .before .before .before .before .before in (st .pre .0 .width, (omega arith, c .even-at .ensures .1)))
+    (λ c κs. let pre = c .before .before .before .before .before .before .before .before .before .before .pre .0 in (pre .width, omega (arith, pre .approx, pre .details, c .before .loop-test .taken)))
+    (λ c κs. (c .before .before .before .before .before .before .before .before .before .before .before .pre .0 .width, (omega (arith, c .before .before .before .loop .inv .2, c .before .before .loop-test .taken), c .even-at .ensures .1)))
     (λ c. omega arith) (λ c. omega arith) loop-again
     (λ c. search needs)
     (λ c. front-at _ (c .before .loop .inv .3) (omega arith)))

@@ -37,8 +37,8 @@ restore-block-requires c κs =
       (
         restoring-now (l .inv .3),
         (
-          record { width = w; approx = omega (arith, pre .approx .count, pre .details .count); details = omega arith; few = omega (arith, pre .details .count, pre .details .most) },
-          (room-of (w .some) (l .t) (1028 / st .args .k) (n .result + 1) (l .inv .1 ∙ ww .1) (omega arith), room-of (w .some) (l .u) (1024 / st .args .k) (n .result) (l .inv .2 ∙ ww .0) (omega arith)),
+          record { width = w; approx = omega (arith, n .ensures, pre .approx .count, pre .details .count); details = omega (arith, n .ensures); few = omega (arith, pre .details .count, pre .details .most) },
+          (room-of (w .some) (l .t) (1028 / st .args .k) (n .result + 1) (l .inv .1 ∙ ww .1) (omega (arith, n .ensures, ww .2)), room-of (w .some) (l .u) (1024 / st .args .k) (n .result) (l .inv .2 ∙ ww .0) (omega (arith, n .ensures))),
         ),
       ),
     )
@@ -46,7 +46,7 @@ restore-block-requires c κs =
 loop-less : tie.Need-loop-less Inv-loop μ-loop
 loop-less c =
     let st = c .before .before .before .before .before .before .before .before .before .before .before .before .before .before .before in
-    let ww = whole-words (st .pre .input .width) in
+    let some = whole-words (st .pre .input .width) .3 in
     let lt = c .before .before .before .before .before .before .before .before .before .loop-test .taken in
     let n = c .before .before .before .before .before .before .before .before .lesser .ensures in
     omega arith
@@ -59,7 +59,7 @@ loop-again c =
     (omega arith, c .before .before .before .before .restore-block .kept .1 .1 .1 .1 .1 .1 .1 .0 ∙ l .inv .1, c .before .before .before .before .restore-block .kept .1 .1 .1 .1 .1 .1 .1 .1 .0 ∙ l .inv .2, rw (l .inv .3 .front .holds .count) at (c .before .before .before .before .restore-block .ensures))
 
 restore-end-requires : tie.Need-restore-end-requires Inv-loop μ-loop
-restore-end-requires c κs = (bands (c .before .before), (restoring-at _ (restoring-now (c .before .before .loop .inv .3)) (omega arith), omega arith))
+restore-end-requires c κs = let l = c .before .before .loop in (bands (c .before .before), (restoring-at _ (restoring-now (l .inv .3)) (omega (arith, l .inv .0, c .before .loop-test .left)), refl))
 
 pub inverse-spec : {M : Type 1} → statement M
 inverse-spec =
@@ -67,7 +67,7 @@ inverse-spec =
     (tie.spec
     Inv-loop μ-loop (λ c. c .before .before .before .pre .input .width .some) (λ c. omega arith)
     (λ c. c .before .before .before .pre .input .width .some)
-    (λ c κs. (c .before .before .before .pre .input .width, omega arith)) loop-holds
+    (λ c κs. let pre = c .before .before .before .pre in (pre .input .width, omega (arith, pre .input .long, pre .approx .count, pre .details .count))) loop-holds
     (λ c. omega arith) (λ c κs. search needs)
     (λ c. omega arith) (λ c. omega arith)
     restore-block-requires (λ c. omega arith) loop-less loop-again restore-end-requires

@@ -24,7 +24,11 @@ loop-again c =
     let w = st .pre .0 .width in
     let a = st .args .a .now in
     let d = st .args .d .now in
-    let i = st .args .i in (
+    let i = st .args .i in
+    let lt = p .before .before .before .before .before .before .loop-test .taken in
+    let inside = st .pre .0 .approx in
+    let band = st .pre .0 .details in
+    let most = st .pre .1 .1 .1 .most in (
       omega arith,
       odds-more w a d i (l .j) (l .inv .1) (omega arith) (omega arith) (omega arith)
           (p .before .before .before .before .get .ensures .0 ∙ evens-read w a d i (l .j) (st .pre .1 .0) (omega arith))
@@ -38,13 +42,13 @@ odds-from-spec =
     (tie.spec
     Inv-loop μ-loop
     (λ c. (omega arith, front-none _ (c .before .before .before .before .pre .1 .1 .1 .holds)))
-    (λ c κs. let st = c .before .before .before .before .before .before .before in (st .pre .0 .width, omega arith))
+    (λ c κs. let pre = c .before .before .before .before .before .before .before .pre in (pre .0 .width, omega (arith, pre .1 .1 .0 .most, c .before .loop-test .taken)))
     (λ c. omega arith)
-    (λ c κs. let st = c .before .before .before .before .before .before .before .before in (st .pre .0 .width, omega arith))
+    (λ c κs. let pre = c .before .before .before .before .before .before .before .before .pre .0 in (pre .width, omega (arith, pre .details, c .before .before .loop-test .taken)))
     (λ c. omega arith)
-    (λ c κs. let st = c .before .before .before .before .before .before .before .before .before in (st .pre .0 .width, omega arith))
+    (λ c κs. let pre = c .before .before .before .before .before .before .before .before .before .pre in (pre .0 .width, omega (arith, pre .1 .1 .0 .most, c .before .before .before .loop-test .taken)))
     (λ c κs. let st = c .before .before .before .before .before .before .before .before .before .before in (st .pre .0 .width, (c .before .before .get .ensures .1, c .before .get2 .ensures .1, c .get3 .ensures .1)))
-    (λ c κs. let st = c .before .before .before .before .before .before .before .before .before .before .before in let h = c .before .before .before .before .before .before .loop .inv .1 .holds in (st .pre .0 .width, (omega arith, c .odd-of .ensures .1)))
+    (λ c κs. let pre = c .before .before .before .before .before .before .before .before .before .before .before .pre in (pre .0 .width, (omega (arith, c .before .before .before .before .before .before .loop .inv .1 .holds .count, pre .1 .1 .1 .most, c .before .before .before .before .before .loop-test .taken), c .odd-of .ensures .1)))
     (λ c. omega arith) (λ c. omega arith) loop-again
     (λ c. omega arith)
     (λ c. front-at _ (c .before .loop .inv .1) (omega arith)))

@@ -41,7 +41,7 @@ put-requires-2 : tie.Need-put-requires-2 Inv-loop μ-loop
 put-requires-2 c κs =
     let st = c .before .before .before .before .before .before .before .before .before .before .before .before .before .before in
     let h = holds-on (c .before .before .before .before .put .last .1 .0) (c .before .before .before .before .before .before .before .before .loop .inv .1 .holds) (c .before .before .before .before .put .kept .1 .0) in
-    (st .pre .0 .width, (omega arith, c .get2 .ensures .1))
+    (st .pre .0 .width, (omega (arith, h .count, st .pre .1 .1 .1 .0 .2, c .before .before .before .before .before .before .before .loop-test .taken), c .get2 .ensures .1))
 
 pub pairs-from-spec : {M : Type 1} → statement M
 pairs-from-spec =
@@ -50,10 +50,10 @@ pairs-from-spec =
     Inv-loop μ-loop
     (λ c. (omega arith, front-at _ (c .before .before .before .before .before .pre .1 .1 .1 .1) (omega arith)))
     (λ c. omega arith) (λ c. omega arith)
-    (λ c κs. let st = c .before .before .before .before .before .before .before .before in (st .pre .0 .width, omega arith))
-    (λ c κs. let st = c .before .before .before .before .before .before .before .before .before in let h = c .before .before .before .loop .inv .1 .holds in (st .pre .0 .width, (omega arith, c .get .ensures .1)))
+    (λ c κs. let pre = c .before .before .before .before .before .before .before .before .pre in (pre .0 .width, omega (arith, pre .1 .1 .1 .0 .0 .most, c .before .loop-test .taken)))
+    (λ c κs. let pre = c .before .before .before .before .before .before .before .before .before .pre in (pre .0 .width, (omega (arith, c .before .before .before .loop .inv .1 .holds .count, pre .1 .1 .1 .0 .2, c .before .before .loop-test .taken), c .get .ensures .1)))
     (λ c. omega arith) (λ c. omega arith) (λ c. omega arith)
-    (λ c κs. let st = c .before .before .before .before .before .before .before .before .before .before .before .before .before in (st .pre .0 .width, omega arith))
+    (λ c κs. let pre = c .before .before .before .before .before .before .before .before .before .before .before .before .before .pre in (pre .0 .width, omega (arith, pre .1 .1 .1 .0 .1 .most, c .before .before .before .before .before .before .loop-test .taken)))
     put-requires-2
     (λ c. omega arith) (λ c. omega arith) loop-again
     (λ c. omega arith)

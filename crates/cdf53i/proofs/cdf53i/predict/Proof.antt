@@ -21,6 +21,7 @@ abbrev μ-loop : tie.MeasureT-loop
 loop-again : tie.Need-loop-again Inv-loop μ-loop
 loop-again c =
     let p = c .before .before in
+    let lt = p .before .before .before .loop-test .taken in
     (omega arith, front-more (p .before .before .before .before .loop .inv .1) refl (omega arith) (p .before .detail-at .ensures .0) (p .put .ensures))
 
 returns : tie.Need-returns Inv-loop μ-loop
@@ -28,7 +29,11 @@ unfolding high details
 returns c =
     let p = c .before .before in
     let l = p .before .before .before .before in
-    let a = l .before .before .before .args in
+    let st = l .before .before .before in
+    let a = st .args in
+    let le = l .loop .inv .0 in
+    let ge = p .before .before .before .loop-test .left in
+    let long = st .pre .0 .long in
     let n = length-decode (a .k) (a .x .now) in
     front-all _ (front-more (l .loop .inv .1) (omega arith) (omega arith) (p .before .detail-at2 .ensures .0) (p .put2 .ensures)) (omega arith) (omega arith)
     ∙ sym (encode-tabulate (a .k) _ (detail (wrap (a .k)) (decode (a .k) (a .x .now))))
@@ -39,6 +44,10 @@ predict-spec =
     (tie.spec
     Inv-loop μ-loop (λ c. c .before .before .pre .0 .width .some) (λ c. omega arith)
     (λ c. (omega arith, front-none _ (c .before .before .pre .1))) (λ c. search needs)
-    (λ c κs. search needs) (λ c κs. search needs) (λ c. search needs) (λ c. omega arith) loop-again
-    (λ c. search needs) (λ c. search needs) (λ c κs. search needs) (λ c κs. search needs)
+    (λ c κs. let pre = c .before .before .before .before .before .pre .0 in (pre .width, (pre .samples, omega (arith, c .before .loop-test .taken))))
+    (λ c κs. (c .before .before .before .before .before .before .pre .0 .width, (omega (arith, c .before .before .before .loop .inv .1 .holds .count, c .before .before .loop-test .taken), c .detail-at .ensures .1)))
+    (λ c. search needs) (λ c. omega arith) loop-again
+    (λ c. search needs) (λ c. search needs)
+    (λ c κs. let pre = c .before .before .before .before .before .pre .0 in (pre .width, (pre .samples, omega (arith, pre .long))))
+    (λ c κs. let pre = c .before .before .before .before .before .before .pre .0 in (pre .width, (omega (arith, c .before .before .before .loop .inv .1 .holds .count, pre .long), c .detail-at2 .ensures .1)))
     (λ c. omega arith) returns)

@@ -30,24 +30,24 @@ put-requires-2 c κs =
     let b = c .before .before .before .before .before .before .before .before .before .before .before .pre .0 in
     let h = holds-on (c .before .before .before .before .before .before .put .last .1 .0) (b .input .samples) (c .before .before .before .before .before .before .put .kept .1 .0) in
     let e = as-many b (c .before .before .before .if1 .taken) in
-    (b .input .width, (omega arith, c .odd-of .ensures .1))
+    (b .input .width, (omega (arith, h .count, b .details .count, b .input .long, c .before .before .before .before .before .before .before .before .before .before .before .pre .1 .1), c .odd-of .ensures .1))
 
 even-at-requires : tie.Need-even-at-requires
-even-at-requires c κs = let b = c .before .before .before .before .before .before .before .before .pre .0 in let e = one-more b (c .if1 .left) in (b .input .width, (omega arith, omega arith, omega arith, omega arith, omega arith))
+even-at-requires c κs = let b = c .before .before .before .before .before .before .before .before .pre .0 in (b .input .width, omega (arith, one-more b (c .if1 .left), b .details .count, b .input .long, c .before .before .before .before .before .before .before .before .pre .1 .1))
 
 put-requires-3 : tie.Need-put-requires-3
 put-requires-3 c κs =
     let b = c .before .before .before .before .before .before .before .before .before .before .before .before .pre .0 in
     let h = holds-on (c .before .before .before .before .before .before .before .put .last .1 .0) (b .input .samples) (c .before .before .before .before .before .before .before .put .kept .1 .0) in
     let e = one-more b (c .before .before .before .before .if1 .left) in
-    (b .input .width, (omega arith, c .odd-of2 .ensures .1))
+    (b .input .width, (omega (arith, h .count, b .details .count, b .input .long, c .before .before .before .before .before .before .before .before .before .before .before .before .pre .1 .1), c .odd-of2 .ensures .1))
 
 put-requires-4 : tie.Need-put-requires-4
 put-requires-4 c κs =
     let b = c .before .before .before .before .before .before .before .before .before .before .before .before .before .before .before .before .pre .0 in
     let h = holds-on (c .before .before .before .put3 .last .1 .0) (holds-on (c .before .before .before .before .before .before .before .before .before .before .before .put .last .1 .0) (b .input .samples) (c .before .before .before .before .before .before .before .before .before .before .before .put .kept .1 .0)) (c .before .before .before .put3 .kept .1 .0) in
     let e = one-more b (c .before .before .before .before .before .before .before .before .if1 .left) in
-    (b .input .width, (omega arith, c .before .before .before .before .before .before .before .even-at .ensures .1))
+    (b .input .width, (omega (arith, h .count, e, b .approx .count, b .details .count, b .input .long, c .before .before .before .before .before .before .before .before .before .before .before .before .before .before .before .before .pre .1 .1), c .before .before .before .before .before .before .before .even-at .ensures .1))
 
 -- as many: the last odd sample stands between the last even one and its mirror
 returns : tie.Need-returns
@@ -57,6 +57,10 @@ returns c =
     let w = b .input .width in
     let r = c .before .before .before .before .before .before .before .before .before .before .before .before .before .before .pre .1 .0 in
     let e = as-many b (c .before .before .before .before .before .before .if1 .taken) in
+    let long = b .input .long in
+    let na = b .approx .count in
+    let nd = b .details .count in
+    let el = c .before .before .before .before .before .before .before .before .before .before .before .before .before .before .pre .1 .1 in
     restored-all w (a .a .now) (a .d .now) _ _ _
     (front-pair w (a .a .now) (a .d .now) (a .last) (a .last) (r .front) (omega arith) (omega arith) (omega arith) (r .next) (r .next)
     (c .before .before .before .before .before .before .before .before .before .put .ensures) (c .before .before .before .before .get .ensures .0) (c .before .before .before .odd-of .ensures .0) (c .before .before .put2 .ensures))
@@ -72,7 +76,10 @@ returns-2 c =
     let w = b .input .width in
     let r = c .before .before .before .before .before .before .before .before .before .before .before .before .before .before .before .before .before .before .before .pre .1 .0 in
     let e = one-more b (c .before .before .before .before .before .before .before .before .before .before .before .if1 .left) in
-    let at = c .before .before .before .before .before .before .before .before .before .before .before .before .before .before .before .before .before .before .before .pre .1 .1 in
+    let long = b .input .long in
+    let na = b .approx .count in
+    let nd = b .details .count in
+    let el = c .before .before .before .before .before .before .before .before .before .before .before .before .before .before .before .before .before .before .before .pre .1 .1 in
     let f = c .before .before .before .before .before .before .before .before .before .before .even-at .ensures .0 in
     restored-all w (a .a .now) (a .d .now) _ _ _
     (front-last w (a .a .now) (a .d .now) (a .last + 1)
@@ -88,8 +95,14 @@ pub restore-end-spec : {M : Type 1} → statement M
 restore-end-spec =
     tie.close
     (tie.spec
-    (λ c. search needs) (λ c κs. search needs) (λ c. search needs) (λ c. search needs)
-    (λ c κs. search needs) (λ c κs. search needs) put-requires-2 (λ c. search needs)
-    even-at-requires (λ c. search needs) (λ c. search needs) (λ c κs. search needs)
-    (λ c κs. search needs) put-requires-3 (λ c. search needs) (λ c. search needs) put-requires-4
+    (λ c. search needs)
+    (λ c κs. let pre = c .before .before .before .before .pre in let b = pre .0 in (b .input .width, (omega (arith, b .details .count, b .input .long, pre .1 .1), pre .1 .0 .small)))
+    (λ c. search needs) (λ c. search needs)
+    (λ c κs. let pre = c .before .before .before .before .before .before .before .before .before .pre in let b = pre .0 in (b .input .width, omega (arith, b .details .count, b .input .long, pre .1 .1)))
+    (λ c κs. let pre = c .before .before .before .before .before .before .before .before .before .before .pre in (pre .0 .input .width, (pre .1 .0 .small, c .get .ensures .1, pre .1 .0 .small)))
+    put-requires-2 (λ c. search needs)
+    even-at-requires (λ c. search needs) (λ c. search needs)
+    (λ c κs. let pre = c .before .before .before .before .before .before .before .before .before .before .pre in let b = pre .0 in (b .input .width, omega (arith, b .details .count, b .input .long, pre .1 .1)))
+    (λ c κs. let pre = c .before .before .before .before .before .before .before .before .before .before .before .pre in (pre .0 .input .width, (pre .1 .0 .small, c .get2 .ensures .1, c .before .before .even-at .ensures .1)))
+    put-requires-3 (λ c. search needs) (λ c. search needs) put-requires-4
     (λ c. search needs) returns (λ c. search needs) returns-2)

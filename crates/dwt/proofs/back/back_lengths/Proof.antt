@@ -32,7 +32,7 @@ summed ms d m = (not (eqb (total ms) d), BadCount 0 (total ms)) ∷ m
 abbrev below : Filter → ℕ → ℕ → List ℕ → ℕ → ℕ → ℕ → List Check
 below f a d ms n u v = bandChecks (waveletOf f) a ms ++ roomChecks (a + d) n u v
 
--- the limits let by: what they say of the numbers, and what is said of the rest is said of all
+-- the limits pass: what they say of the numbers, and that the whole list says what the rest says
 within : (c : tie.Else1) → let a = c .before .before .before .before .args in (a .a ≤ mostSamples) × (a .d ≤ mostSamples) × (length (a .lengths .now) / 4 ≤ mostLevels)
 within c =
     let a = c .before .before .before .before .args in

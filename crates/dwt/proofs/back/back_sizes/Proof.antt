@@ -12,7 +12,7 @@ use Rattle.dwt.specs.Backward.{mostLevels}
 use Rattle.dwt.proofs.back.back_sizes.Statement.{statement}
 use Rattle.dwt.proofs.back.back_sizes.Tie as tie
 
--- past the limits: what is said of the rest is said of all
+-- past the limits: the whole list says what the rest says
 past3 : (c : tie.Else3) {y z : Refusal} → z ≡ y
     → let a = c .before .before .before .args in z ≡ firstOf ((ltb mostSamples (a .n), TooLong) ∷ (ltb mostSamples (a .a), TooLong) ∷ (ltb mostSamples (a .d), TooLong) ∷ []) y
 past3 c q = by _ (le-ltb _ _ (c .before .before .if1 .left)) (by _ (le-ltb _ _ (c .before .if2 .left)) (by _ (le-ltb _ _ (c .if3 .left)) q))

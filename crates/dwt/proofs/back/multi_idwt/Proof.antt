@@ -1,4 +1,4 @@
--- `multi_idwt` meets its contract: the checks, then the levels where they let by. Looks into no filter.
+-- `multi_idwt` meets its contract: the checks, then the levels where they pass. Looks into no filter.
 use borrow.Author.Needs.{needs}
 use mathlib.Core.List.{List}
 use mathlib.Core.Path.{_≡_, _∙_, sym, ap}

@@ -1,4 +1,4 @@
--- One level forward with the checks: what is left where they let by, and where they do not.
+-- One level forward with the checks: what is left where they pass, and where they do not.
 use borrow.Author.Needs.{needs}
 use Rattle.dwt.proofs.Filters.{forward-lent, forward-made, forward-kept}
 use Rattle.dwt.proofs.filter.execute_forward.Statement.{statement}

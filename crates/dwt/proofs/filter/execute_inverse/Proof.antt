@@ -1,4 +1,4 @@
--- One level back with the checks: what is left where they let by, and where they do not.
+-- One level back with the checks: what is left where they pass, and where they do not.
 use borrow.Author.Needs.{needs}
 use Rattle.dwt.proofs.Filters.{inverse-lent, inverse-made, inverse-kept}
 use Rattle.dwt.proofs.filter.execute_inverse.Statement.{statement}

@@ -21,7 +21,7 @@ bands k x a d = ragged k x ∷ ragged k a ∷ ragged k d ∷ []
 rest : Filter → ℕ → ℕ → ℕ → ℕ → ℕ → ℕ → ℕ → List Check
 rest f l k x a d u v = ragged k u ∷ ragged k v ∷ dwtChecks f l (x / k) (a / k) (d / k) (u / k) (v / k)
 
--- signal and bands are whole: what is said of the rest is said of all
+-- signal and bands are whole: the whole list says what the rest says
 past1 : (c : tie.Else1) {z : Refusal}
     → let a = c .before .before .before .before .args in
     let k = c .before .before .before .width .result in

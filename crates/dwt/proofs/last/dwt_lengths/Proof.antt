@@ -23,7 +23,7 @@ use Rattle.dwt.proofs.last.dwt_lengths.Tie as tie
 deep : (c : tie.After-depth) → let a = c .before .before .before .before .args in ltb (c .depth .result) (c .before .before .at-least-one .result) ≡ ltb (depthOf (waveletOf (a .f)) (a .n)) (levelsOf (a .levels))
 deep c = rw (c .depth .ensures, c .before .wavelet .ensures, c .before .before .at-least-one .ensures)
 
--- past the limit and the depth: what is said of the rest is said of all
+-- past the limit and the depth: the whole list says what the rest says
 past2 : (c : tie.Else2) {y z : Refusal} → z ≡ y
     → let a = c .before .before .before .before .before .args in z ≡ firstOf ((ltb mostSamples (a .n), TooLong) ∷ (ltb (depthOf (waveletOf (a .f)) (a .n)) (levelsOf (a .levels)), BufferWasTooSmallForLevel) ∷ []) y
 past2 c q = by _ (le-ltb _ _ (c .before .before .before .before .if1 .left)) (by _ (sym (deep (c .before)) ∙ le-ltb _ _ (c .if2 .left)) q)

@@ -1,11 +1,12 @@
 -- `level_above` meets its contract: the front of `to` comes back as the approximations. Looks into no filter.
 use borrow.Author.Needs.{needs}
-use mathlib.Core.Path.{_≡_, sym, _∙_}
-use Prim.Native.Nat.{_*_}
+use mathlib.Core.Path.{_≡_, sym, ap, _∙_}
+use mathlib.Core.List.{List, _++_}
+use Prim.Native.Nat.{ℕ, _*_}
 use native.Mathlib.Omega.{arith}
-use lib.ListN.{length, take}
+use lib.ListN.{length, take, drop}
 use lib.Seq.{length-take-le}
-use Rattle.dwt.specs.Filters.{widthOf}
+use Rattle.dwt.specs.Filters.{widthOf, lowOf}
 use Rattle.dwt.proofs.Lists.{put-front}
 use Rattle.dwt.proofs.Rooms.{low-at}
 use Rattle.dwt.proofs.last.level_above.Statement.{statement}
@@ -24,8 +25,10 @@ returns c =
     let lent = c .before .before .before .before .before in
     let a = lent .before .before .before .before .args in
     let cut = lent .cut-of in
-    let front = put-front (a .to .now) (made .last .1 .1 .0) (cut .result) (widthOf (a .f) * a .n) (made .kept .1 .1 .0 ∙ written lent) (omega (arith, cut .ensures)) in
-    (cc, front .1)
+    let front = put-front (a .to .now) (made .last .1 .1 .0) (cut .result) (widthOf (a .f) * a .n) (made .kept .1 .1 .0 ∙ written lent) (omega (arith, cut .ensures)) in (
+      ap (λ (j : ℕ). take j (made .last .1 .1 .0 ++ drop (cut .result) (a .to .now))) (sym (cut .ensures .place)) ∙ front .0 ∙ made .ensures ∙ ap (λ (j : ℕ). lowOf (a .f) (take j (a .from .now))) (lent .before .bytes-of .ensures),
+      front .1,
+    )
 
 pub level-above-spec : {M : Type 1} → statement M
 level-above-spec =

@@ -66,7 +66,7 @@ down-level-requires t c κs =
     let st = c .before .before .before .before .before .before .before in
     let a = st .args in
     let h : suc (a .levels - 1) ≤ depthOf (waveletOf (a .f)) (a .n) = omega arith in
-    (step (smallestOf (waveletOf (a .f))) (two-below (waveletOf (a .f))) (a .levels - 1) (a .n) h .0, (length-take-le (length (a .out .now)) (a .from .now) (omega arith) ∙ (omega arith), (omega arith, (omega arith, omega arith))))
+    (step (smallestOf (waveletOf (a .f))) (two-below (waveletOf (a .f))) (a .levels - 1) (a .n) h .0, (length-take-le (length (a .out .now)) (a .from .now) (omega (arith, st .pre)) ∙ st .pre .1 .1, omega (arith, st .pre)))
 
 down-add-half : (t : ℕ) → down-lts.Need-add-half (claims t) (down-at t) down.Post
 down-add-half t c = search needs
@@ -92,7 +92,7 @@ down-down-requires t c κs =
     let cut = c .before .before .before .cut-of .ensures in
     let out : length (take (c .before .before .before .cut-of .result) (c .before .before .before .before .before .before .before .before .level .last .1 .1 .1 .1 .0)) ≡ widthOf (a .f) * ups (a .n) =
     length-take-le (c .before .before .before .cut-of .result) (c .before .before .before .before .before .before .before .before .level .last .1 .1 .1 .1 .0) (omega (arith, cut, st .pre, c .before .before .before .before .before .before .before .before .level .kept)) ∙ cut .place in
-    (omega arith, (record { deep = s .1; short = omega arith; first = omega (arith, cut, st .pre, c .before .before .before .before .before .before .before .before .level .kept); second = omega (arith, cut, st .pre) }, out))
+    (omega arith, (record { deep = s .1; short = omega (arith, st .pre); first = omega (arith, cut, st .pre, c .before .before .before .before .before .before .before .before .level .kept); second = omega (arith, cut, st .pre) }, out))
 
 down-same-length : (t : ℕ) → down-lts.Need-same-length (claims t) (down-at t) down.Post
 down-same-length t c = search needs

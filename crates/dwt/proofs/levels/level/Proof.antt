@@ -1,7 +1,8 @@
 -- `level` meets its contract: the two bands, each in its place. Looks into no filter.
 use borrow.Author.Needs.{needs}
-use mathlib.Core.Path.{_≡_, sym, ap, _∙_}
-use Prim.Native.Nat.{_-_, _*_}
+use mathlib.Core.Path.{_≡_, sym, ap, ap₂, _∙_}
+use mathlib.Core.List.{List, _++_}
+use Prim.Native.Nat.{ℕ, _-_, _*_}
 use native.Mathlib.Omega.{arith}
 use lib.ListN.{length, take, drop}
 use lib.Seq.{length-take-le}
@@ -29,9 +30,9 @@ returns c =
     let l : Level (waveletOf (a .f)) (widthOf (a .f)) (a .n) (length x) (length lo) (length hi) =
     record { long = st .pre .0; short = st .pre .1 .1 .1 .1; samples = st .pre .1 .0; approx = nlo; details = nhi } in
     let ran = forward-ran (waveletOf (a .f)) (widthOf (a .f)) (lowOf (a .f)) (highOf (a .f)) x lo hi (a .n) (fw .result) (fw .last .1 .1 .0) (fw .last .1 .1 .1 .0) (width-pos (a .f)) l (fw .ensures) in (
-      cc,
+      ap₂ (λ (l : List ℕ) (j : ℕ). l ++ drop j (a .to .now)) (ran .0) (cut .place),
       (
-        put-end k (a .out .now) (fw .last .1 .1 .1 .0) (omega (arith, cut, st .pre)) ∙ (cc),
+        put-end k (a .out .now) (fw .last .1 .1 .1 .0) (omega (arith, cut, st .pre)) ∙ ap₂ (λ (j : ℕ) (l : List ℕ). take j (a .out .now) ++ l) (cut .place) (ran .1),
         (ap length (sym (ran .0)) ∙ fw .kept .1 .1 .0 ∙ nlo, ap length (sym (ran .1)) ∙ fw .kept .1 .1 .1 .0 ∙ nhi),
       ),
     )

@@ -1,4 +1,4 @@
--- `multi_dwt` meets its contract: the checks, then the levels where they let by. Looks into no filter.
+-- `multi_dwt` meets its contract: the checks, then the levels where they pass. Looks into no filter.
 use borrow.Author.Needs.{needs}
 use mathlib.Core.Path.{_≡_, _∙_, sym, ap}
 use Prim.Native.Nat.{_*_, _/_}

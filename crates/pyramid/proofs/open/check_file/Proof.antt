@@ -17,7 +17,7 @@ use Rattle.pyramid.proofs.Opening.{other-end, Headed, head-refuses, hea
 use Rattle.pyramid.proofs.open.check_file.Statement.{statement}
 use Rattle.pyramid.proofs.open.check_file.Tie as tie
 
--- past section 0: what is said of the way is said of all
+-- past section 0: the whole list says what the way says
 past : (c : tie.Else1) {z : Refusal} → let a = c .before .before .before .before .args in let s = a .s .now in
     z ≡ firstOf (wayChecks (wayIn s (headIn s)) (length s)) (Done (levelIn s) (countIn s)) → z ≡ sayFile s (a .w) (a .p)
 unfolding sayFile

@@ -21,7 +21,7 @@ use Rattle.pyramid.proofs.open.check_open.Tie as tie
 abbrev rest : List ℕ → ℕ → ℕ → ℕ → ℕ → ℕ → List Check
 rest s w p o u v = fileChecks s w p ++ roomsFor w (countIn s) o u v
 
--- past the areas: what is said of the rest is said of all
+-- past the areas: the whole list says what the rest says
 past : (c : tie.Else1) {z : Refusal} → let a = c .before .before .before .before .args in let s = a .s .now in
     z ≡ firstOf (rest s (a .w) (a .p) (a .o) (a .u) (a .v)) (Done (levelIn s) (countIn s)) → z ≡ sayOpen s (a .w) (a .p) (a .o) (a .u) (a .v)
 unfolding sayOpen

@@ -1,4 +1,4 @@
--- `open` meets its contract: the checks, then the levels where they let by. Looks into no filter.
+-- `open` meets its contract: the checks, then the levels where they pass. Looks into no filter.
 use borrow.Author.Needs.{needs}
 use mathlib.Core.Bool.{true}
 use mathlib.Core.List.{List, _++_}

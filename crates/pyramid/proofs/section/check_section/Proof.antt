@@ -19,7 +19,7 @@ use Rattle.pyramid.proofs.section.check_section.Tie as tie
 abbrev there : List ℕ → ℕ → Refusal
 there s j = Done (startOf s (headIn s) j) (lengthOf (headIn s) j)
 
--- past section 0: what is said of the rest is said of all
+-- past section 0: the whole list says what the rest says
 past1 : (c : tie.Else1) (m : List Check) {z : Refusal} → let a = c .before .before .before .before .args in z ≡ firstOf m (there (a .s .now) (a .j)) → z ≡ firstOf (headChecks (a .s .now) (a .w) (a .p) ++ m) (there (a .s .now) (a .j))
 past1 c m q =
     let a = c .before .before .before .before .args in

@@ -1,4 +1,4 @@
--- `write` meets its contract: the checks, then the file where they let by. Looks into no filter.
+-- `write` meets its contract: the checks, then the file where they pass. Looks into no filter.
 use borrow.Author.Needs.{needs}
 use mathlib.Core.List.{_++_}
 use mathlib.Core.Path.{_≡_, _∙_, sym, ap}

@@ -29,7 +29,7 @@ returns c =
     let a = c .before .before .before .args in
     say-stop (levelsChecks (a .f) (a .levels) (a .n)) (tight (a .b) (fileSize headSize (widthOf (a .f)) (levelsOf (a .levels)) (a .n)) ∷ twoAreas (a .u) (a .v) (a .n)) (Done 0 0) (c .before .before .check-levels .ensures) (sym (c .before .is-done .ensures) ∙ not-true _ (c .if1 .taken))
 
--- past the levels: what is said of the rest is said of all
+-- past the levels: the whole list says what the rest says
 past : (c : tie.Else1) {z : Refusal} → let a = c .before .before .before .args in
     z ≡ firstOf (tight (a .b) (fileSize headSize (widthOf (a .f)) (levelsOf (a .levels)) (a .n)) ∷ twoAreas (a .u) (a .v) (a .n)) (Done 0 0) → z ≡ firstOf (writeChecks (a .f) (a .levels) (a .n) (a .b) (a .u) (a .v)) (Done 0 0)
 past c q =
