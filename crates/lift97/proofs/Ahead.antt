@@ -16,14 +16,14 @@ use Rattle.samples.specs.Floats.{width, encodeFloats}
 use Rattle.floats.specs.Filters.{Set, decimal, rounded, factors32, factors64, factorsOf, steps97}
 use Rattle.floats.specs.Steps.{lift}
 use Rattle.floats.specs.Bands.{approxs, details, low, high}
-use Rattle.small.specs.Small.{Small, Factor, SmallFrom}
+use Rattle.small.specs.Small.{Small, Factor, SmallFrom, SmallIf}
 use Rattle.small.specs.Lists.{evenIn, oddIn, oddsTo, evensTo, patternOf}
 use Rattle.small.proofs.Sizes.{reach, ceiling, small-le, small-part}
 use Rattle.small.specs.Pieces.{Piece, Stepped}
 use Rattle.small.proofs.Pieces.{stepped-piece}
 use Rattle.small.proofs.Lifts as lifts
 use Rattle.small.proofs.Firsts as firsts
-use Rattle.lift97.specs.Ahead.{oddsOne, evensTwo, oddsThree, evensFour, scaledOdds, scaledEvens, Near, Samples, Ahead, Carried, Handed, Splitting, Split}
+use Rattle.lift97.specs.Ahead.{oddsOne, evensTwo, oddsThree, evensFour, scaledOdds, scaledEvens, Samples, Ahead, Carried, Handed, Splitting, Split}
 
 -- ---- the factors are at most 2, and four steps and a scaling stay far below the largest float
 
@@ -118,7 +118,7 @@ module _ {f : Format} {t : Set} {x : List ℕ} (v : Samples f t x) where
     pub handed : Handed f t x i n u w s
     handed = record { one = ones; two = twos; three = threes }
 
-  -- ---- small samples leave no NaN
+  -- ---- small samples leave no NaN: entry i of the bands is made of those from 2 i - 4 to 2 i + 4
 
   -- each step reaches a sample further on either side
   one-small : (i : ℕ) → i < length x / width f / 2 → SmallFrom f x (2 * i) (2 * i + 3) → Small f (reach f + 9 + 9) (getD (oddsOne f t x) i nan)
@@ -145,7 +145,7 @@ module _ {f : Format} {t : Set} {x : List ℕ} (v : Samples f t x) where
       (three-small r (omega (arith, long)) (small-part _ _ w (omega arith) (omega arith)))
       (small-le f (getD (evensTwo f t x) i nan) (reach f + 9 + 9) (reach f + 9 + 9 + 9) (two-small i h (small-part _ _ w (omega arith) (omega arith))) (omega arith))
 
-  module _ {b : Bool} {e : Float} (i : ℕ) (w : Near b f x i) where
+  module _ {b : Bool} {e : Float} (i : ℕ) (w : SmallIf b f x (2 * i - 4) (2 * i + 5)) where
     pub high-no-nan : i < length x / width f / 2 → e ≡ getD (scaledOdds f t x) i nan → b ≡ true → T (not (isNan e))
     unfolding scaledOdds
     high-no-nan h q s =
@@ -184,11 +184,6 @@ pub record Turned (both : Bool) (f : Format) (t : Set) (x a₀ d₀ a d : List �
   pub details : length d ≡ length d₀
   pub stored : Splitting both f t x a d i
   pub carried : Carried f t x i p q r
-
--- what the next turn requires, and R besides
-pub turned-on : {both : Bool} {f : Format} {t : Set} {x a₀ d₀ a d : List ℕ} {i : ℕ} {p q r : Float} {R : Type 0} → Ahead both f t x a₀ d₀ → Turned both f t x a₀ d₀ a d i p q r → R
-    → Ahead both f t x a d × (Splitting both f t x a d i × (Carried f t x i p q r × R))
-turned-on v w h = (ahead-on v (w .stored), (w .stored, (w .carried, h)))
 
 pub splitting-at : {both : Bool} {f : Format} {t : Set} {x a d : List ℕ} {i : ℕ} (k : ℕ) → Splitting both f t x a d i → i ≡ k → Splitting both f t x a d k
 splitting-at {both} {f} {t} {x} {a} {d} k r w = subst (λ m. Splitting both f t x a d m) w r
