@@ -1,6 +1,6 @@
 -- `inverse_all_f32` meets its contract: before a block the first 2 i samples are restored, and s is what its first turn is handed.
 use borrow.Author.Needs.{needs}
-use mathlib.Core.Path.{refl}
+use mathlib.Core.Path.{refl, sym}
 use Prim.Native.Nat.{_+_, _-_, _≤_}
 use native.Mathlib.Omega.{arith}
 use lib.Ieee.{binary32}
@@ -37,7 +37,7 @@ inverse-all-f32-spec =
     (λ c. search needs) (λ c κs. search needs) (λ c. (omega arith, record { first = refl; second = refl; third = refl; fourth = refl; fifth = refl }, c .before .before .before .before .pre .1, c .first-f32 .ensures))
     (λ c κs. search needs) (λ c. omega arith) (λ c κs. search needs) (λ c. omega arith)
     (λ c κs. let v = c .before .before .before .before .before .before .before .before .pre .0 in let n = c .before .block-turns .ensures in (omega (arith, v), omega (arith, v)))
-    (λ c. search needs) (λ c. search needs) (λ c. search needs) (λ c. search needs) (λ c. search needs)
+    (λ c. sym (c .before .before .before .before .before .before .loop .inv .1 .first)) (λ c. sym (c .before .before .before .before .before .before .before .loop .inv .1 .second)) (λ c. sym (c .before .before .before .before .before .before .before .before .loop .inv .1 .third)) (λ c. sym (c .before .before .before .before .before .before .before .before .before .loop .inv .1 .fourth)) (λ c. sym (c .before .before .before .before .before .before .before .before .before .before .loop .inv .1 .fifth))
     block-requires (λ c. omega (arith, c .before .before .before .before .before .before .before .before .before .before .before .before .before .before .before .before .block-turns .ensures))
-    (λ c. let r = c .before .before .before .before .before .before .before .restore-block-f32 .ensures in (omega (arith, c .before .before .before .before .before .before .before .before .before .before .before .before .before .before .before .before .block-turns .ensures), record { first = search needs; second = search needs; third = search needs; fourth = search needs; fifth = search needs }, r .0, r .1))
+    (λ c. let r = c .before .before .before .before .before .before .before .restore-block-f32 .ensures in (omega (arith, c .before .before .before .before .before .before .before .before .before .before .before .before .before .before .before .before .block-turns .ensures), record { first = c .before .before .before .before .y2 .given; second = c .before .before .before .z2 .given; third = c .before .before .u2 .given; fourth = c .before .v2 .given; fifth = c .w2 .given }, r .0, r .1))
     end-requires (λ c. search needs) (λ c. c .before .before .restore-end-f32 .ensures))

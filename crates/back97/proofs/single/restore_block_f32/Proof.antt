@@ -40,4 +40,5 @@ restore-block-f32-spec =
     tie.close
     (tie.spec
     (λ c. search needs) (λ c. search needs) times-requires (λ c. search needs) times-requires-2 steps-requires pairs-requires
-    (λ c. search needs) (λ c. search needs) (λ c. search needs) (λ c. search needs) (λ c. search needs) (λ c. search needs) returns)
+    (λ c. c .before .before .put-pairs-f32 .kept .1 .1 .1 .1 .0) (λ c. c .before .before .before .before .before .before .before .before .before .before .before .before .before .before .before .before .before .before .before .before .before .before .before .before .read-times-f32 .kept .1 .1 .1 .0) (λ c. c .before .before .before .before .before .before .before .before .before .before .before .before .before .before .before .before .before .before .before .before .read-times-f322 .kept .1 .1 .1 .0)
+    (λ c. c .before .before .before .before .before .before .before .before .before .before .before .before .steps-f32 .kept .1 .1 .1 .1 .1 .0) (λ c. c .before .before .before .before .before .before .before .before .before .before .before .before .steps-f32 .kept .1 .1 .1 .1 .1 .1 .0) (λ c. c .before .before .before .before .before .before .before .before .before .before .before .before .steps-f32 .kept .1 .1 .1 .1 .1 .1 .1 .0) returns)

@@ -1,6 +1,6 @@
 -- `split_blocks_f32` meets its contract: the first i entries of the bands are stored, and s is what the blocks so far hand on.
 use borrow.Author.Needs.{needs}
-use mathlib.Core.Path.{refl}
+use mathlib.Core.Path.{refl, sym}
 use Prim.Native.Nat.{_+_, _-_, _≤_}
 use native.Mathlib.Omega.{arith}
 use lib.Ieee.{binary32}
@@ -54,7 +54,7 @@ split-blocks-f32-spec =
     Inv-loop μ-loop
     loop-holds (λ c. omega arith) (λ c. omega arith) (λ c κs. omega arith) (λ c. omega arith) (λ c κs. search needs)
     (λ c. omega arith) (λ c. omega arith) (λ c. omega arith) (λ c κs. search needs)
-    (λ c. search needs) (λ c. search needs) (λ c. search needs) (λ c. search needs) (λ c. search needs)
+    (λ c. sym (c .before .before .before .before .before .before .before .loop .inv .1 .first)) (λ c. sym (c .before .before .before .before .before .before .before .before .loop .inv .1 .second)) (λ c. sym (c .before .before .before .before .before .before .before .before .before .loop .inv .1 .third)) (λ c. sym (c .before .before .before .before .before .before .before .before .before .before .loop .inv .1 .fourth)) (λ c. sym (c .before .before .before .before .before .before .before .before .before .before .before .loop .inv .1 .fifth))
     block-requires (λ c. omega (arith, c .before .before .before .before .before .before .before .before .before .before .before .before .before .before .before .before .before .before .before .block-turns .ensures)) (λ c. omega (arith, c .before .before .before .before .before .before .before .before .before .before .before .before .before .before .before .before .before .before .before .block-turns .ensures)) loop-again
     (λ c. c .before .loop .inv .2 .approx) (λ c. c .before .loop .inv .2 .details)
     (λ c. let l = c .before .loop .inv in (carried-at _ (l .2 .carried) (omega arith), splitting-at _ (l .2 .stored) (omega arith))))
