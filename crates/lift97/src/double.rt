@@ -23,6 +23,7 @@ use small::double::put_f64;
 use small::double::put_if_f64;
 use small::double::small_from_f64;
 use small::double::steps_f64;
+use small::turns::BLOCK;
 use small::turns::block_turns;
 use small::turns::minus;
 
@@ -238,11 +239,11 @@ fn split_blocks_f64(
     ensures { λ r. ⌜ Carried binary64 (set64 t) (now (x .entry)) (last - 1) (r .one) (r .two) (r .three) ⌝ }
     ensures { λ _. ⌜ Splitting both binary64 (set64 t) (now (x .entry)) (now (a .exit)) (now (d .exit)) (last - 1) ⌝ }
 {
-    let mut y: [f64; 257] = [0.0; 257];
-    let mut z: [f64; 257] = [0.0; 257];
-    let mut u: [f64; 257] = [0.0; 257];
-    let mut v: [f64; 257] = [0.0; 257];
-    let mut w: [f64; 257] = [0.0; 257];
+    let mut y: [f64; BLOCK + 1] = [0.0; BLOCK + 1];
+    let mut z: [f64; BLOCK + 1] = [0.0; BLOCK + 1];
+    let mut u: [f64; BLOCK + 1] = [0.0; BLOCK + 1];
+    let mut v: [f64; BLOCK + 1] = [0.0; BLOCK + 1];
+    let mut w: [f64; BLOCK + 1] = [0.0; BLOCK + 1];
     let mut s = first;
     let mut i = 0;
     while i + 1 < last {

@@ -23,6 +23,7 @@ use small::single::put_f32;
 use small::single::put_if_f32;
 use small::single::small_from_f32;
 use small::single::steps_f32;
+use small::turns::BLOCK;
 use small::turns::block_turns;
 use small::turns::minus;
 
@@ -238,11 +239,11 @@ fn split_blocks_f32(
     ensures { λ r. ⌜ Carried binary32 (set32 t) (now (x .entry)) (last - 1) (r .one) (r .two) (r .three) ⌝ }
     ensures { λ _. ⌜ Splitting both binary32 (set32 t) (now (x .entry)) (now (a .exit)) (now (d .exit)) (last - 1) ⌝ }
 {
-    let mut y: [f32; 257] = [0.0; 257];
-    let mut z: [f32; 257] = [0.0; 257];
-    let mut u: [f32; 257] = [0.0; 257];
-    let mut v: [f32; 257] = [0.0; 257];
-    let mut w: [f32; 257] = [0.0; 257];
+    let mut y: [f32; BLOCK + 1] = [0.0; BLOCK + 1];
+    let mut z: [f32; BLOCK + 1] = [0.0; BLOCK + 1];
+    let mut u: [f32; BLOCK + 1] = [0.0; BLOCK + 1];
+    let mut v: [f32; BLOCK + 1] = [0.0; BLOCK + 1];
+    let mut w: [f32; BLOCK + 1] = [0.0; BLOCK + 1];
     let mut s = first;
     let mut i = 0;
     while i + 1 < last {

@@ -1,6 +1,6 @@
 -- `split_blocks_f64` meets its contract: the first i entries of the bands are stored, and s is what the blocks so far hand on.
 use borrow.Author.Needs.{needs}
-use mathlib.Core.Path.{refl}
+use mathlib.Core.Path.{refl, sym}
 use Prim.Native.Nat.{_+_, _-_, _≤_}
 use native.Mathlib.Omega.{arith}
 use lib.Ieee.{binary64}
@@ -8,12 +8,12 @@ use Rattle.samples.proofs.Fronts.{front-none}
 use Rattle.floats.specs.Kinds.{set64}
 use Rattle.small.proofs.Pieces.{Arrays, rooms}
 use Rattle.small.proofs.Sizes.{part-if}
-use Rattle.lift97.proofs.Ahead.{Turned, ahead-on, splitting-at, carried-at}
+use Rattle.lift97.proofs.Ahead.{Between, ahead-on, splitting-at, carried-at}
 use Rattle.lift97.proofs.double.split_blocks_f64.Statement.{statement}
 use Rattle.lift97.proofs.double.split_blocks_f64.Tie as tie
 
 abbrev Inv-loop : tie.InvT-loop
-Inv-loop both t x a₀ d₀ last y₀ z₀ u₀ v₀ w₀ s₀ i₀ a d y z u v w s i = (i + 1 ≤ last) × Arrays 257 y z u v w × Turned both binary64 (set64 t) x a₀ d₀ a d i (s .one) (s .two) (s .three)
+Inv-loop both t x a₀ d₀ last y₀ z₀ u₀ v₀ w₀ s₀ i₀ a d y z u v w s i = (i + 1 ≤ last) × Arrays y z u v w × Between both binary64 (set64 t) x a₀ d₀ a d i (s .one) (s .two) (s .three)
 
 abbrev μ-loop : tie.MeasureT-loop
 μ-loop both t x a₀ d₀ last y₀ z₀ u₀ v₀ w₀ s₀ i₀ a d y z u v w s i = last - i
@@ -54,7 +54,7 @@ split-blocks-f64-spec =
     Inv-loop μ-loop
     loop-holds (λ c. omega arith) (λ c. omega arith) (λ c κs. omega arith) (λ c. omega arith) (λ c κs. search needs)
     (λ c. omega arith) (λ c. omega arith) (λ c. omega arith) (λ c κs. search needs)
-    (λ c. search needs) (λ c. search needs) (λ c. search needs) (λ c. search needs) (λ c. search needs)
+    (λ c. sym (c .before .before .before .before .before .before .before .loop .inv .1 .first)) (λ c. sym (c .before .before .before .before .before .before .before .before .loop .inv .1 .second)) (λ c. sym (c .before .before .before .before .before .before .before .before .before .loop .inv .1 .third)) (λ c. sym (c .before .before .before .before .before .before .before .before .before .before .loop .inv .1 .fourth)) (λ c. sym (c .before .before .before .before .before .before .before .before .before .before .before .loop .inv .1 .fifth))
     block-requires (λ c. omega (arith, c .before .before .before .before .before .before .before .before .before .before .before .before .before .before .before .before .before .before .before .block-turns .ensures)) (λ c. omega (arith, c .before .before .before .before .before .before .before .before .before .before .before .before .before .before .before .before .before .before .before .block-turns .ensures)) loop-again
     (λ c. c .before .loop .inv .2 .approx) (λ c. c .before .loop .inv .2 .details)
     (λ c. let l = c .before .loop .inv in (carried-at _ (l .2 .carried) (omega arith), splitting-at _ (l .2 .stored) (omega arith))))

@@ -8,12 +8,12 @@ use Rattle.samples.proofs.Fronts.{front-none}
 use Rattle.floats.specs.Kinds.{set32}
 use Rattle.small.proofs.Pieces.{Arrays, rooms}
 use Rattle.small.proofs.Sizes.{part-if}
-use Rattle.lift97.proofs.Ahead.{Turned, ahead-on, splitting-at, carried-at}
+use Rattle.lift97.proofs.Ahead.{Between, ahead-on, splitting-at, carried-at}
 use Rattle.lift97.proofs.single.split_blocks_f32.Statement.{statement}
 use Rattle.lift97.proofs.single.split_blocks_f32.Tie as tie
 
 abbrev Inv-loop : tie.InvT-loop
-Inv-loop both t x a₀ d₀ last y₀ z₀ u₀ v₀ w₀ s₀ i₀ a d y z u v w s i = (i + 1 ≤ last) × Arrays 257 y z u v w × Turned both binary32 (set32 t) x a₀ d₀ a d i (s .one) (s .two) (s .three)
+Inv-loop both t x a₀ d₀ last y₀ z₀ u₀ v₀ w₀ s₀ i₀ a d y z u v w s i = (i + 1 ≤ last) × Arrays y z u v w × Between both binary32 (set32 t) x a₀ d₀ a d i (s .one) (s .two) (s .three)
 
 abbrev μ-loop : tie.MeasureT-loop
 μ-loop both t x a₀ d₀ last y₀ z₀ u₀ v₀ w₀ s₀ i₀ a d y z u v w s i = last - i
