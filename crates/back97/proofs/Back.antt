@@ -1,11 +1,11 @@
 -- What the blocks of the inverse of 9/7 make and store, and that it is no NaN where the floats around are small. Once over the format.
-use mathlib.Core.Bool.{Bool, true, false, not}
+use mathlib.Core.Bool.{Bool, true, not}
 use mathlib.Core.List.{List}
 use mathlib.Core.Path.{_≡_, refl, sym, subst, _∙_}
 use Prim.Native.Nat.{ℕ, _+_, _-_, _*_, _/_, _≤_, _<_, min}
 use native.Mathlib.Omega.{arith}
 use lib.Dec.{T}
-use lib.Ieee.{Float, nan, Format, binary32, binary64, add, mul, neg, isNan, round}
+use lib.Ieee.{Float, nan, Format, binary32, binary64, add, mul, isNan}
 use lib.ListN.{length, getD}
 use Rattle.sizes.specs.declared.Wavelet.the-variants.{Cdf97}
 use Rattle.samples.specs.Words.{Front}
@@ -13,26 +13,19 @@ use Rattle.samples.specs.Floats.{width, floatAt, putFloat, decodeFloats}
 use Rattle.samples.proofs.Fronts.{front-none}
 use Rattle.samples.proofs.FloatLaws.{length-decodeFloats, at-decodeFloats}
 use Rattle.floats.specs.Steps.{lift, evens, odds}
-use Rattle.floats.specs.Filters.{Set, decimal, rounded, factors32, factors64, factorsOf, turned, back97}
+use Rattle.floats.specs.Filters.{Set, factorsOf, turned, back97}
 use Rattle.floats.specs.Bands.{restored, back}
 use Rattle.floats.specs.Loops.{Lent}
-use Rattle.small.specs.Small.{Small, Factor, SmallFrom, SmallIf}
+use Rattle.small.specs.Small.{Small, Factor, SmallFrom, BothSmallIf}
 use Rattle.small.specs.Lists.{inTurn}
 use Rattle.small.proofs.Sizes as sizes
 use Rattle.small.specs.Pieces.{Piece, Stepped}
+use Rattle.small.proofs.Factors.{Factors, factors, factors-turned}
 use Rattle.small.proofs.Lifts as lifts
 use Rattle.small.proofs.Pieces.{stepped-piece}
-use Rattle.back97.specs.Back.{timesOf, evensOne, oddsTwo, evensThree, oddsFour, Given, Near, Carried, Pair, Restored}
+use Rattle.back97.specs.Back.{timesOf, evensOne, oddsTwo, evensThree, oddsFour, Bands97, Carried, Pair, Restoring}
 
--- ---- the factors, and how far a scaling and four steps reach
-
-abbrev Factors : Set → Type 0
-Factors t = Factor (t .alpha) × Factor (t .beta) × Factor (t .gamma) × Factor (t .delta) × Factor (t .k) × Factor (t .invk)
-
-factors : (f : Format) → Factors (turned (factorsOf f))
-unfolding turned factors32 factors64 rounded decimal round neg
-factors binary32 = (omega arith, omega arith, omega arith, omega arith, omega arith, omega arith)
-factors binary64 = (omega arith, omega arith, omega arith, omega arith, omega arith, omega arith)
+-- ---- how far a scaling and four steps reach
 
 far : (f : Format) → sizes.reach f + 3 + 9 + 9 + 9 + 9 < sizes.ceiling f
 far binary32 = omega arith
@@ -96,9 +89,9 @@ module _ {f : Format} {a d : List ℕ} {p q : List Float} (c : Float) (b : Count
 
 -- ---- the four steps
 
-module _ {f : Format} {t : Set} {a d : List ℕ} (v : Given f t a d) where
+module _ {f : Format} {t : Set} {a d : List ℕ} (v : Bands97 f t a d) where
   factored : Factors t
-  factored = subst Factors (sym (v .set)) (factors f)
+  factored = subst Factors (sym (v .set)) (factors-turned (factorsOf f) (factors f))
 
   scaled : Counted f a d (timesOf f (t .invk) a) (timesOf f (t .k) d)
   scaled = record { evens-count = length-times f _ a; odds-count = length-times f _ d }
@@ -172,40 +165,40 @@ module _ {f : Format} {t : Set} {a d : List ℕ} (v : Given f t a d) where
   -- an entry is small where the bands are around it
   module _ {i j : ℕ} (wa : SmallFrom f a i j) (wd : SmallFrom f d i j) where
     detail-small : (p : ℕ) → i ≤ p → p < j → p < length d / width f → Small f (sizes.reach f + 3) (getD (timesOf f (t .k) d) p nan)
-    detail-small p = times-small f (t .k) d p (factored .4) wd
+    detail-small p = times-small f (t .k) d p (factored .k) wd
 
     one-small : (p : ℕ) → i ≤ p - 1 → p < j → p < length a / width f → Small f (sizes.reach f + 3 + 9) (getD (evensOne f t a d) p nan)
     unfolding evensOne
     one-small p ip pj h =
-        evens-small (t .delta) scaled _ _ (factored .3) (omega (arith, far f)) (omega arith) p h
+        evens-small (t .delta) scaled _ _ (factored .delta) (omega (arith, far f)) (omega arith) p h
         (detail-small (p - 1) (omega arith) (omega arith) (omega arith)) (detail-small _ (omega arith) (omega arith) (omega arith))
-        (times-small f (t .invk) a p (factored .5) wa (omega arith) (omega arith) h)
+        (times-small f (t .invk) a p (factored .invk) wa (omega arith) (omega arith) h)
 
     two-small : (p : ℕ) → i ≤ p - 1 → p + 1 < j → p < length d / width f → Small f (sizes.reach f + 3 + 9 + 9) (getD (oddsTwo f t a d) p nan)
     unfolding oddsTwo
     two-small p ip pj h =
-        odds-small (t .gamma) one _ _ (factored .2) (omega (arith, far f)) (omega arith) p h
+        odds-small (t .gamma) one _ _ (factored .gamma) (omega (arith, far f)) (omega arith) p h
         (one-small p (omega arith) (omega arith) (omega arith)) (one-small _ (omega arith) (omega arith) (omega arith)) (detail-small p (omega arith) (omega arith) h)
 
     three-small : (p : ℕ) → i ≤ p - 2 → p + 1 < j → p < length a / width f → Small f (sizes.reach f + 3 + 9 + 9 + 9) (getD (evensThree f t a d) p nan)
     unfolding evensThree
     three-small p ip pj h =
-        evens-small (t .beta) two _ _ (factored .1) (omega (arith, far f)) (omega arith) p h
+        evens-small (t .beta) two _ _ (factored .beta) (omega (arith, far f)) (omega arith) p h
         (two-small (p - 1) (omega arith) (omega arith) (omega arith)) (two-small _ (omega arith) (omega arith) (omega arith)) (one-small p (omega arith) (omega arith) h)
 
     four-small : (p : ℕ) → i ≤ p - 2 → p + 2 < j → p < length d / width f → Small f (sizes.reach f + 3 + 9 + 9 + 9 + 9) (getD (oddsFour f t a d) p nan)
     unfolding oddsFour
     four-small p ip pj h =
-        odds-small (t .alpha) three _ _ (factored .0) (far f) (omega arith) p h
+        odds-small (t .alpha) three _ _ (factored .alpha) (far f) (omega arith) p h
         (three-small p (omega arith) (omega arith) (omega arith)) (three-small _ (omega arith) (omega arith) (omega arith)) (two-small p (omega arith) (omega arith) h)
 
   -- so what pair i stores is no NaN
-  module _ {b : Bool} {i : ℕ} (w : Near b f a d i (i + 1)) where
+  module _ {b : Bool} {i : ℕ} (w : BothSmallIf b f a d (i - 2) (i + 3)) where
     pub even-no-nan : {e : Float} → i < length a / width f → e ≡ getD (evensThree f t a d) i nan → b ≡ true → T (not (isNan e))
-    even-no-nan h q y = lifts.no-nan-is f _ (getD (evensThree f t a d) i nan) (three-small (w .approx y) (w .details y) i (omega arith) (omega arith) h) q
+    even-no-nan h q y = lifts.no-nan-is f _ (getD (evensThree f t a d) i nan) (three-small (w .0 y) (w .1 y) i (omega arith) (omega arith) h) q
 
     pub odd-no-nan : {o : Float} → i < length d / width f → o ≡ getD (oddsFour f t a d) i nan → b ≡ true → T (not (isNan o))
-    odd-no-nan h q y = lifts.no-nan-is f _ (getD (oddsFour f t a d) i nan) (four-small (w .approx y) (w .details y) i (omega arith) (omega arith) h) q
+    odd-no-nan h q y = lifts.no-nan-is f _ (getD (oddsFour f t a d) i nan) (four-small (w .0 y) (w .1 y) i (omega arith) (omega arith) h) q
 
   all-stored : {x : List ℕ} {i : ℕ} → Front (width f) (length a / width f + length d / width f) i (inTurn f (evensThree f t a d) (oddsFour f t a d)) x
       → i ≡ length a / width f + length d / width f → x ≡ back f Cdf97 a d
@@ -213,10 +206,10 @@ module _ {f : Format} {t : Set} {a d : List ℕ} (v : Given f t a d) where
   all-stored h e = lifts.turns-all f (evensThree f t a d) (oddsFour f t a d) h e (rw (four .evens-count, four .odds-count)) ∙ unfold evensThree oddsFour oddsTwo evensOne timesOf in rw (v .set)
 
   -- all samples: pairs alone, or an even sample after them
-  pub restored-all : {x : List ℕ} (i : ℕ) → Restored f t a d x i → 2 * i ≡ length a / width f + length d / width f → x ≡ back f Cdf97 a d
+  pub restored-all : {x : List ℕ} (i : ℕ) → Restoring f t a d x i → 2 * i ≡ length a / width f + length d / width f → x ≡ back f Cdf97 a d
   restored-all i h n = all-stored h n
 
-  pub restored-last : {x y : List ℕ} {e : Float} (i : ℕ) → Restored f t a d x i → 2 * i + 1 ≡ length a / width f + length d / width f → e ≡ getD (evensThree f t a d) i nan → y ≡ putFloat f x (2 * i) e
+  pub restored-last : {x y : List ℕ} {e : Float} (i : ℕ) → Restoring f t a d x i → 2 * i + 1 ≡ length a / width f + length d / width f → e ≡ getD (evensThree f t a d) i nan → y ≡ putFloat f x (2 * i) e
       → y ≡ back f Cdf97 a d
   restored-last i h n q put = all-stored (lifts.even-more f _ _ i h (omega arith) q put) n
 
@@ -229,31 +222,18 @@ pair-by i j h e two three next = record { inside = h; two = two; three = three; 
 pub next-at : {f : Format} {t : Set} {a d : List ℕ} {i : ℕ} {q r n : Float} (j : ℕ) → Pair f t a d i q r n → j ≡ min (i + 1) (length a / width f - 1) → n ≡ getD (evensThree f t a d) j nan
 next-at j w e = rw e (w .next)
 
--- ---- the floats that turns depend on
-
-pub near-by : {b : Bool} {f : Format} {a d : List ℕ} {j k : ℕ} (i e : ℕ) → SmallIf b f a j k → SmallIf b f d j k → j ≤ i - 2 → e + 2 ≤ k → Near b f a d i e
-near-by i e p q h l = record { approx = sizes.part-if _ _ p h l; details = sizes.part-if _ _ q h l }
-
--- those of one turn
-pub near-at : {b : Bool} {f : Format} {a d : List ℕ} {i e : ℕ} (p : ℕ) → Near b f a d i e → i ≤ p → p < e → Near b f a d p (p + 1)
-near-at p w h l = near-by p (p + 1) (w .approx) (w .details) (omega arith) (omega arith)
-
--- nothing is asked where the flag is not set
-pub near-never : {f : Format} {a d : List ℕ} {i e : ℕ} → Near false f a d i e
-near-never = record { approx = lifts.never; details = lifts.never }
-
 -- ---- from what the inverse is lent
 
 module _ {f : Format} {x a d : List ℕ} (l : Lent f x a d) where
-  pub given-by : {t : Set} → 4 ≤ length x / width f → t ≡ turned (factorsOf f) → Given f t a d
-  given-by h e = record {
+  pub bands-by : {t : Set} → 4 ≤ length x / width f → t ≡ turned (factorsOf f) → Bands97 f t a d
+  bands-by h e = record {
     long = omega (arith, l .details .count);
     fewer = omega (arith, l .details .count, l .approx .count);
     near = omega (arith, l .details .count, l .approx .count);
     set = e;
   }
 
-  pub none-restored : (t : Set) → Restored f t a d x 0
+  pub none-restored : (t : Set) → Restoring f t a d x 0
   none-restored t =
       let n : length x / width f ≡ length a / width f + length d / width f = omega (arith, l .details .count, l .approx .count) in
       front-none _ (rw (← n) (l .samples))

@@ -1,5 +1,4 @@
 -- The inverse of 9/7 as the blocks make it: the bands scaled, then four lifting steps, by the set t with signs changed. Over the format.
-use mathlib.Core.Bool.{Bool}
 use mathlib.Core.List.{List}
 use mathlib.Core.Path.{_≡_}
 use Prim.Native.Nat.{ℕ, _+_, _-_, _*_, _/_, _≤_, _<_, min}
@@ -9,7 +8,6 @@ use Rattle.samples.specs.Words.{Front}
 use Rattle.samples.specs.Floats.{width, decodeFloats}
 use Rattle.floats.specs.Steps.{lift, evens, odds, scaled}
 use Rattle.floats.specs.Filters.{Set, factorsOf, turned}
-use Rattle.small.specs.Small.{SmallIf}
 use Rattle.small.specs.Lists.{inTurn}
 
 -- each float in s times k
@@ -30,16 +28,11 @@ unfoldable pub oddsFour : Format → Set → List ℕ → List ℕ → List Floa
 oddsFour f t a d = odds (lift f (t .alpha)) nan (evensThree f t a d) (oddsTwo f t a d)
 
 -- a and d are the bands of four samples or more; t is the set of the inverse
-pub record Given (f : Format) (t : Set) (a d : List ℕ) : Type 0 where
+pub record Bands97 (f : Format) (t : Set) (a d : List ℕ) : Type 0 where
   pub long : 2 ≤ length d / width f
   pub fewer : length d / width f ≤ length a / width f
   pub near : length a / width f ≤ length d / width f + 1
   pub set : t ≡ turned (factorsOf f)
-
--- where b says so, the floats that the turns i to before e depend on are small
-pub record Near (b : Bool) (f : Format) (a d : List ℕ) (i e : ℕ) : Type 0 where
-  pub approx : SmallIf b f a (i - 2) (e + 2)
-  pub details : SmallIf b f d (i - 2) (e + 2)
 
 -- what a turn hands to the next: even entry i + 1 after the first step, odd entry i after the second, even entry i after the third
 pub record Carried (f : Format) (t : Set) (a d : List ℕ) (i : ℕ) (p q r : Float) : Type 0 where
@@ -55,5 +48,5 @@ pub record Pair (f : Format) (t : Set) (a d : List ℕ) (i : ℕ) (q r n : Float
   pub next : n ≡ getD (evensThree f t a d) (min (i + 1) (length a / width f - 1)) nan
 
 -- x, which has room for the samples, holds the first 2 i of them
-abbrev pub Restored : Format → Set → List ℕ → List ℕ → List ℕ → ℕ → Type 0
-Restored f t a d x i = Front (width f) (length a / width f + length d / width f) (2 * i) (inTurn f (evensThree f t a d) (oddsFour f t a d)) x
+abbrev pub Restoring : Format → Set → List ℕ → List ℕ → List ℕ → ℕ → Type 0
+Restoring f t a d x i = Front (width f) (length a / width f + length d / width f) (2 * i) (inTurn f (evensThree f t a d) (oddsFour f t a d)) x

@@ -1,15 +1,15 @@
 // The inverse of 9/7 at f64, one level block by block. single.rt has the same at f32.
 ghost use mathlib.Core.Path.{_≡_};
-ghost use Prim.Native.Nat.{_+_, _/_, _≤_, _<_};
+ghost use Prim.Native.Nat.{_+_, _-_, _/_, _≤_, _<_};
 ghost use lib.Ieee.{binary64};
 ghost use lib.ListN.{length};
 ghost use Rattle.floats.specs.Bands.{back};
 ghost use Rattle.floats.specs.Filters.{factors64, turned};
 ghost use Rattle.floats.specs.Kinds.{set64};
 ghost use Rattle.floats.specs.Loops.{Lent};
-ghost use Rattle.small.specs.Small.{SmallIf};
+ghost use Rattle.small.specs.Small.{SmallIf, BothSmallIf};
 ghost use Rattle.small.specs.Pieces.{Piece, Rooms};
-ghost use Rattle.back97.specs.Back.{timesOf, oddsTwo, evensThree, Given, Near, Carried, Pair, Restored};
+ghost use Rattle.back97.specs.Back.{timesOf, oddsTwo, evensThree, Bands97, Carried, Pair, Restoring};
 use floats::cdf97f;
 use floats::cdf97f::Factors64;
 use sizes::Wavelet;
@@ -19,6 +19,7 @@ use small::double::get_f64;
 use small::double::put_f64;
 use small::double::small_bands_f64;
 use small::double::steps_f64;
+use small::turns::BLOCK;
 use small::turns::block_turns;
 use small::turns::minus;
 
@@ -31,7 +32,7 @@ struct Last64 {
 
 // What the first turn is handed.
 fn first_f64(t: Factors64, a: &[u8], d: &[u8]) -> Carry64
-    requires { ⌜ Given binary64 (set64 t) (now a) (now d) ⌝ }
+    requires { ⌜ Bands97 binary64 (set64 t) (now a) (now d) ⌝ }
     ensures { λ r. ⌜ Carried binary64 (set64 t) (now (a .entry)) (now (d .entry)) 0 (r .one) (r .two) (r .three) ⌝ }
 {
     let y = get_f64(false, d, 0) * t.k;
@@ -58,11 +59,11 @@ fn put_pair_f64(
     three: f64,
     next: f64,
 )
-    requires { ⌜ Given binary64 (set64 t) (now a) (now d) ⌝ }
-    requires { ⌜ Restored binary64 (set64 t) (now a) (now d) (now x) i ⌝ }
-    requires { ⌜ Near small binary64 (now a) (now d) i (i + 1) ⌝ }
+    requires { ⌜ Bands97 binary64 (set64 t) (now a) (now d) ⌝ }
+    requires { ⌜ Restoring binary64 (set64 t) (now a) (now d) (now x) i ⌝ }
+    requires { ⌜ BothSmallIf small binary64 (now a) (now d) (i - 2) (i + 3) ⌝ }
     requires { ⌜ Pair binary64 (set64 t) (now a) (now d) i two three next ⌝ }
-    ensures { λ _. ⌜ Restored binary64 (set64 t) (now (a .entry)) (now (d .entry)) (now (x .exit)) (i + 1) ⌝ }
+    ensures { λ _. ⌜ Restoring binary64 (set64 t) (now (a .entry)) (now (d .entry)) (now (x .exit)) (i + 1) ⌝ }
 {
     put_f64(small, x, 2 * i, three);
     put_f64(small, x, 2 * i + 1, (three + next) * t.alpha + two);
@@ -70,7 +71,7 @@ fn put_pair_f64(
 
 // What the last pair is made of, i being the one before. The right neighbours are mirrored: there are as many approximations as details, or one more.
 fn last_f64(t: Factors64, a: &[u8], d: &[u8], i: usize, s: Carry64) -> Last64
-    requires { ⌜ Given binary64 (set64 t) (now a) (now d) ⌝ }
+    requires { ⌜ Bands97 binary64 (set64 t) (now a) (now d) ⌝ }
     requires { ⌜ Carried binary64 (set64 t) (now a) (now d) i (s .one) (s .two) (s .three) ⌝ }
     requires { ⌜ i + 2 ≡ length (now d) / 8 ⌝ }
     ensures { λ r. ⌜ Pair binary64 (set64 t) (now (a .entry)) (now (d .entry)) (i + 1) (r .two) (r .three) (r .next) ⌝ }
@@ -100,8 +101,8 @@ fn last_f64(t: Factors64, a: &[u8], d: &[u8], i: usize, s: Carry64) -> Last64
 
 // The last two pairs, i and the one after it, and where there is one more approximation its sample.
 fn restore_end_f64(t: Factors64, a: &[u8], d: &[u8], x: &mut [u8], i: usize, s: Carry64)
-    requires { ⌜ Given binary64 (set64 t) (now a) (now d) ⌝ }
-    requires { ⌜ Restored binary64 (set64 t) (now a) (now d) (now x) i ⌝ }
+    requires { ⌜ Bands97 binary64 (set64 t) (now a) (now d) ⌝ }
+    requires { ⌜ Restoring binary64 (set64 t) (now a) (now d) (now x) i ⌝ }
     requires { ⌜ Carried binary64 (set64 t) (now a) (now d) i (s .one) (s .two) (s .three) ⌝ }
     requires { ⌜ i + 2 ≡ length (now d) / 8 ⌝ }
     ensures { λ _. ⌜ now (x .exit) ≡ back binary64 Wavelet.Cdf97 (now (a .entry)) (now (d .entry)) ⌝ }
@@ -141,13 +142,13 @@ fn put_pairs_f64(
     i: usize,
     n: usize,
 )
-    requires { ⌜ Given binary64 (set64 t) (now a) (now d) ⌝ }
-    requires { ⌜ Restored binary64 (set64 t) (now a) (now d) (now x) i ⌝ }
-    requires { ⌜ Near small binary64 (now a) (now d) i (i + n) ⌝ }
+    requires { ⌜ Bands97 binary64 (set64 t) (now a) (now d) ⌝ }
+    requires { ⌜ Restoring binary64 (set64 t) (now a) (now d) (now x) i ⌝ }
+    requires { ⌜ BothSmallIf small binary64 (now a) (now d) (i - 2) (i + n + 2) ⌝ }
     requires { ⌜ Piece (oddsTwo binary64 (set64 t) (now a) (now d)) 0 i (n + 1) (now v) ⌝ }
     requires { ⌜ Piece (evensThree binary64 (set64 t) (now a) (now d)) 0 i (n + 1) (now w) ⌝ }
     requires { ⌜ (n < length (now v)) × (n < length (now w)) × (i + n + 2 ≤ length (now d) / 8) ⌝ }
-    ensures { λ _. ⌜ Restored binary64 (set64 t) (now (a .entry)) (now (d .entry)) (now (x .exit)) (i + n) ⌝ }
+    ensures { λ _. ⌜ Restoring binary64 (set64 t) (now (a .entry)) (now (d .entry)) (now (x .exit)) (i + n) ⌝ }
 {
     let mut j = 0;
     while j < n {
@@ -172,13 +173,13 @@ fn restore_block_f64(
     n: usize,
     s: Carry64,
 ) -> Carry64
-    requires { ⌜ Given binary64 (set64 t) (now a) (now d) ⌝ }
-    requires { ⌜ Restored binary64 (set64 t) (now a) (now d) (now x) i ⌝ }
+    requires { ⌜ Bands97 binary64 (set64 t) (now a) (now d) ⌝ }
+    requires { ⌜ Restoring binary64 (set64 t) (now a) (now d) (now x) i ⌝ }
     requires { ⌜ Carried binary64 (set64 t) (now a) (now d) i (s .one) (s .two) (s .three) ⌝ }
-    requires { ⌜ Near small binary64 (now a) (now d) i (i + n) ⌝ }
+    requires { ⌜ BothSmallIf small binary64 (now a) (now d) (i - 2) (i + n + 2) ⌝ }
     requires { ⌜ Rooms (n + 1) (now y) (now z) (now u) (now v) (now w) ⌝ }
     requires { ⌜ i + n + 2 ≤ length (now d) / 8 ⌝ }
-    ensures { λ _. ⌜ Restored binary64 (set64 t) (now (a .entry)) (now (d .entry)) (now (x .exit)) (i + n) ⌝ }
+    ensures { λ _. ⌜ Restoring binary64 (set64 t) (now (a .entry)) (now (d .entry)) (now (x .exit)) (i + n) ⌝ }
     ensures { λ r. ⌜ Carried binary64 (set64 t) (now (a .entry)) (now (d .entry)) (i + n) (r .one) (r .two) (r .three) ⌝ }
 {
     read_times_f64(small, t.k, d, y, i + 1, n + 1);
@@ -189,16 +190,16 @@ fn restore_block_f64(
 }
 
 // The samples whose approximations are in a and details in d, into x. A block of small floats is read and written without tests.
-fn inverse_all_f64(t: Factors64, a: &[u8], d: &[u8], x: &mut [u8])
-    requires { ⌜ Given binary64 (set64 t) (now a) (now d) ⌝ }
-    requires { ⌜ Restored binary64 (set64 t) (now a) (now d) (now x) 0 ⌝ }
+fn restore_all_f64(t: Factors64, a: &[u8], d: &[u8], x: &mut [u8])
+    requires { ⌜ Bands97 binary64 (set64 t) (now a) (now d) ⌝ }
+    requires { ⌜ Restoring binary64 (set64 t) (now a) (now d) (now x) 0 ⌝ }
     ensures { λ _. ⌜ now (x .exit) ≡ back binary64 Wavelet.Cdf97 (now (a .entry)) (now (d .entry)) ⌝ }
 {
-    let mut y: [f64; 257] = [0.0; 257];
-    let mut z: [f64; 257] = [0.0; 257];
-    let mut u: [f64; 257] = [0.0; 257];
-    let mut v: [f64; 257] = [0.0; 257];
-    let mut w: [f64; 257] = [0.0; 257];
+    let mut y: [f64; BLOCK + 1] = [0.0; BLOCK + 1];
+    let mut z: [f64; BLOCK + 1] = [0.0; BLOCK + 1];
+    let mut u: [f64; BLOCK + 1] = [0.0; BLOCK + 1];
+    let mut v: [f64; BLOCK + 1] = [0.0; BLOCK + 1];
+    let mut w: [f64; BLOCK + 1] = [0.0; BLOCK + 1];
     let last = d.len() / 8 - 2;
     let mut s = first_f64(t, a, d);
     let mut i = 0;
@@ -236,7 +237,7 @@ pub fn inverse_f64(t: Factors64, approx: &[u8], details: &[u8], output: &mut [u8
     // Where one of the first floats is large the schedule is the faster way; a block with a large one later on is read and written with tests.
     let some = lesser(64, details.len() / 8);
     if small_bands_f64(approx, details, 0, some) {
-        inverse_all_f64(t, approx, details, output);
+        restore_all_f64(t, approx, details, output);
         return;
     }
     cdf97f::inverse_f64(t, approx, details, output);

@@ -1,15 +1,15 @@
 // The inverse of 9/7 at f32, one level block by block. double.rt has the same at f64.
 ghost use mathlib.Core.Path.{_≡_};
-ghost use Prim.Native.Nat.{_+_, _/_, _≤_, _<_};
+ghost use Prim.Native.Nat.{_+_, _-_, _/_, _≤_, _<_};
 ghost use lib.Ieee.{binary32};
 ghost use lib.ListN.{length};
 ghost use Rattle.floats.specs.Bands.{back};
 ghost use Rattle.floats.specs.Filters.{factors32, turned};
 ghost use Rattle.floats.specs.Kinds.{set32};
 ghost use Rattle.floats.specs.Loops.{Lent};
-ghost use Rattle.small.specs.Small.{SmallIf};
+ghost use Rattle.small.specs.Small.{SmallIf, BothSmallIf};
 ghost use Rattle.small.specs.Pieces.{Piece, Rooms};
-ghost use Rattle.back97.specs.Back.{timesOf, oddsTwo, evensThree, Given, Near, Carried, Pair, Restored};
+ghost use Rattle.back97.specs.Back.{timesOf, oddsTwo, evensThree, Bands97, Carried, Pair, Restoring};
 use floats::cdf97f;
 use floats::cdf97f::Factors32;
 use sizes::Wavelet;
@@ -19,6 +19,7 @@ use small::single::get_f32;
 use small::single::put_f32;
 use small::single::small_bands_f32;
 use small::single::steps_f32;
+use small::turns::BLOCK;
 use small::turns::block_turns;
 use small::turns::minus;
 
@@ -31,7 +32,7 @@ struct Last32 {
 
 // What the first turn is handed.
 fn first_f32(t: Factors32, a: &[u8], d: &[u8]) -> Carry32
-    requires { ⌜ Given binary32 (set32 t) (now a) (now d) ⌝ }
+    requires { ⌜ Bands97 binary32 (set32 t) (now a) (now d) ⌝ }
     ensures { λ r. ⌜ Carried binary32 (set32 t) (now (a .entry)) (now (d .entry)) 0 (r .one) (r .two) (r .three) ⌝ }
 {
     let y = get_f32(false, d, 0) * t.k;
@@ -58,11 +59,11 @@ fn put_pair_f32(
     three: f32,
     next: f32,
 )
-    requires { ⌜ Given binary32 (set32 t) (now a) (now d) ⌝ }
-    requires { ⌜ Restored binary32 (set32 t) (now a) (now d) (now x) i ⌝ }
-    requires { ⌜ Near small binary32 (now a) (now d) i (i + 1) ⌝ }
+    requires { ⌜ Bands97 binary32 (set32 t) (now a) (now d) ⌝ }
+    requires { ⌜ Restoring binary32 (set32 t) (now a) (now d) (now x) i ⌝ }
+    requires { ⌜ BothSmallIf small binary32 (now a) (now d) (i - 2) (i + 3) ⌝ }
     requires { ⌜ Pair binary32 (set32 t) (now a) (now d) i two three next ⌝ }
-    ensures { λ _. ⌜ Restored binary32 (set32 t) (now (a .entry)) (now (d .entry)) (now (x .exit)) (i + 1) ⌝ }
+    ensures { λ _. ⌜ Restoring binary32 (set32 t) (now (a .entry)) (now (d .entry)) (now (x .exit)) (i + 1) ⌝ }
 {
     put_f32(small, x, 2 * i, three);
     put_f32(small, x, 2 * i + 1, (three + next) * t.alpha + two);
@@ -70,7 +71,7 @@ fn put_pair_f32(
 
 // What the last pair is made of, i being the one before. The right neighbours are mirrored: there are as many approximations as details, or one more.
 fn last_f32(t: Factors32, a: &[u8], d: &[u8], i: usize, s: Carry32) -> Last32
-    requires { ⌜ Given binary32 (set32 t) (now a) (now d) ⌝ }
+    requires { ⌜ Bands97 binary32 (set32 t) (now a) (now d) ⌝ }
     requires { ⌜ Carried binary32 (set32 t) (now a) (now d) i (s .one) (s .two) (s .three) ⌝ }
     requires { ⌜ i + 2 ≡ length (now d) / 4 ⌝ }
     ensures { λ r. ⌜ Pair binary32 (set32 t) (now (a .entry)) (now (d .entry)) (i + 1) (r .two) (r .three) (r .next) ⌝ }
@@ -100,8 +101,8 @@ fn last_f32(t: Factors32, a: &[u8], d: &[u8], i: usize, s: Carry32) -> Last32
 
 // The last two pairs, i and the one after it, and where there is one more approximation its sample.
 fn restore_end_f32(t: Factors32, a: &[u8], d: &[u8], x: &mut [u8], i: usize, s: Carry32)
-    requires { ⌜ Given binary32 (set32 t) (now a) (now d) ⌝ }
-    requires { ⌜ Restored binary32 (set32 t) (now a) (now d) (now x) i ⌝ }
+    requires { ⌜ Bands97 binary32 (set32 t) (now a) (now d) ⌝ }
+    requires { ⌜ Restoring binary32 (set32 t) (now a) (now d) (now x) i ⌝ }
     requires { ⌜ Carried binary32 (set32 t) (now a) (now d) i (s .one) (s .two) (s .three) ⌝ }
     requires { ⌜ i + 2 ≡ length (now d) / 4 ⌝ }
     ensures { λ _. ⌜ now (x .exit) ≡ back binary32 Wavelet.Cdf97 (now (a .entry)) (now (d .entry)) ⌝ }
@@ -141,13 +142,13 @@ fn put_pairs_f32(
     i: usize,
     n: usize,
 )
-    requires { ⌜ Given binary32 (set32 t) (now a) (now d) ⌝ }
-    requires { ⌜ Restored binary32 (set32 t) (now a) (now d) (now x) i ⌝ }
-    requires { ⌜ Near small binary32 (now a) (now d) i (i + n) ⌝ }
+    requires { ⌜ Bands97 binary32 (set32 t) (now a) (now d) ⌝ }
+    requires { ⌜ Restoring binary32 (set32 t) (now a) (now d) (now x) i ⌝ }
+    requires { ⌜ BothSmallIf small binary32 (now a) (now d) (i - 2) (i + n + 2) ⌝ }
     requires { ⌜ Piece (oddsTwo binary32 (set32 t) (now a) (now d)) 0 i (n + 1) (now v) ⌝ }
     requires { ⌜ Piece (evensThree binary32 (set32 t) (now a) (now d)) 0 i (n + 1) (now w) ⌝ }
     requires { ⌜ (n < length (now v)) × (n < length (now w)) × (i + n + 2 ≤ length (now d) / 4) ⌝ }
-    ensures { λ _. ⌜ Restored binary32 (set32 t) (now (a .entry)) (now (d .entry)) (now (x .exit)) (i + n) ⌝ }
+    ensures { λ _. ⌜ Restoring binary32 (set32 t) (now (a .entry)) (now (d .entry)) (now (x .exit)) (i + n) ⌝ }
 {
     let mut j = 0;
     while j < n {
@@ -172,13 +173,13 @@ fn restore_block_f32(
     n: usize,
     s: Carry32,
 ) -> Carry32
-    requires { ⌜ Given binary32 (set32 t) (now a) (now d) ⌝ }
-    requires { ⌜ Restored binary32 (set32 t) (now a) (now d) (now x) i ⌝ }
+    requires { ⌜ Bands97 binary32 (set32 t) (now a) (now d) ⌝ }
+    requires { ⌜ Restoring binary32 (set32 t) (now a) (now d) (now x) i ⌝ }
     requires { ⌜ Carried binary32 (set32 t) (now a) (now d) i (s .one) (s .two) (s .three) ⌝ }
-    requires { ⌜ Near small binary32 (now a) (now d) i (i + n) ⌝ }
+    requires { ⌜ BothSmallIf small binary32 (now a) (now d) (i - 2) (i + n + 2) ⌝ }
     requires { ⌜ Rooms (n + 1) (now y) (now z) (now u) (now v) (now w) ⌝ }
     requires { ⌜ i + n + 2 ≤ length (now d) / 4 ⌝ }
-    ensures { λ _. ⌜ Restored binary32 (set32 t) (now (a .entry)) (now (d .entry)) (now (x .exit)) (i + n) ⌝ }
+    ensures { λ _. ⌜ Restoring binary32 (set32 t) (now (a .entry)) (now (d .entry)) (now (x .exit)) (i + n) ⌝ }
     ensures { λ r. ⌜ Carried binary32 (set32 t) (now (a .entry)) (now (d .entry)) (i + n) (r .one) (r .two) (r .three) ⌝ }
 {
     read_times_f32(small, t.k, d, y, i + 1, n + 1);
@@ -189,16 +190,16 @@ fn restore_block_f32(
 }
 
 // The samples whose approximations are in a and details in d, into x. A block of small floats is read and written without tests.
-fn inverse_all_f32(t: Factors32, a: &[u8], d: &[u8], x: &mut [u8])
-    requires { ⌜ Given binary32 (set32 t) (now a) (now d) ⌝ }
-    requires { ⌜ Restored binary32 (set32 t) (now a) (now d) (now x) 0 ⌝ }
+fn restore_all_f32(t: Factors32, a: &[u8], d: &[u8], x: &mut [u8])
+    requires { ⌜ Bands97 binary32 (set32 t) (now a) (now d) ⌝ }
+    requires { ⌜ Restoring binary32 (set32 t) (now a) (now d) (now x) 0 ⌝ }
     ensures { λ _. ⌜ now (x .exit) ≡ back binary32 Wavelet.Cdf97 (now (a .entry)) (now (d .entry)) ⌝ }
 {
-    let mut y: [f32; 257] = [0.0; 257];
-    let mut z: [f32; 257] = [0.0; 257];
-    let mut u: [f32; 257] = [0.0; 257];
-    let mut v: [f32; 257] = [0.0; 257];
-    let mut w: [f32; 257] = [0.0; 257];
+    let mut y: [f32; BLOCK + 1] = [0.0; BLOCK + 1];
+    let mut z: [f32; BLOCK + 1] = [0.0; BLOCK + 1];
+    let mut u: [f32; BLOCK + 1] = [0.0; BLOCK + 1];
+    let mut v: [f32; BLOCK + 1] = [0.0; BLOCK + 1];
+    let mut w: [f32; BLOCK + 1] = [0.0; BLOCK + 1];
     let last = d.len() / 4 - 2;
     let mut s = first_f32(t, a, d);
     let mut i = 0;
@@ -236,7 +237,7 @@ pub fn inverse_f32(t: Factors32, approx: &[u8], details: &[u8], output: &mut [u8
     // Where one of the first floats is large the schedule is the faster way; a block with a large one later on is read and written with tests.
     let some = lesser(64, details.len() / 4);
     if small_bands_f32(approx, details, 0, some) {
-        inverse_all_f32(t, approx, details, output);
+        restore_all_f32(t, approx, details, output);
         return;
     }
     cdf97f::inverse_f32(t, approx, details, output);

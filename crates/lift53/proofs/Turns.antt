@@ -120,9 +120,6 @@ approx-if w p l h = sizes.part-if _ _ (w .0) l (omega arith)
 pub details-if : {b : Bool} {f : Format} {a d : List ℕ} {i j : ℕ} → BothSmallIf b f a d i j → (p : ℕ) → i ≤ p → p < j → SmallIf b f d p (p + 1)
 details-if w p l h = sizes.part-if _ _ (w .1) l (omega arith)
 
-pub near-part : {b : Bool} {f : Format} {a d : List ℕ} {i j : ℕ} (k l : ℕ) → BothSmallIf b f a d i j → i ≤ k → l ≤ j → BothSmallIf b f a d k l
-near-part k l w h g = (sizes.part-if k l (w .0) h g, sizes.part-if k l (w .1) h g)
-
 pub restoring-now : {f : Format} {c g : Float} {n : ℕ} {a d x : List ℕ} {i : ℕ} {e : Float} → Restoring f c g n a d x i e → Restoring f c g (length x / width f) a d x i e
 restoring-now r = rw (r .front .holds .count) r
 

@@ -21,7 +21,7 @@ use small::turns::block_end;
 use small::turns::minus;
 
 // Forward, what a turn hands to the next: an even sample, and the detail before it.
-struct Carry64 {
+struct Turn64 {
     here: f64,
     left: f64,
 }
@@ -35,10 +35,10 @@ fn split_pair_f64(
     d: &mut [u8],
     i: usize,
     j: usize,
-    s: Carry64,
+    s: Turn64,
     c: f64,
     g: f64,
-) -> Carry64
+) -> Turn64
     requires { ⌜ Ahead both binary64 c g (now x) (now a) (now d) ⌝ }
     requires { ⌜ Splitting both binary64 c g (now x) (now a) (now d) i (s .here) (s .left) ⌝ }
     requires { ⌜ (i < length (now x) / 8 / 2) × (j ≡ min (i + 1) ((length (now x) / 8 + 1) / 2 - 1)) ⌝ }
@@ -49,7 +49,7 @@ fn split_pair_f64(
     let z = (s.here + next) * c + get_f64(small, x, 2 * i + 1);
     put_if_f64(both, small, d, i, z);
     put_f64(small, a, i, (s.left + z) * g + s.here);
-    Carry64 {
+    Turn64 {
         here: next,
         left: z,
     }
@@ -64,10 +64,10 @@ fn split_block_f64(
     d: &mut [u8],
     i: usize,
     e: usize,
-    s: Carry64,
+    s: Turn64,
     c: f64,
     g: f64,
-) -> Carry64
+) -> Turn64
     requires { ⌜ Ahead both binary64 c g (now x) (now a) (now d) ⌝ }
     requires { ⌜ Splitting both binary64 c g (now x) (now a) (now d) i (s .here) (s .left) ⌝ }
     requires { ⌜ (i ≤ e) × (e < length (now x) / 8 / 2) ⌝ }
@@ -91,7 +91,7 @@ fn split_end_f64(
     d: &mut [u8],
     last: usize,
     top: usize,
-    s: Carry64,
+    s: Turn64,
     c: f64,
     g: f64,
 )
@@ -115,7 +115,7 @@ fn split_all_f64(both: bool, x: &[u8], a: &mut [u8], d: &mut [u8], c: f64, g: f6
     let last = n / 2 - 1;
     let top = (n + 1) / 2 - 1;
     let first = get_f64(false, x, 0);
-    let mut s = Carry64 {
+    let mut s = Turn64 {
         here: first,
         left: (first + get_f64(false, x, 2)) * c + get_f64(false, x, 1),
     };

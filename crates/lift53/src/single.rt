@@ -21,7 +21,7 @@ use small::turns::block_end;
 use small::turns::minus;
 
 // Forward, what a turn hands to the next: an even sample, and the detail before it.
-struct Carry32 {
+struct Turn32 {
     here: f32,
     left: f32,
 }
@@ -35,10 +35,10 @@ fn split_pair_f32(
     d: &mut [u8],
     i: usize,
     j: usize,
-    s: Carry32,
+    s: Turn32,
     c: f32,
     g: f32,
-) -> Carry32
+) -> Turn32
     requires { ⌜ Ahead both binary32 c g (now x) (now a) (now d) ⌝ }
     requires { ⌜ Splitting both binary32 c g (now x) (now a) (now d) i (s .here) (s .left) ⌝ }
     requires { ⌜ (i < length (now x) / 4 / 2) × (j ≡ min (i + 1) ((length (now x) / 4 + 1) / 2 - 1)) ⌝ }
@@ -49,7 +49,7 @@ fn split_pair_f32(
     let z = (s.here + next) * c + get_f32(small, x, 2 * i + 1);
     put_if_f32(both, small, d, i, z);
     put_f32(small, a, i, (s.left + z) * g + s.here);
-    Carry32 {
+    Turn32 {
         here: next,
         left: z,
     }
@@ -64,10 +64,10 @@ fn split_block_f32(
     d: &mut [u8],
     i: usize,
     e: usize,
-    s: Carry32,
+    s: Turn32,
     c: f32,
     g: f32,
-) -> Carry32
+) -> Turn32
     requires { ⌜ Ahead both binary32 c g (now x) (now a) (now d) ⌝ }
     requires { ⌜ Splitting both binary32 c g (now x) (now a) (now d) i (s .here) (s .left) ⌝ }
     requires { ⌜ (i ≤ e) × (e < length (now x) / 4 / 2) ⌝ }
@@ -91,7 +91,7 @@ fn split_end_f32(
     d: &mut [u8],
     last: usize,
     top: usize,
-    s: Carry32,
+    s: Turn32,
     c: f32,
     g: f32,
 )
@@ -115,7 +115,7 @@ fn split_all_f32(both: bool, x: &[u8], a: &mut [u8], d: &mut [u8], c: f32, g: f3
     let last = n / 2 - 1;
     let top = (n + 1) / 2 - 1;
     let first = get_f32(false, x, 0);
-    let mut s = Carry32 {
+    let mut s = Turn32 {
         here: first,
         left: (first + get_f32(false, x, 2)) * c + get_f32(false, x, 1),
     };

@@ -6,39 +6,27 @@ use mathlib.Core.Path.{_≡_, refl, sym, ap, subst, _∙_}
 use Prim.Native.Nat.{ℕ, _+_, _-_, _*_, _/_, _%_, _≤_, _<_, min}
 use native.Mathlib.Omega.{arith}
 use lib.Dec.{T}
-use lib.Ieee.{Float, nan, Format, binary32, binary64, add, mul, isNan, round}
+use lib.Ieee.{Float, nan, Format, binary32, binary64, add, mul, isNan}
 use lib.ListN.{length, getD}
 use Rattle.order.proofs.Order.{lt-or-le}
 use Rattle.sizes.specs.declared.Wavelet.the-variants.{Cdf97}
 use Rattle.sizes.specs.Bands.{ups, downs}
 use Rattle.samples.specs.Words.{Front}
 use Rattle.samples.specs.Floats.{width, encodeFloats}
-use Rattle.floats.specs.Filters.{Set, decimal, rounded, factors32, factors64, factorsOf, steps97}
+use Rattle.floats.specs.Filters.{Set, factorsOf, steps97}
 use Rattle.floats.specs.Steps.{lift}
 use Rattle.floats.specs.Bands.{approxs, details, low, high}
-use Rattle.small.specs.Small.{Small, Factor, SmallFrom}
+use Rattle.small.specs.Small.{Small, SmallFrom, SmallIf}
 use Rattle.small.specs.Lists.{evenIn, oddIn, oddsTo, evensTo, patternOf}
 use Rattle.small.proofs.Sizes.{reach, ceiling, small-le, small-part}
 use Rattle.small.specs.Pieces.{Piece, Stepped}
 use Rattle.small.proofs.Pieces.{stepped-piece}
+use Rattle.small.proofs.Factors.{Factors, factors}
 use Rattle.small.proofs.Lifts as lifts
 use Rattle.small.proofs.Firsts as firsts
-use Rattle.lift97.specs.Ahead.{oddsOne, evensTwo, oddsThree, evensFour, scaledOdds, scaledEvens, Near, Samples, Ahead, Carried, Handed, Splitting, Split}
+use Rattle.lift97.specs.Ahead.{oddsOne, evensTwo, oddsThree, evensFour, scaledOdds, scaledEvens, Samples, Ahead, Carried, Handed, Splitting, Split}
 
--- ---- the factors are at most 2, and four steps and a scaling stay far below the largest float
-
-record Factors (t : Set) : Type 0 where
-  alpha : Factor (t .alpha)
-  beta : Factor (t .beta)
-  gamma : Factor (t .gamma)
-  delta : Factor (t .delta)
-  k : Factor (t .k)
-  invk : Factor (t .invk)
-
-factors : (f : Format) → Factors (factorsOf f)
-unfolding factors32 factors64 rounded decimal round
-factors binary32 = record { alpha = omega arith; beta = omega arith; gamma = omega arith; delta = omega arith; k = omega arith; invk = omega arith }
-factors binary64 = record { alpha = omega arith; beta = omega arith; gamma = omega arith; delta = omega arith; k = omega arith; invk = omega arith }
+-- ---- four steps and a scaling stay far below the largest float
 
 far : (f : Format) → reach f + 9 + 9 + 9 + 9 + 3 < ceiling f
 far binary32 = omega arith
@@ -118,7 +106,7 @@ module _ {f : Format} {t : Set} {x : List ℕ} (v : Samples f t x) where
     pub handed : Handed f t x i n u w s
     handed = record { one = ones; two = twos; three = threes }
 
-  -- ---- small samples leave no NaN
+  -- ---- small samples leave no NaN: entry i of the bands is made of those from 2 i - 4 to 2 i + 4
 
   -- each step reaches a sample further on either side
   one-small : (i : ℕ) → i < length x / width f / 2 → SmallFrom f x (2 * i) (2 * i + 3) → Small f (reach f + 9 + 9) (getD (oddsOne f t x) i nan)
@@ -145,7 +133,7 @@ module _ {f : Format} {t : Set} {x : List ℕ} (v : Samples f t x) where
       (three-small r (omega (arith, long)) (small-part _ _ w (omega arith) (omega arith)))
       (small-le f (getD (evensTwo f t x) i nan) (reach f + 9 + 9) (reach f + 9 + 9 + 9) (two-small i h (small-part _ _ w (omega arith) (omega arith))) (omega arith))
 
-  module _ {b : Bool} {e : Float} (i : ℕ) (w : Near b f x i) where
+  module _ {b : Bool} {e : Float} (i : ℕ) (w : SmallIf b f x (2 * i - 4) (2 * i + 5)) where
     pub high-no-nan : i < length x / width f / 2 → e ≡ getD (scaledOdds f t x) i nan → b ≡ true → T (not (isNan e))
     unfolding scaledOdds
     high-no-nan h q s =
@@ -178,17 +166,12 @@ handed-at j k h l e ep eq er = record {
 pub ahead-on : {both : Bool} {f : Format} {t : Set} {x a d s u : List ℕ} {i : ℕ} → Ahead both f t x a d → Splitting both f t x s u i → Ahead both f t x s u
 ahead-on v r = record { samples = v .samples; approx = r .approx .holds; details = λ b. r .details b .holds }
 
--- the bands' lengths, what of them is stored, and what the turns so far hand on
-pub record Turned (both : Bool) (f : Format) (t : Set) (x a₀ d₀ a d : List ℕ) (i : ℕ) (p q r : Float) : Type 0 where
+-- between two blocks: the bands' lengths, what of them is stored, and what the turns so far hand on
+pub record Between (both : Bool) (f : Format) (t : Set) (x a₀ d₀ a d : List ℕ) (i : ℕ) (p q r : Float) : Type 0 where
   pub approx : length a ≡ length a₀
   pub details : length d ≡ length d₀
   pub stored : Splitting both f t x a d i
   pub carried : Carried f t x i p q r
-
--- what the next turn requires, and R besides
-pub turned-on : {both : Bool} {f : Format} {t : Set} {x a₀ d₀ a d : List ℕ} {i : ℕ} {p q r : Float} {R : Type 0} → Ahead both f t x a₀ d₀ → Turned both f t x a₀ d₀ a d i p q r → R
-    → Ahead both f t x a d × (Splitting both f t x a d i × (Carried f t x i p q r × R))
-turned-on v w h = (ahead-on v (w .stored), (w .stored, (w .carried, h)))
 
 pub splitting-at : {both : Bool} {f : Format} {t : Set} {x a d : List ℕ} {i : ℕ} (k : ℕ) → Splitting both f t x a d i → i ≡ k → Splitting both f t x a d k
 splitting-at {both} {f} {t} {x} {a} {d} k r w = subst (λ m. Splitting both f t x a d m) w r

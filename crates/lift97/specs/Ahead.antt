@@ -2,7 +2,7 @@
 use mathlib.Core.Bool.{Bool, true}
 use mathlib.Core.List.{List}
 use mathlib.Core.Path.{_≡_}
-use Prim.Native.Nat.{ℕ, _+_, _-_, _*_, _/_, _≤_}
+use Prim.Native.Nat.{ℕ, _+_, _-_, _/_, _≤_}
 use lib.Ieee.{Float, nan, Format}
 use lib.ListN.{length, getD}
 use Rattle.sizes.specs.Bands.{ups, downs}
@@ -10,7 +10,6 @@ use Rattle.samples.specs.Words.{Holds, Front}
 use Rattle.samples.specs.Floats.{width, encodeFloats}
 use Rattle.floats.specs.Steps.{lift, evens, odds, scaled}
 use Rattle.floats.specs.Filters.{Set, factorsOf}
-use Rattle.small.specs.Small.{SmallIf}
 use Rattle.small.specs.Pieces.{Piece}
 use Rattle.small.specs.Lists.{oddsTo, evensTo, patternOf}
 
@@ -34,10 +33,6 @@ scaledOdds f t x = scaled f (t .invk) (oddsThree f t x)
 
 unfoldable pub scaledEvens : Format → Set → List ℕ → List Float
 scaledEvens f t x = scaled f (t .k) (evensFour f t x)
-
--- the samples that entry i of the bands is made of are small where b says so
-abbrev pub Near : Bool → Format → List ℕ → ℕ → Type 0
-Near b f x i = SmallIf b f x (2 * i - 4) (2 * i + 5)
 
 -- x holds four samples or more, and t is the set of the forward filter
 pub record Samples (f : Format) (t : Set) (x : List ℕ) : Type 0 where

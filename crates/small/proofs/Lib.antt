@@ -2,3 +2,4 @@ pub mod Sizes
 pub mod Lifts
 pub mod Firsts
 pub mod Pieces
+pub mod Factors

@@ -58,14 +58,14 @@ stepped-piece {f} {c} {p} {q} {s} {r} {n} {e} l m i o w eo q₀ made =
           (lt-or-le 0 j);
     }
 
--- ---- five local arrays
+-- ---- five local arrays, of an entry more than a block has turns
 
-pub record Arrays (m : ℕ) (y z u v w : List Float) : Type 0 where
-  pub first : length y ≡ m
-  pub second : length z ≡ m
-  pub third : length u ≡ m
-  pub fourth : length v ≡ m
-  pub fifth : length w ≡ m
+pub record Arrays (y z u v w : List Float) : Type 0 where
+  pub first : length y ≡ 257
+  pub second : length z ≡ 257
+  pub third : length u ≡ 257
+  pub fourth : length v ≡ 257
+  pub fifth : length w ≡ 257
 
-pub rooms : {m n : ℕ} {y z u v w : List Float} → Arrays m y z u v w → n ≤ m → Rooms n y z u v w
+pub rooms : {n : ℕ} {y z u v w : List Float} → Arrays y z u v w → n ≤ 257 → Rooms n y z u v w
 rooms a h = record { first = omega (arith, a); second = omega (arith, a); third = omega (arith, a); fourth = omega (arith, a); fifth = omega (arith, a) }

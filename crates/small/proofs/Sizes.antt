@@ -21,7 +21,7 @@ use Rattle.samples.specs.Words.{wordAt}
 use Rattle.samples.specs.Floats.{width, floatAt}
 use Rattle.samples.proofs.FloatLaws.{no-nan}
 use Rattle.floats.specs.Steps.{lift}
-use Rattle.small.specs.Small.{Small, Factor, edge, SmallFrom, SmallIf}
+use Rattle.small.specs.Small.{Small, Factor, edge, SmallFrom, SmallIf, BothSmallIf}
 
 -- from so many units on a value is an infinity: 2 ^ this
 abbrev pub ceiling : Format → ℕ
@@ -204,6 +204,9 @@ small-part k l h ik lj = record { each = λ p kp pl n. h .each p (omega arith) (
 
 pub part-if : {b : Bool} {f : Format} {s : List ℕ} {i j : ℕ} (k l : ℕ) → SmallIf b f s i j → i ≤ k → l ≤ j → SmallIf b f s k l
 part-if k l h ik lj = λ q. small-part k l (h q) ik lj
+
+pub both-part-if : {b : Bool} {f : Format} {a d : List ℕ} {i j : ℕ} (k l : ℕ) → BothSmallIf b f a d i j → i ≤ k → l ≤ j → BothSmallIf b f a d k l
+both-part-if k l h ik lj = (part-if k l (h .0) ik lj, part-if k l (h .1) ik lj)
 
 -- ---- the look through a slice: a sum that stays below H leaves its word below E
 

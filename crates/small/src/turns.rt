@@ -2,6 +2,9 @@
 ghost use mathlib.Core.Path.{_≡_};
 ghost use Prim.Native.Nat.{_+_, _-_, _≤_, _<_};
 
+// The turns that a block of 9/7 has at most; its local arrays have an entry more. A contract cannot name it, and says 256.
+pub const BLOCK: usize = 256;
+
 // m - n, or 0 where n is more.
 pub fn minus(m: usize, n: usize) -> usize
     ensures { λ r. ⌜ r ≡ m - n ⌝ }
@@ -17,10 +20,10 @@ pub fn block_end(i: usize, n: usize) -> usize
     if n - i < 2048 { n } else { i + 2048 }
 }
 
-// How many turns the block has that starts at i, of those up to n: no more than local arrays of 257 entries have room for.
+// How many turns the block has that starts at i, of those up to n.
 pub fn block_turns(i: usize, n: usize) -> usize
     requires { ⌜ i < n ⌝ }
     ensures { λ r. ⌜ (0 < r) × (r ≤ 256) × (i + r ≤ n) ⌝ }
 {
-    if n - i < 256 { n - i } else { 256 }
+    if n - i < BLOCK { n - i } else { BLOCK }
 }

@@ -1,5 +1,4 @@
 -- `last_f64` meets its contract: as many approximations as details, and one more.
-use borrow.Author.Needs.{needs}
 use Prim.Native.Nat.{_+_}
 use native.Mathlib.Omega.{arith}
 use lib.Ieee.{binary64}
@@ -44,4 +43,4 @@ pub last-f64-spec : {M : Type 1} → statement M
 last-f64-spec =
     tie.close
     (tie.spec
-    (λ c. search needs) (λ c κs. (omega arith, never)) (λ c. search needs) (λ c. search needs) (λ c κs. (omega arith, never)) returns returns-2)
+    (λ c. omega arith) (λ c κs. (omega arith, never)) (λ c. omega arith) (λ c. omega arith) (λ c κs. (omega arith, never)) returns returns-2)

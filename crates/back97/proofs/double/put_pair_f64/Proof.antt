@@ -1,5 +1,5 @@
 -- `put_pair_f64` meets its contract: an even sample more, and an odd one.
-use borrow.Author.Needs.{needs}
+use mathlib.Core.Path.{_∙_}
 use native.Mathlib.Omega.{arith}
 use lib.Ieee.{binary64}
 use Rattle.small.proofs.Lifts.{even-more, odd-more}
@@ -35,4 +35,4 @@ pub put-pair-f64-spec : {M : Type 1} → statement M
 put-pair-f64-spec =
     tie.close
     (tie.spec
-    (λ c. search needs) put-requires (λ c. search needs) (λ c. search needs) put-requires-2 (λ c. search needs) returns)
+    (λ c. omega arith) put-requires (λ c. omega arith) (λ c. omega arith) put-requires-2 (λ c. c .before .before .put-f642 .kept .1 .0 ∙ c .before .before .before .before .before .before .before .put-f64 .kept .1 .0) returns)

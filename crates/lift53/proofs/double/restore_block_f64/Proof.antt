@@ -5,7 +5,8 @@ use native.Mathlib.Omega.{arith}
 use lib.ListN.{length}
 use lib.Ieee.{binary64}
 use Rattle.lift53.specs.Back.{Restoring}
-use Rattle.lift53.proofs.Turns.{given-on, restoring-now, restoring-at, near-part}
+use Rattle.small.proofs.Sizes.{both-part-if}
+use Rattle.lift53.proofs.Turns.{given-on, restoring-now, restoring-at}
 use Rattle.lift53.proofs.double.restore_block_f64.Statement.{statement}
 use Rattle.lift53.proofs.double.restore_block_f64.Tie as tie
 
@@ -23,7 +24,7 @@ restore-block-f64-spec =
     (λ c κs.
     let p = c .before .before .before .before .before .before .pre in
     let l = c .before .before .loop in
-    (given-on (l .x) (p .0) (l .inv .2 .front .holds), (restoring-now (l .inv .2), (omega (arith, p .1 .1 .0), near-part _ _ (p .1 .1 .1) (omega arith) (omega arith)))))
+    (given-on (l .x) (p .0) (l .inv .2 .front .holds), (restoring-now (l .inv .2), (omega (arith, p .1 .1 .0), both-part-if _ _ (p .1 .1 .1) (omega arith) (omega arith)))))
     (λ c. omega arith) (λ c. omega arith)
     (λ c. (omega arith, omega arith, rw (c .before .before .before .before .before .loop .inv .2 .front .holds .count) at (c .before .before .restore-pair-f64 .ensures)))
     (λ c. search needs) (λ c. restoring-at _ (c .before .loop .inv .2) (omega arith)))

@@ -1,5 +1,5 @@
 -- `restore_end_f64` meets its contract: as many details as approximations, and one less.
-use borrow.Author.Needs.{needs}
+use mathlib.Core.Path.{_∙_}
 use Prim.Native.Nat.{_+_, _-_}
 use native.Mathlib.Omega.{arith}
 use Rattle.samples.proofs.Words.{holds-on}
@@ -17,10 +17,8 @@ put-requires-2 c κs =
     let st = c .before .before .before .before .before .before .before .before .before .before in
     let v = st .pre .0 in
     let n = counts v in
-    let i = st .args .last in
     let l = st .pre .1 .1 in
     let t = c .before .if1 .taken in
-    let e = st .pre .1 .0 .next in
     let h = holds-on (c .before .before .before .before .put-f64 .last .1 .0) (v .lent .samples) (c .before .before .before .before .put-f64 .kept .1 .0) in
     (omega arith, never)
 
@@ -29,12 +27,8 @@ put-requires-3 c κs =
     let st = c .before .before .before .before .before .before .before .before .before .before .before in
     let v = st .pre .0 in
     let n = counts v in
-    let i = st .args .last in
     let l = st .pre .1 .1 in
     let m = one-more v (λ q. c .before .before .if1 .left (omega arith)) in
-    let e = st .pre .1 .0 .next in
-    let y = c .before .before .before .before .before .before .before .get-f64 .ensures in
-    let f = even-made v (i + 1) i i (omega arith) (omega arith) (omega arith) y y (c .before .get-f642 .ensures) in
     let h = holds-on (c .before .before .before .before .before .put-f64 .last .1 .0) (v .lent .samples) (c .before .before .before .before .before .put-f64 .kept .1 .0) in
     (omega arith, never)
 
@@ -43,11 +37,8 @@ put-requires-4 c κs =
     let st = c .before .before .before .before .before .before .before .before .before .before .before .before .before .before .before in
     let v = st .pre .0 in
     let n = counts v in
-    let i = st .args .last in
     let l = st .pre .1 .1 in
     let m = one-more v (λ q. c .before .before .before .before .before .before .if1 .left (omega arith)) in
-    let y = c .before .before .before .before .before .before .before .before .before .before .before .get-f64 .ensures in
-    let f = even-made v (i + 1) i i (omega arith) (omega arith) (omega arith) y y (c .before .before .before .before .before .get-f642 .ensures) in
     let h = holds-on (c .before .before .before .put-f643 .last .1 .0) (holds-on (c .before .before .before .before .before .before .before .before .before .put-f64 .last .1 .0) (v .lent .samples) (c .before .before .before .before .before .before .before .before .before .put-f64 .kept .1 .0)) (c .before .before .before .put-f643 .kept .1 .0) in
     (omega arith, never)
 
@@ -88,8 +79,9 @@ restore-end-f64-spec =
     tie.close
     (tie.spec
     (λ c κs. let st = c .before .before .before in let n = counts (st .pre .0) in let l = st .pre .1 .1 in (omega arith, never))
-    (λ c. search needs) put-requires (λ c. search needs) (λ c. search needs) (λ c. search needs) put-requires-2
-    (λ c. search needs)
+    (λ c. omega arith) put-requires (λ c. omega arith) (λ c. omega arith) (λ c. omega arith) put-requires-2
+    (λ c. omega arith)
     (λ c κs. let st = c .before .before .before .before .before .before .before .before .before in let n = counts (st .pre .0) in let l = st .pre .1 .1 in let m = one-more (st .pre .0) (λ q. c .if1 .left (omega arith)) in (omega arith, never))
-    (λ c. search needs) (λ c. search needs) put-requires-3 (λ c. search needs) (λ c. search needs) put-requires-4
-    (λ c. search needs) returns (λ c. search needs) returns-2)
+    (λ c. omega arith) (λ c. omega arith) put-requires-3 (λ c. omega arith) (λ c. omega arith) put-requires-4
+    (λ c. c .before .before .put-f642 .kept .1 .0 ∙ c .before .before .before .before .before .before .before .put-f64 .kept .1 .0) returns
+    (λ c. c .before .before .put-f644 .kept .1 .0 ∙ (c .before .before .before .before .before .before .put-f643 .kept .1 .0 ∙ c .before .before .before .before .before .before .before .before .before .before .before .before .put-f64 .kept .1 .0)) returns-2)

@@ -1,6 +1,5 @@
 -- `split_block_f64` meets its contract: the first p entries of the bands are stored.
-use borrow.Author.Needs.{needs}
-use mathlib.Core.Path.{_≡_, refl}
+use mathlib.Core.Path.{_≡_, refl, sym, _∙_}
 use Prim.Native.Nat.{_-_, _≤_}
 use native.Mathlib.Omega.{arith}
 use lib.ListN.{length}
@@ -29,4 +28,4 @@ split-block-f64-spec =
     (ahead-on (p .0) (l .a) (l .d) (l .inv .3 .approx .holds) (λ b. l .inv .3 .details b .holds), (l .inv .3, ((omega (arith, h), omega (arith, h)), part-if _ _ (p .1 .1 .1) (omega arith) (omega arith)))))
     (λ c. omega arith) (λ c. omega arith)
     (λ c. let r = c .before .before .before .before in (omega arith, omega arith, omega (arith, r .split-pair-f64 .kept), r .split-pair-f64 .ensures))
-    (λ c. search needs) (λ c. search needs) (λ c. splitting-at _ (c .before .loop .inv .3) (omega arith)))
+    (λ c. c .before .loop .inv .3 .approx .holds .size ∙ sym (c .before .before .before .before .before .pre .0 .lent .approx .size)) (λ c. c .before .loop .inv .2) (λ c. splitting-at _ (c .before .loop .inv .3) (omega arith)))

@@ -7,7 +7,8 @@ use lib.Ieee.{binary32}
 use Rattle.samples.proofs.Fronts.{front-none}
 use Rattle.small.proofs.Lifts.{never}
 use Rattle.lift53.specs.Back.{Given, Restoring}
-use Rattle.lift53.proofs.Turns.{counts, even-made, given-on, restoring-now, restoring-at, near-part}
+use Rattle.small.proofs.Sizes.{both-part-if}
+use Rattle.lift53.proofs.Turns.{counts, even-made, given-on, restoring-now, restoring-at}
 use Rattle.lift53.proofs.single.restore_all_f32.Statement.{statement}
 use Rattle.lift53.proofs.single.restore_all_f32.Tie as tie
 
@@ -32,7 +33,7 @@ block-requires c κs =
     let l = c .before .before .before .before .before in
     let j = c .before .before .before .block-end .ensures in
     let lo = c .before .before .minus .ensures in
-    (given l, (restoring-now (l .loop .inv .1), ((omega arith, omega arith), near-part _ _ (c .before .small-bands-f32 .ensures) (omega arith) (omega arith))))
+    (given l, (restoring-now (l .loop .inv .1), ((omega arith, omega arith), both-part-if _ _ (c .before .small-bands-f32 .ensures) (omega arith) (omega arith))))
 
 pub restore-all-f32-spec : {M : Type 1} → statement M
 restore-all-f32-spec =

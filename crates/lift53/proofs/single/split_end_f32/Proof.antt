@@ -1,5 +1,4 @@
 -- `split_end_f32` meets its contract: as many details as approximations, and one less.
-use borrow.Author.Needs.{needs}
 use mathlib.Core.Path.{_≡_, ap, _∙_}
 use Prim.Native.Nat.{ℕ, _+_, _-_, _*_, _/_, min}
 use native.Mathlib.Omega.{arith}
@@ -43,4 +42,5 @@ split-end-f32-spec =
     let p = c .before .before .before .before .before .before .before .before .before .before .before .before .before .before .pre in
     let h = c .before .before .before .before .before .before .before .before .split-pair-f32 .ensures .approx .holds .count in
     (omega (arith, p .0 .lent, p .1 .1), never))
-    (λ c. search needs) (λ c. search needs) returns (λ c. search needs) (λ c. search needs) returns-2)
+    (λ c. c .before .before .put-f32 .kept .1 .0 ∙ c .before .before .before .before .before .before .before .before .before .before .before .split-pair-f32 .kept .1 .1 .1 .0) (λ c. c .before .before .before .before .before .before .before .before .before .before .before .split-pair-f32 .kept .1 .1 .1 .1 .0) returns
+    (λ c. c .before .before .before .before .before .split-pair-f32 .kept .1 .1 .1 .0) (λ c. c .before .before .before .before .before .split-pair-f32 .kept .1 .1 .1 .1 .0) returns-2)

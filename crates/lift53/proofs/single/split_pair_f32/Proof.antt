@@ -1,5 +1,4 @@
 -- `split_pair_f32` meets its contract: detail i and approximation i are made of the samples as the two steps make them.
-use borrow.Author.Needs.{needs}
 use mathlib.Core.Path.{_≡_, refl, ap, _∙_}
 use Prim.Native.Nat.{ℕ, _+_, _-_, _*_}
 use native.Mathlib.Omega.{arith}
@@ -63,4 +62,4 @@ split-pair-f32-spec =
     let h = p .1 .1 .0 in
     let k = p .0 .lent .approx .count in
     (omega (arith, h), even-no-nan (p .0) _ (p .1 .1 .1) (omega (arith, h)) (approx g)))
-    (λ c. search needs) (λ c. search needs) returns)
+    (λ c. c .before .before .put-f32 .kept .1 .0) (λ c. c .before .before .before .before .before .before .before .before .put-if-f32 .kept .1 .1 .0) returns)

@@ -1,5 +1,4 @@
 -- `split_end_f64` meets its contract: as many details as approximations, and one less.
-use borrow.Author.Needs.{needs}
 use mathlib.Core.Path.{_≡_, ap, _∙_}
 use Prim.Native.Nat.{ℕ, _+_, _-_, _/_, _%_}
 use native.Mathlib.Omega.{arith}
@@ -67,4 +66,5 @@ split-end-f64-spec =
     let h = g .before .before .before .before .pre .1 .1 .1 in
     let k = c .before .before .before .before .before .before .before .before .put-at-f64 .ensures .approx .holds .count in
     (omega arith, never))
-    (λ c. search needs) (λ c. search needs) returns (λ c. search needs) (λ c. search needs) returns-2)
+    (λ c. c .before .before .put-f64 .kept .1 .0 ∙ c .before .before .before .before .before .before .before .before .before .before .before .put-at-f64 .kept .1 .1 .1 .1 .0) (λ c. c .before .before .before .before .before .before .before .before .before .before .before .put-at-f64 .kept .1 .1 .1 .1 .1 .0) returns
+    (λ c. c .before .before .before .before .before .put-at-f64 .kept .1 .1 .1 .1 .0) (λ c. c .before .before .before .before .before .put-at-f64 .kept .1 .1 .1 .1 .1 .0) returns-2)
