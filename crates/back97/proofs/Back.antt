@@ -27,7 +27,7 @@ use Rattle.back97.specs.Back.{timesOf, evensOne, oddsTwo, evensThree, od
 
 -- ---- how far a scaling and four steps reach
 
-far : (f : Format) → sizes.reach f + 3 + 9 + 9 + 9 + 9 < sizes.ceiling f
+far : (f : Format) → sizes.sizeRead f + 3 + 9 + 9 + 9 + 9 < sizes.ceiling f
 far binary32 = omega arith
 far binary64 = omega arith
 
@@ -42,9 +42,9 @@ module _ (f : Format) (k : Float) (s : List ℕ) where
   unfolding timesOf
   times-made i h e = lifts.scaled-made f k (decodeFloats f s) i (rw (length-decodeFloats f s) h) (e ∙ sym (at-decodeFloats f s i h))
 
-  times-small : {i j : ℕ} (p : ℕ) → Factor k → SmallFrom f s i j → i ≤ p → p < j → p < length s / width f → Small f (sizes.reach f + 3) (getD (timesOf f k s) p nan)
+  times-small : {i j : ℕ} (p : ℕ) → Factor k → SmallFrom f s i j → i ≤ p → p < j → p < length s / width f → Small f (sizes.sizeRead f + 3) (getD (timesOf f k s) p nan)
   unfolding timesOf
-  times-small p b w ip pj h = lifts.scaled-small f k (decodeFloats f s) (sizes.reach f) p b (omega (arith, far f)) (rw (length-decodeFloats f s) h) (lifts.small-in w p ip pj h)
+  times-small p b w ip pj h = lifts.scaled-small f k (decodeFloats f s) (sizes.sizeRead f) p b (omega (arith, far f)) (rw (length-decodeFloats f s) h) (lifts.small-in w p ip pj h)
 
 -- ---- a step
 
@@ -164,29 +164,29 @@ module _ {f : Format} {t : Set} {a d : List ℕ} (v : Bands97 f t a d) where
 
   -- an entry is small where the bands are around it
   module _ {i j : ℕ} (wa : SmallFrom f a i j) (wd : SmallFrom f d i j) where
-    detail-small : (p : ℕ) → i ≤ p → p < j → p < length d / width f → Small f (sizes.reach f + 3) (getD (timesOf f (t .k) d) p nan)
+    detail-small : (p : ℕ) → i ≤ p → p < j → p < length d / width f → Small f (sizes.sizeRead f + 3) (getD (timesOf f (t .k) d) p nan)
     detail-small p = times-small f (t .k) d p (factored .k) wd
 
-    one-small : (p : ℕ) → i ≤ p - 1 → p < j → p < length a / width f → Small f (sizes.reach f + 3 + 9) (getD (evensOne f t a d) p nan)
+    one-small : (p : ℕ) → i ≤ p - 1 → p < j → p < length a / width f → Small f (sizes.sizeRead f + 3 + 9) (getD (evensOne f t a d) p nan)
     unfolding evensOne
     one-small p ip pj h =
         evens-small (t .delta) scaled _ _ (factored .delta) (omega (arith, far f)) (omega arith) p h
         (detail-small (p - 1) (omega arith) (omega arith) (omega arith)) (detail-small _ (omega arith) (omega arith) (omega arith))
         (times-small f (t .invk) a p (factored .invk) wa (omega arith) (omega arith) h)
 
-    two-small : (p : ℕ) → i ≤ p - 1 → p + 1 < j → p < length d / width f → Small f (sizes.reach f + 3 + 9 + 9) (getD (oddsTwo f t a d) p nan)
+    two-small : (p : ℕ) → i ≤ p - 1 → p + 1 < j → p < length d / width f → Small f (sizes.sizeRead f + 3 + 9 + 9) (getD (oddsTwo f t a d) p nan)
     unfolding oddsTwo
     two-small p ip pj h =
         odds-small (t .gamma) one _ _ (factored .gamma) (omega (arith, far f)) (omega arith) p h
         (one-small p (omega arith) (omega arith) (omega arith)) (one-small _ (omega arith) (omega arith) (omega arith)) (detail-small p (omega arith) (omega arith) h)
 
-    three-small : (p : ℕ) → i ≤ p - 2 → p + 1 < j → p < length a / width f → Small f (sizes.reach f + 3 + 9 + 9 + 9) (getD (evensThree f t a d) p nan)
+    three-small : (p : ℕ) → i ≤ p - 2 → p + 1 < j → p < length a / width f → Small f (sizes.sizeRead f + 3 + 9 + 9 + 9) (getD (evensThree f t a d) p nan)
     unfolding evensThree
     three-small p ip pj h =
         evens-small (t .beta) two _ _ (factored .beta) (omega (arith, far f)) (omega arith) p h
         (two-small (p - 1) (omega arith) (omega arith) (omega arith)) (two-small _ (omega arith) (omega arith) (omega arith)) (one-small p (omega arith) (omega arith) h)
 
-    four-small : (p : ℕ) → i ≤ p - 2 → p + 2 < j → p < length d / width f → Small f (sizes.reach f + 3 + 9 + 9 + 9 + 9) (getD (oddsFour f t a d) p nan)
+    four-small : (p : ℕ) → i ≤ p - 2 → p + 2 < j → p < length d / width f → Small f (sizes.sizeRead f + 3 + 9 + 9 + 9 + 9) (getD (oddsFour f t a d) p nan)
     unfolding oddsFour
     four-small p ip pj h =
         odds-small (t .alpha) three _ _ (factored .alpha) (far f) (omega arith) p h

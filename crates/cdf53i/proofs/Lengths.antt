@@ -6,7 +6,7 @@ use native.Mathlib.Nat.{mul-add}
 use native.Mathlib.Omega.{arith}
 use lib.IntN.{ℤ}
 use lib.ListN.{length, getD}
-use Rattle.sizes.specs.Bands.{ups, downs}
+use Rattle.sizes.specs.Lengths.{approxLength, detailsLength}
 use Rattle.samples.specs.Le.{leBytes, Bytes}
 use Rattle.samples.specs.Words.{bytesOf}
 use Rattle.samples.specs.Integers.{wrap, decode, encode}
@@ -18,13 +18,13 @@ use Rattle.cdf53i.specs.Bands.{low, high, back}
 
 -- ---- on whole numbers
 
-pub length-approxs : (keep : ℤ → ℤ) (x : List ℤ) → length (approxs keep x) ≡ ups (length x)
+pub length-approxs : (keep : ℤ → ℤ) (x : List ℤ) → length (approxs keep x) ≡ approxLength (length x)
 unfolding approxs
-length-approxs keep x = length-tabulate (ups (length x)) _
+length-approxs keep x = length-tabulate (approxLength (length x)) _
 
-pub length-details : (keep : ℤ → ℤ) (x : List ℤ) → length (details keep x) ≡ downs (length x)
+pub length-details : (keep : ℤ → ℤ) (x : List ℤ) → length (details keep x) ≡ detailsLength (length x)
 unfolding details
-length-details keep x = length-tabulate (downs (length x)) _
+length-details keep x = length-tabulate (detailsLength (length x)) _
 
 pub length-restored : (keep : ℤ → ℤ) (a d : List ℤ) → length (restored keep a d) ≡ length a + length d
 unfolding restored
@@ -34,14 +34,14 @@ length-restored keep a d = length-tabulate (length a + length d) _
 
 module _ (k : ℕ) where
   -- the approximations of a list of bytes
-  pub length-low : (x : List ℕ) → length (low k x) ≡ k * ups (length x / k)
+  pub length-low : (x : List ℕ) → length (low k x) ≡ k * approxLength (length x / k)
   unfolding low
-  length-low x = length-encode k _ ∙ ap (λ n. k * n) (length-approxs (wrap k) (decode k x) ∙ ap ups (length-decode k x))
+  length-low x = length-encode k _ ∙ ap (λ n. k * n) (length-approxs (wrap k) (decode k x) ∙ ap approxLength (length-decode k x))
 
   -- its details
-  pub length-high : (x : List ℕ) → length (high k x) ≡ k * downs (length x / k)
+  pub length-high : (x : List ℕ) → length (high k x) ≡ k * detailsLength (length x / k)
   unfolding high
-  length-high x = length-encode k _ ∙ ap (λ n. k * n) (length-details (wrap k) (decode k x) ∙ ap downs (length-decode k x))
+  length-high x = length-encode k _ ∙ ap (λ n. k * n) (length-details (wrap k) (decode k x) ∙ ap detailsLength (length-decode k x))
 
   -- the samples of two bands
   pub length-back : (a d : List ℕ) → length (back k a d) ≡ k * (length a / k) + k * (length d / k)

@@ -2,7 +2,7 @@ pub mod Extension
 pub mod T800
 pub mod StepLaws
 pub mod Words
-pub mod Turns
+pub mod WordTurns
 pub mod Undo
 pub mod Round
 pub mod Read

@@ -7,11 +7,11 @@ use native.Mathlib.Omega.{arith}
 use borrow.Author.Tests.{lt-ltb, le-ltb}
 use lib.IntN.{ℤ, pos, negsuc}
 use lib.ListN.{length}
-use Rattle.sizes.specs.Bands.{ups, downs}
+use Rattle.sizes.specs.Lengths.{approxLength, detailsLength}
 use Rattle.samples.specs.Integers.{val, residue, wrap, decode, encode, Width}
 use Rattle.samples.proofs.Words.{length-tabulate, getD-tabulate}
 use Rattle.samples.proofs.IntegerLaws.{length-decode}
-use Rattle.cdf53i.specs.Lift.{at, evens, odds, detail, details, approx, approxs, sample, restored}
+use Rattle.cdf53i.specs.Lift.{at, evenCount, oddCount, detail, details, approx, approxs, sample, restored}
 use Rattle.cdf53i.specs.Bands as bytes
 use Rattle.cdf53i.specs.T800.{highs, lows, backs}
 use Rattle.cdf53i.specs.Within.{Within, AllWithin, Holding}
@@ -31,11 +31,11 @@ module _ {k : ℕ} (w : Width k) where
   -- ---- on numbers: T.800's own where they are within k bytes
 
   module _ (x : List ℤ) (two : 2 ≤ length x) (hw : AllWithin k (highs (λ z. z) x)) where
-    own-detail : (i : ℕ) → i < odds x → wrap k (detail (λ z. z) x i) ≡ detail (λ z. z) x i
+    own-detail : (i : ℕ) → i < oddCount x → wrap k (detail (λ z. z) x i) ≡ detail (λ z. z) x i
     unfolding details
     own-detail i h =
-        let e : at (highs (λ z. z) x) i ≡ detail (λ z. z) x i = rw (← details-is (λ z. z) x two) (getD-tabulate (odds x) (detail (λ z. z) x) i (pos 0) h) in
-        let l : length (highs (λ z. z) x) ≡ odds x = rw (← details-is (λ z. z) x two) (length-tabulate (odds x) (detail (λ z. z) x)) in
+        let e : at (highs (λ z. z) x) i ≡ detail (λ z. z) x i = rw (← details-is (λ z. z) x two) (getD-tabulate (oddCount x) (detail (λ z. z) x) i (pos 0) h) in
+        let l : length (highs (λ z. z) x) ≡ oddCount x = rw (← details-is (λ z. z) x two) (length-tabulate (oddCount x) (detail (λ z. z) x)) in
         wrap-within w (detail (λ z. z) x i) (rw e at (hw i (omega arith)))
 
     pub highs-unwrapped : highs (wrap k) x ≡ highs (λ z. z) x
@@ -48,8 +48,8 @@ module _ {k : ℕ} (w : Width k) where
         rw (← approxs-is (wrap k) x two, ← approxs-is (λ z. z) x two)
         (approxs-unwrapped (wrap k) x own-detail
         (λ i h.
-        let e : at (lows (λ z. z) x) i ≡ g i = rw (← approxs-is (λ z. z) x two) (getD-tabulate (evens x) g i (pos 0) h) in
-        let l : length (lows (λ z. z) x) ≡ evens x = rw (← approxs-is (λ z. z) x two) (length-tabulate (evens x) g) in
+        let e : at (lows (λ z. z) x) i ≡ g i = rw (← approxs-is (λ z. z) x two) (getD-tabulate (evenCount x) g i (pos 0) h) in
+        let l : length (lows (λ z. z) x) ≡ evenCount x = rw (← approxs-is (λ z. z) x two) (length-tabulate (evenCount x) g) in
         wrap-within w (g i) (rw e at (lw i (omega arith)))))
 
   pub backs-unwrapped : (a d : List ℤ) → length d ≤ length a → length a ≤ length d + 1 → 1 ≤ length d → AllWithin k (backs (λ z. z) a d) → backs (wrap k) a d ≡ backs (λ z. z) a d
@@ -85,11 +85,11 @@ module _ {k : ℕ} (w : Width k) where
     low-own hw lw = let e = lows-unwrapped (decode k x) some hw lw in record { bytes = low-is k x two ∙ ap (encode k) e; read = low-read ∙ e }
 
   -- of the bands of n samples
-  module _ (a d : List ℕ) (n : ℕ) (ea : length a / k ≡ ups n) (ed : length d / k ≡ downs n) (two : 2 ≤ n) where
-    long-a : length (decode k a) ≡ ups n
+  module _ (a d : List ℕ) (n : ℕ) (ea : length a / k ≡ approxLength n) (ed : length d / k ≡ detailsLength n) (two : 2 ≤ n) where
+    long-a : length (decode k a) ≡ approxLength n
     long-a = length-decode k a ∙ ea
 
-    long-d : length (decode k d) ≡ downs n
+    long-d : length (decode k d) ≡ detailsLength n
     long-d = length-decode k d ∙ ed
 
     pub back-read : decode k (bytes.back k a d) ≡ backs (wrap k) (decode k a) (decode k d)

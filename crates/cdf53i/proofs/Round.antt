@@ -11,13 +11,13 @@ use lib.Dec.{eqb}
 use lib.IntN.{ℤ}
 use lib.ListN.{length}
 use Rattle.order.proofs.Order.{lt-or-le}
-use Rattle.sizes.specs.Bands.{ups, downs}
+use Rattle.sizes.specs.Lengths.{approxLength, detailsLength}
 use Rattle.samples.specs.Le.{Bytes}
 use Rattle.samples.specs.Words.{wordAt, Holds}
 use Rattle.samples.specs.Integers.{val, wrap, encode, decode, Width}
 use Rattle.samples.proofs.Words.{tabulate-same, word-lt}
 use Rattle.samples.proofs.IntegerLaws.{length-decode, at-decode, word-val, wrap-wrap, decode-encode, encode-decode}
-use Rattle.cdf53i.specs.Lift.{at, detail, details, approx, approxs, evens, odds, sample, even, odd, restored}
+use Rattle.cdf53i.specs.Lift.{at, detail, details, approx, approxs, evenCount, oddCount, sample, even, odd, restored}
 use Rattle.cdf53i.specs.Bands.{low, high, back}
 use Rattle.cdf53i.proofs.Undo.{undoes-wrap, undone, details-again, approxs-again}
 
@@ -25,13 +25,13 @@ module _ {k : ℕ} (w : Width k) where
   -- coefficients that were stored are read back
   pub stored-details : (x : List ℤ) → decode k (encode k (details (wrap k) x)) ≡ details (wrap k) x
   unfolding details detail
-  stored-details x = decode-encode w (odds x) (detail (wrap k) x) ∙ tabulate-same (odds x) (λ i. wrap k (detail (wrap k) x i)) (detail (wrap k) x) (λ i h. wrap-wrap w _)
+  stored-details x = decode-encode w (oddCount x) (detail (wrap k) x) ∙ tabulate-same (oddCount x) (λ i. wrap k (detail (wrap k) x i)) (detail (wrap k) x) (λ i h. wrap-wrap w _)
 
   pub stored-approxs : (x : List ℤ) → decode k (encode k (approxs (wrap k) x)) ≡ approxs (wrap k) x
   unfolding approxs approx
   stored-approxs x =
       let f = approx (wrap k) x (details (wrap k) x) in
-      decode-encode w (evens x) f ∙ tabulate-same (evens x) (λ i. wrap k (f i)) f (λ i h. wrap-wrap w _)
+      decode-encode w (evenCount x) f ∙ tabulate-same (evenCount x) (λ i. wrap k (f i)) f (λ i h. wrap-wrap w _)
 
   -- a sample that was read is kept as it is
   fits : (s : List ℕ) → Bytes s → (i : ℕ) → i < length (decode k s) → wrap k (at (decode k s) i) ≡ at (decode k s) i
@@ -62,11 +62,11 @@ module _ {k : ℕ} (w : Width k) where
       decode-encode w n f ∙ tabulate-same n (λ i. wrap k (f i)) f (λ i h. kept-sample a d i)
 
   -- and the transform of the inverse on every pair of bands whose lengths fit
-  module _ (a d : List ℕ) (ba : Bytes a) (bd : Bytes d) (n : ℕ) (ha : Holds k (ups n) a) (hd : Holds k (downs n) d) (two : 2 ≤ n) where
-    long-a : length (decode k a) ≡ ups n
+  module _ (a d : List ℕ) (ba : Bytes a) (bd : Bytes d) (n : ℕ) (ha : Holds k (approxLength n) a) (hd : Holds k (detailsLength n) d) (two : 2 ≤ n) where
+    long-a : length (decode k a) ≡ approxLength n
     long-a = length-decode k a ∙ ha .count
 
-    long-d : length (decode k d) ≡ downs n
+    long-d : length (decode k d) ≡ detailsLength n
     long-d = length-decode k d ∙ hd .count
 
     pub back-and-low : low k (back k a d) ≡ a
@@ -74,25 +74,25 @@ module _ {k : ℕ} (w : Width k) where
     back-and-low =
         rw (stored-restored (decode k a) (decode k d))
         (ap (encode k) (approxs-again (wrap k) (undoes-wrap w) (decode k a) (decode k d) (omega (arith, long-a, long-d)) (omega (arith, long-a, long-d)) (omega (arith, long-d)) (fits a ba) (fits d bd))
-        ∙ encode-decode w a ba (ups n) ha)
+        ∙ encode-decode w a ba (approxLength n) ha)
 
     pub back-and-high : high k (back k a d) ≡ d
     unfolding high back
     back-and-high =
         rw (stored-restored (decode k a) (decode k d))
         (ap (encode k) (details-again (wrap k) (undoes-wrap w) (decode k a) (decode k d) (omega (arith, long-a, long-d)) (omega (arith, long-a, long-d)) (omega (arith, long-d)) (fits a ba) (fits d bd))
-        ∙ encode-decode w d bd (downs n) hd)
+        ∙ encode-decode w d bd (detailsLength n) hd)
 
 -- ---- where no coefficient wraps, what is kept is T.800's own
 
-module _ (keep : ℤ → ℤ) (x : List ℤ) (d-kept : (i : ℕ) → i < odds x → keep (detail (λ z. z) x i) ≡ detail (λ z. z) x i) where
+module _ (keep : ℤ → ℤ) (x : List ℤ) (d-kept : (i : ℕ) → i < oddCount x → keep (detail (λ z. z) x i) ≡ detail (λ z. z) x i) where
   pub details-unwrapped : details keep x ≡ details (λ z. z) x
   unfolding details detail
-  details-unwrapped = tabulate-same (odds x) (detail keep x) (detail (λ z. z) x) d-kept
+  details-unwrapped = tabulate-same (oddCount x) (detail keep x) (detail (λ z. z) x) d-kept
 
-  pub approxs-unwrapped : ((i : ℕ) → i < evens x → keep (approx (λ z. z) x (details (λ z. z) x) i) ≡ approx (λ z. z) x (details (λ z. z) x) i) → approxs keep x ≡ approxs (λ z. z) x
+  pub approxs-unwrapped : ((i : ℕ) → i < evenCount x → keep (approx (λ z. z) x (details (λ z. z) x) i) ≡ approx (λ z. z) x (details (λ z. z) x) i) → approxs keep x ≡ approxs (λ z. z) x
   unfolding approxs approx
-  approxs-unwrapped a-kept = rw details-unwrapped (tabulate-same (evens x) (approx keep x (details (λ z. z) x)) (approx (λ z. z) x (details (λ z. z) x)) a-kept)
+  approxs-unwrapped a-kept = rw details-unwrapped (tabulate-same (evenCount x) (approx keep x (details (λ z. z) x)) (approx (λ z. z) x (details (λ z. z) x)) a-kept)
 
 -- and so are the samples of two bands, where none of them wraps
 module _ (keep : ℤ → ℤ) (a d : List ℤ) (more : length d ≤ length a) (less : length a ≤ length d + 1)

@@ -16,8 +16,8 @@ use Rattle.samples.proofs.Diff.{sub-ge}
 use Rattle.order.proofs.Order.{lt-or-le}
 use Rattle.samples.proofs.Words.{length-tabulate, getD-tabulate, tabulate-same}
 use Rattle.samples.proofs.IntegerLaws.{length-decode}
-use Rattle.sizes.specs.Bands.{ups, downs}
-use Rattle.cdf53i.specs.Lift.{at, floorDiv, evens, odds, detail, details, approx, approxs, even, odd, sample, restored}
+use Rattle.sizes.specs.Lengths.{approxLength, detailsLength}
+use Rattle.cdf53i.specs.Lift.{at, floorDiv, evenCount, oddCount, detail, details, approx, approxs, even, odd, sample, restored}
 use Rattle.samples.specs.Halves.{joined}
 use Rattle.cdf53i.specs.Bands as bytes
 use Rattle.cdf53i.specs.T800.{extended, high, low, highs, lows, interleaved, evenBack, oddBack, back, backs}
@@ -28,56 +28,56 @@ use Rattle.cdf53i.proofs.Undo.{at-details}
 -- ---- forward
 
 module _ (keep : ℤ → ℤ) (x : List ℤ) (some : 2 ≤ length x) where
-  detail-is : (i : ℕ) → i < downs (length x) → detail keep x i ≡ keep (high x (pos i))
+  detail-is : (i : ℕ) → i < detailsLength (length x) → detail keep x i ≡ keep (high x (pos i))
   unfolding detail high
   detail-is i h =
       rw (
         extended-at x some (i + i + 1) (2 * i + 1) (omega arith) (omega arith),
         extended-at x some (i + i) (2 * i) (omega arith) (omega arith),
-        extended-at x some (i + i + 2) (2 * min (i + 1) (evens x - 1)) (omega arith) (omega arith),
+        extended-at x some (i + i + 2) (2 * min (i + 1) (evenCount x - 1)) (omega arith) (omega arith),
       )
 
   -- a Y(2j+1) past an end is the detail whose three samples are mirrored there
-  mirrored : (i : ℕ) (j : ℤ) → extended x (j +ℤ j +ℤ pos 1) ≡ at x (2 * i + 1) → extended x (j +ℤ j) ≡ at x (2 * min (i + 1) (evens x - 1)) → extended x (j +ℤ j +ℤ pos 2) ≡ at x (2 * i)
+  mirrored : (i : ℕ) (j : ℤ) → extended x (j +ℤ j +ℤ pos 1) ≡ at x (2 * i + 1) → extended x (j +ℤ j) ≡ at x (2 * min (i + 1) (evenCount x - 1)) → extended x (j +ℤ j +ℤ pos 2) ≡ at x (2 * i)
       → detail keep x i ≡ keep (high x j)
   unfolding detail high
-  mirrored i j p q r = rw (p, q, r) (ap (λ z. keep (at x (2 * i + 1) -ℤ floorDiv z 2)) (+ℤ-comm (at x (2 * i)) (at x (2 * min (i + 1) (evens x - 1)))))
+  mirrored i j p q r = rw (p, q, r) (ap (λ z. keep (at x (2 * i + 1) -ℤ floorDiv z 2)) (+ℤ-comm (at x (2 * i)) (at x (2 * min (i + 1) (evenCount x - 1)))))
 
   -- Y(-1) is Y(1), and for an odd number n of samples Y(n) is Y(n - 2)
   before : detail keep x 0 ≡ keep (high x (negsuc 0))
-  before = mirrored 0 (negsuc 0) (extended-before x some 0 1 (omega arith) (omega arith)) (extended-before x some 1 (2 * min 1 (evens x - 1)) (omega arith) (omega arith)) (extended-at x some 0 0 (omega arith) (omega arith))
+  before = mirrored 0 (negsuc 0) (extended-before x some 0 1 (omega arith) (omega arith)) (extended-before x some 1 (2 * min 1 (evenCount x - 1)) (omega arith) (omega arith)) (extended-at x some 0 0 (omega arith) (omega arith))
 
   after : (i : ℕ) → length x ≡ 2 * i + 3 → detail keep x i ≡ keep (high x (pos (i + 1)))
   after i e =
       mirrored i (pos (i + 1))
       (extended-at x some (i + 1 + (i + 1) + 1) (2 * i + 1) (omega arith) (omega arith))
-      (extended-at x some (i + 1 + (i + 1)) (2 * min (i + 1) (evens x - 1)) (omega arith) (omega arith))
+      (extended-at x some (i + 1 + (i + 1)) (2 * min (i + 1) (evenCount x - 1)) (omega arith) (omega arith))
       (extended-at x some (i + 1 + (i + 1) + 2) (2 * i) (omega arith) (omega arith))
 
   pub details-is : details keep x ≡ highs keep x
   unfolding details highs
-  details-is = tabulate-same (odds x) (detail keep x) (λ i. keep (high x (pos i))) detail-is
+  details-is = tabulate-same (oddCount x) (detail keep x) (λ i. keep (high x (pos i))) detail-is
 
   -- the details on either side of an even sample
-  left : (i : ℕ) → i < ups (length x) → at (details keep x) (i - 1) ≡ keep (high x (pos i -ℤ pos 1))
+  left : (i : ℕ) → i < approxLength (length x) → at (details keep x) (i - 1) ≡ keep (high x (pos i -ℤ pos 1))
   left zero h = at-details keep x 0 (omega arith) ∙ before
   left (suc i) h = rw (sub-ge (suc i) 1 (omega arith)) (at-details keep x (suc i - 1) (omega arith) ∙ detail-is (suc i - 1) (omega arith))
 
-  right : (i : ℕ) → i < ups (length x) → at (details keep x) (min i (length (details keep x) - 1)) ≡ keep (high x (pos i))
+  right : (i : ℕ) → i < approxLength (length x) → at (details keep x) (min i (length (details keep x) - 1)) ≡ keep (high x (pos i))
   right i h =
       rw (length-details keep x)
       (⊎-elim
       (λ k. ap (at (details keep x)) (omega arith) ∙ at-details keep x i k ∙ detail-is i k)
       (λ k. ap (at (details keep x)) (omega arith) ∙ at-details keep x (i - 1) (omega arith) ∙ after (i - 1) (omega arith) ∙ ap (λ j. keep (high x (pos j))) (omega arith))
-      (lt-or-le i (downs (length x))))
+      (lt-or-le i (detailsLength (length x))))
 
-  approx-is : (i : ℕ) → i < ups (length x) → approx keep x (details keep x) i ≡ keep (low x (λ j. keep (high x j)) (pos i))
+  approx-is : (i : ℕ) → i < approxLength (length x) → approx keep x (details keep x) i ≡ keep (low x (λ j. keep (high x j)) (pos i))
   unfolding approx low
   approx-is i h = rw (left i h, right i h, extended-at x some (i + i) (2 * i) (omega arith) (omega arith))
 
   pub approxs-is : approxs keep x ≡ lows keep x
   unfolding approxs lows
-  approxs-is = tabulate-same (evens x) (approx keep x (details keep x)) (λ i. keep (low x (λ j. keep (high x j)) (pos i))) approx-is
+  approxs-is = tabulate-same (evenCount x) (approx keep x (details keep x)) (λ i. keep (low x (λ j. keep (high x j)) (pos i))) approx-is
 
 -- ---- two sequences in turn: f 0, g 0, f 1, g 1, ..
 
@@ -178,7 +178,7 @@ module _ (k : ℕ) where
     high-is = ap (encode k) (details-is (wrap k) (decode k x) some-samples)
 
   -- of the bands of n samples
-  pub back-is : (a d : List ℕ) (n : ℕ) → length a / k ≡ ups n → length d / k ≡ downs n → 2 ≤ n → bytes.back k a d ≡ encode k (backs (wrap k) (decode k a) (decode k d))
+  pub back-is : (a d : List ℕ) (n : ℕ) → length a / k ≡ approxLength n → length d / k ≡ detailsLength n → 2 ≤ n → bytes.back k a d ≡ encode k (backs (wrap k) (decode k a) (decode k d))
   unfolding bytes.back
   back-is a d n ea ed two =
       let la = length-decode k a in

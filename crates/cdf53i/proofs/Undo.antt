@@ -17,7 +17,7 @@ use Rattle.samples.proofs.LeLaws.{top-pos}
 use Rattle.samples.proofs.Words.{length-tabulate, getD-tabulate}
 use Rattle.samples.proofs.Diff.{pos-sub, sub-lt, sub-ge, sub-add, mod-cancel, residue-sub}
 use Rattle.samples.proofs.IntegerLaws.{residue-lt, word-wrap}
-use Rattle.cdf53i.specs.Lift.{at, floorDiv, evens, odds, detail, details, approx, approxs, even, odd, sample, restored}
+use Rattle.cdf53i.specs.Lift.{at, floorDiv, evenCount, oddCount, detail, details, approx, approxs, even, odd, sample, restored}
 use Rattle.cdf53i.proofs.Lengths.{length-approxs, length-details, length-restored}
 
 -- t added and taken away again, or the other way round, with each result kept, leaves what is kept of z
@@ -86,23 +86,23 @@ module _ {k : ℕ} (w : Width k) where
   }
 
 module _ (keep : ℤ → ℤ) (x : List ℤ) where
-  pub at-details : (i : ℕ) → i < odds x → at (details keep x) i ≡ detail keep x i
+  pub at-details : (i : ℕ) → i < oddCount x → at (details keep x) i ≡ detail keep x i
   unfolding details
-  at-details i h = getD-tabulate (odds x) (detail keep x) i (pos 0) h
+  at-details i h = getD-tabulate (oddCount x) (detail keep x) i (pos 0) h
 
 -- ---- the inverse of the transform of x is x, where x is of numbers that are kept as they are
 module _ (keep : ℤ → ℤ) (u : Undoes keep) (x : List ℤ) (long : 2 ≤ length x) (fits : (i : ℕ) → i < length x → keep (at x i) ≡ at x i) where
-  even-back : (i : ℕ) → i < evens x → even keep (approxs keep x) (details keep x) i ≡ at x (2 * i)
+  even-back : (i : ℕ) → i < evenCount x → even keep (approxs keep x) (details keep x) i ≡ at x (2 * i)
   unfolding even approxs approx
   even-back i h =
-      rw (getD-tabulate (evens x) (approx keep x (details keep x)) i (pos 0) h)
+      rw (getD-tabulate (evenCount x) (approx keep x (details keep x)) i (pos 0) h)
       (u .add (at x (2 * i)) _ ∙ fits (2 * i) (omega arith))
 
-  odd-back : (i : ℕ) → i < odds x → odd keep (even keep (approxs keep x) (details keep x)) (length (approxs keep x)) (details keep x) i ≡ at x (2 * i + 1)
+  odd-back : (i : ℕ) → i < oddCount x → odd keep (even keep (approxs keep x) (details keep x)) (length (approxs keep x)) (details keep x) i ≡ at x (2 * i + 1)
   unfolding odd detail
   odd-back i h =
-      rw (length-approxs keep x, at-details keep x i h, even-back i (omega arith), even-back (min (i + 1) (evens x - 1)) (omega arith))
-      (u .sub (at x (2 * i + 1)) (floorDiv (at x (2 * i) +ℤ at x (2 * min (i + 1) (evens x - 1))) 2) ∙ fits (2 * i + 1) (omega arith))
+      rw (length-approxs keep x, at-details keep x i h, even-back i (omega arith), even-back (min (i + 1) (evenCount x - 1)) (omega arith))
+      (u .sub (at x (2 * i + 1)) (floorDiv (at x (2 * i) +ℤ at x (2 * min (i + 1) (evenCount x - 1))) 2) ∙ fits (2 * i + 1) (omega arith))
 
   sample-back : (j : ℕ) → j < length x → sample keep (approxs keep x) (details keep x) j ≡ at x j
   unfolding sample
@@ -143,7 +143,7 @@ module _ (keep : ℤ → ℤ) (u : Undoes keep) (a d : List ℤ) (more : length 
   detail-again : (i : ℕ) → i < length d → detail keep (restored keep a d) i ≡ at d i
   unfolding detail odd
   detail-again i h =
-      let n : evens (restored keep a d) ≡ length a = omega (arith, length-restored keep a d) in
+      let n : evenCount (restored keep a d) ≡ length a = omega (arith, length-restored keep a d) in
       let p = floorDiv (even keep a d i +ℤ even keep a d (min (i + 1) (length a - 1))) 2 in
       rw (n, at-odd i h, at-even i (omega arith), at-even (min (i + 1) (length a - 1)) (omega arith)) (u .add (at d i) p ∙ fit-d i h)
 
@@ -151,10 +151,10 @@ module _ (keep : ℤ → ℤ) (u : Undoes keep) (a d : List ℤ) (more : length 
   unfolding details
   details-again =
       let x = restored keep a d in
-      let n : odds x ≡ length d = omega (arith, length-restored keep a d) in
-      let len : length (tabulate (odds x) (detail keep x)) ≡ length d = length-tabulate (odds x) (detail keep x) ∙ n in
-      ext-getD (pos 0) (tabulate (odds x) (detail keep x)) d len
-      (λ i h. getD-tabulate (odds x) (detail keep x) i (pos 0) (omega arith) ∙ detail-again i (omega arith))
+      let n : oddCount x ≡ length d = omega (arith, length-restored keep a d) in
+      let len : length (tabulate (oddCount x) (detail keep x)) ≡ length d = length-tabulate (oddCount x) (detail keep x) ∙ n in
+      ext-getD (pos 0) (tabulate (oddCount x) (detail keep x)) d len
+      (λ i h. getD-tabulate (oddCount x) (detail keep x) i (pos 0) (omega arith) ∙ detail-again i (omega arith))
 
   approx-again : (i : ℕ) → i < length a → approx keep (restored keep a d) d i ≡ at a i
   unfolding approx even
@@ -164,8 +164,8 @@ module _ (keep : ℤ → ℤ) (u : Undoes keep) (a d : List ℤ) (more : length 
   unfolding approxs
   approxs-again =
       let x = restored keep a d in
-      let n : evens x ≡ length a = omega (arith, length-restored keep a d) in
-      let len : length (tabulate (evens x) (approx keep x d)) ≡ length a = length-tabulate (evens x) (approx keep x d) ∙ n in
+      let n : evenCount x ≡ length a = omega (arith, length-restored keep a d) in
+      let len : length (tabulate (evenCount x) (approx keep x d)) ≡ length a = length-tabulate (evenCount x) (approx keep x d) ∙ n in
       rw details-again
-      (ext-getD (pos 0) (tabulate (evens x) (approx keep x d)) a len
-      (λ i h. getD-tabulate (evens x) (approx keep x d) i (pos 0) (omega arith) ∙ approx-again i (omega arith)))
+      (ext-getD (pos 0) (tabulate (evenCount x) (approx keep x d)) a len
+      (λ i h. getD-tabulate (evenCount x) (approx keep x d) i (pos 0) (omega arith) ∙ approx-again i (omega arith)))

@@ -5,13 +5,13 @@ use Prim.Native.Nat.{ℕ, _+_, _/_, _%_, _^_, _<_}
 use native.Mathlib.Nat.{mod-eq-of-lt}
 use lib.IntN.{ℤ}
 use lib.ListN.{length}
-use Rattle.sizes.specs.Bands.{ups, downs}
+use Rattle.sizes.specs.Lengths.{approxLength, detailsLength}
 use Rattle.samples.specs.Words.{tabulate, wordAt}
 use Rattle.samples.specs.Integers.{residue, wrap, decode, encode}
 use Rattle.samples.proofs.LeLaws.{top-pos}
 use Rattle.samples.proofs.Words.{length-tabulate, getD-tabulate, word-bytes}
 use Rattle.samples.proofs.IntegerLaws.{residue-lt, length-decode, encode-tabulate}
-use Rattle.cdf53i.specs.Lift.{evens, odds, detail, details, approx, approxs, sample, restored}
+use Rattle.cdf53i.specs.Lift.{evenCount, oddCount, detail, details, approx, approxs, sample, restored}
 use Rattle.cdf53i.specs.Bands.{low, high, back, detailWord, approxWord, sampleWord}
 
 module _ (k : ℕ) where
@@ -23,13 +23,13 @@ module _ (k : ℕ) where
       (word-bytes k (tabulate n f) i (rw (length-tabulate n f) h)
       ∙ rw (getD-tabulate n f i 0 h) (mod-eq-of-lt (residue-lt (256 ^ k) (g i) (top-pos k))))
 
-  pub low-word : (x : List ℕ) (i : ℕ) → i < ups (length x / k) → wordAt k (low k x) i ≡ approxWord k x i
+  pub low-word : (x : List ℕ) (i : ℕ) → i < approxLength (length x / k) → wordAt k (low k x) i ≡ approxWord k x i
   unfolding low approxs approxWord
-  low-word x i h = word-encode (evens (decode k x)) (approx (wrap k) (decode k x) (details (wrap k) (decode k x))) i (rw (length-decode k x) h)
+  low-word x i h = word-encode (evenCount (decode k x)) (approx (wrap k) (decode k x) (details (wrap k) (decode k x))) i (rw (length-decode k x) h)
 
-  pub high-word : (x : List ℕ) (i : ℕ) → i < downs (length x / k) → wordAt k (high k x) i ≡ detailWord k x i
+  pub high-word : (x : List ℕ) (i : ℕ) → i < detailsLength (length x / k) → wordAt k (high k x) i ≡ detailWord k x i
   unfolding high details detailWord
-  high-word x i h = word-encode (odds (decode k x)) (detail (wrap k) (decode k x)) i (rw (length-decode k x) h)
+  high-word x i h = word-encode (oddCount (decode k x)) (detail (wrap k) (decode k x)) i (rw (length-decode k x) h)
 
   pub back-word : (a d : List ℕ) (j : ℕ) → j < length a / k + length d / k → wordAt k (back k a d) j ≡ sampleWord k a d j
   unfolding back restored sampleWord

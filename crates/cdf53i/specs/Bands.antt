@@ -3,7 +3,7 @@ use mathlib.Core.List.{List}
 use mathlib.Core.Path.{_≡_}
 use Prim.Native.Nat.{ℕ, _+_, _-_, _*_, _/_, _^_, _≤_, _<_}
 use lib.ListN.{length}
-use Rattle.sizes.specs.Bands.{ups, downs}
+use Rattle.sizes.specs.Lengths.{approxLength, detailsLength}
 use Rattle.samples.specs.Words.{Holds, Front}
 use Rattle.samples.specs.Integers.{Width, wrap, residue, decode, encode}
 use Rattle.cdf53i.specs.Lift.{detail, details, approx, approxs, even, sample, restored}
@@ -26,10 +26,10 @@ pub record Input (k : ℕ) (x : List ℕ) : Type 0 where
   pub samples : Holds k (length x / k) x
 
 -- and a as many as x has approximations, d as many as it has details
-pub record Bands (k : ℕ) (x a d : List ℕ) : Type 0 where
+pub record InputBands (k : ℕ) (x a d : List ℕ) : Type 0 where
   pub input : Input k x
-  pub approx : Holds k (ups (length x / k)) a
-  pub details : Holds k (downs (length x / k)) d
+  pub approx : Holds k (approxLength (length x / k)) a
+  pub details : Holds k (detailsLength (length x / k)) d
 
 -- the word of detail i of the samples in x, and the word of their approximation i
 unfoldable pub detailWord : ℕ → List ℕ → ℕ → ℕ
@@ -40,14 +40,14 @@ approxWord k x i = residue (256 ^ k) (approx (wrap k) (decode k x) (details (wra
 
 -- a holds the first i of the approximations of the samples in x, and e is the word of the detail before the next one: of detail 0 where i is 0
 pub record Approximating (k : ℕ) (x a : List ℕ) (i e : ℕ) : Type 0 where
-  pub front : Front k (ups (length x / k)) i (approxWord k x) a
+  pub front : Front k (approxLength (length x / k)) i (approxWord k x) a
   pub left : e ≡ detailWord k x (i - 1)
   pub small : e < 256 ^ k
 
 -- the samples in x have the details i to i + n: before the last no neighbour is mirrored
 pub record Unmirrored (k : ℕ) (x : List ℕ) (i n : ℕ) : Type 0 where
   pub input : Input k x
-  pub details : i + n < downs (length x / k)
+  pub details : i + n < detailsLength (length x / k)
 
 -- the words of the details from the one before detail i on
 unfoldable pub detailsFrom : ℕ → List ℕ → ℕ → ℕ → ℕ
@@ -81,6 +81,6 @@ unfoldable pub oddsFrom : ℕ → List ℕ → List ℕ → ℕ → ℕ → ℕ
 oddsFrom k a d i j = sampleWord k a d (2 * (i + j) + 1)
 
 -- s is whole words of k bytes, n of them or more
-pub record Room (k n : ℕ) (s : List ℕ) : Type 0 where
+pub record EnoughWords (k n : ℕ) (s : List ℕ) : Type 0 where
   pub holds : Holds k (length s / k) s
   pub most : n ≤ length s / k

@@ -7,7 +7,7 @@ use lib.Dec.{eqb}
 use lib.IntN.{ℤ, pos, _+ℤ_, _-ℤ_}
 use lib.ListN.{length, getD}
 use lib.Signed.{shrZ}
-use Rattle.sizes.specs.Bands.{ups, downs}
+use Rattle.sizes.specs.Lengths.{approxLength, detailsLength}
 use Rattle.samples.specs.Words.{tabulate}
 
 -- element i
@@ -19,25 +19,25 @@ abbrev pub floorDiv : ℤ → ℕ → ℤ
 floorDiv = shrZ
 
 -- how many even samples x has, and how many odd ones
-abbrev pub evens : List ℤ → ℕ
-evens x = ups (length x)
+abbrev pub evenCount : List ℤ → ℕ
+evenCount x = approxLength (length x)
 
-abbrev pub odds : List ℤ → ℕ
-odds x = downs (length x)
+abbrev pub oddCount : List ℤ → ℕ
+oddCount x = detailsLength (length x)
 
 -- d[i] = x[2i+1] - floor((x[2i] + x[2i+2]) / 2), where the even sample after the last is the last
 unfoldable pub detail : (ℤ → ℤ) → List ℤ → ℕ → ℤ
-detail keep x i = keep (at x (2 * i + 1) -ℤ floorDiv (at x (2 * i) +ℤ at x (2 * min (i + 1) (evens x - 1))) 2)
+detail keep x i = keep (at x (2 * i + 1) -ℤ floorDiv (at x (2 * i) +ℤ at x (2 * min (i + 1) (evenCount x - 1))) 2)
 
 unfoldable pub details : (ℤ → ℤ) → List ℤ → List ℤ
-details keep x = tabulate (odds x) (detail keep x)
+details keep x = tabulate (oddCount x) (detail keep x)
 
 -- a[i] = x[2i] + floor((d[i-1] + d[i] + 2) / 4), where the detail before the first is the first (0 - 1 is 0 here), and the one after the last is the last
 unfoldable pub approx : (ℤ → ℤ) → List ℤ → List ℤ → ℕ → ℤ
 approx keep x d i = keep (at x (2 * i) +ℤ floorDiv (at d (i - 1) +ℤ at d (min i (length d - 1)) +ℤ pos 2) 4)
 
 unfoldable pub approxs : (ℤ → ℤ) → List ℤ → List ℤ
-approxs keep x = tabulate (evens x) (approx keep x (details keep x))
+approxs keep x = tabulate (evenCount x) (approx keep x (details keep x))
 
 -- ---- "the inverse takes the same steps backwards"
 

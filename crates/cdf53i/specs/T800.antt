@@ -9,7 +9,7 @@ use Prim.Native.Nat.{ℕ, _+_, _-_, _*_, _/_, _%_, min}
 use lib.Dec.{eqb}
 use lib.IntN.{ℤ, pos, _+ℤ_, _-ℤ_}
 use lib.ListN.{length}
-use Rattle.sizes.specs.Bands.{ups, downs}
+use Rattle.sizes.specs.Lengths.{approxLength, detailsLength}
 use Rattle.samples.specs.Words.{tabulate}
 use Rattle.samples.specs.Halves.{joined}
 use Rattle.samples.specs.Integers.{residue}
@@ -35,10 +35,10 @@ low x y j = extended x (j +ℤ j) +ℤ floorDiv (y (j -ℤ pos 1) +ℤ y j +ℤ 
 
 -- the high-pass coefficients of x, each kept, and the low-pass ones over these, each kept
 unfoldable pub highs : (ℤ → ℤ) → List ℤ → List ℤ
-highs keep x = tabulate (downs (length x)) (λ i. keep (high x (pos i)))
+highs keep x = tabulate (detailsLength (length x)) (λ i. keep (high x (pos i)))
 
 unfoldable pub lows : (ℤ → ℤ) → List ℤ → List ℤ
-lows keep x = tabulate (ups (length x)) (λ i. keep (low x (λ j. keep (high x j)) (pos i)))
+lows keep x = tabulate (approxLength (length x)) (λ i. keep (low x (λ j. keep (high x j)) (pos i)))
 
 -- ---- inverse
 

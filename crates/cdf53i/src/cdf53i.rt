@@ -2,11 +2,11 @@
 ghost use mathlib.Core.Path.{_≡_};
 ghost use Prim.Native.Nat.{_+_, _-_, _*_, _/_, _^_, _≤_, _<_};
 ghost use lib.ListN.{length};
-ghost use Rattle.sizes.specs.Bands.{ups, downs};
+ghost use Rattle.sizes.specs.Lengths.{approxLength, detailsLength};
 ghost use Rattle.samples.specs.Words.{tabulate, Holds, Front};
 ghost use Rattle.samples.specs.Integers.{wrap, decode, encode};
-ghost use Rattle.cdf53i.specs.Lift.{approx, evens};
-ghost use Rattle.cdf53i.specs.Bands.{low, high, back, detailWord, approxWord, evenWord, sampleWord, detailsFrom, evensFrom, oddsFrom, Input, Bands, Approximating, Restoring, Unmirrored, Inside, Room};
+ghost use Rattle.cdf53i.specs.Lift.{approx, evenCount};
+ghost use Rattle.cdf53i.specs.Bands.{low, high, back, detailWord, approxWord, evenWord, sampleWord, detailsFrom, evensFrom, oddsFrom, Input, InputBands, Approximating, Restoring, Unmirrored, Inside, EnoughWords};
 use crate::steps::approx_at;
 use crate::steps::approx_of;
 use crate::steps::detail_at;
@@ -19,7 +19,7 @@ use sizes::lesser;
 // The details of the samples in x, into d.
 fn predict(k: usize, x: &[u8], d: &mut [u8])
     requires { ⌜ Input k (now x) ⌝ }
-    requires { ⌜ Holds k (downs (length (now x) / k)) (now d) ⌝ }
+    requires { ⌜ Holds k (detailsLength (length (now x) / k)) (now d) ⌝ }
     ensures { λ _. ⌜ now (d .exit) ≡ high k (now (x .entry)) ⌝ }
 {
     let n = x.len() / k;
@@ -34,8 +34,8 @@ fn predict(k: usize, x: &[u8], d: &mut [u8])
 
 // The approximations of the samples in x and the stored details in d, into a.
 fn update(k: usize, x: &[u8], a: &mut [u8], d: &[u8])
-    requires { ⌜ Bands k (now x) (now a) (now d) ⌝ }
-    ensures { λ _. ⌜ now (a .exit) ≡ encode k (tabulate (evens (decode k (now (x .entry)))) (approx (wrap k) (decode k (now (x .entry))) (decode k (now (d .entry))))) ⌝ }
+    requires { ⌜ InputBands k (now x) (now a) (now d) ⌝ }
+    ensures { λ _. ⌜ now (a .exit) ≡ encode k (tabulate (evenCount (decode k (now (x .entry)))) (approx (wrap k) (decode k (now (x .entry))) (decode k (now (d .entry))))) ⌝ }
 {
     let n = x.len() / k;
     let m = n / 2;
@@ -51,7 +51,7 @@ fn update(k: usize, x: &[u8], a: &mut [u8], d: &[u8])
 
 // One level of the samples in x: approximations into a, details into d.
 pub fn forward(k: usize, x: &[u8], a: &mut [u8], d: &mut [u8])
-    requires { ⌜ Bands k (now x) (now a) (now d) ⌝ }
+    requires { ⌜ InputBands k (now x) (now a) (now d) ⌝ }
     ensures { λ _. ⌜ (now (a .exit) ≡ low k (now (x .entry))) × (now (d .exit) ≡ high k (now (x .entry))) ⌝ }
 {
     predict(k, x, d);
@@ -62,7 +62,7 @@ pub fn forward(k: usize, x: &[u8], a: &mut [u8], d: &mut [u8])
 fn details_from(k: usize, x: &[u8], i: usize, n: usize, e: u32, t: &mut [u8])
     requires { ⌜ Unmirrored k (now x) i n ⌝ }
     requires { ⌜ (e ≡ detailWord k (now x) (i - 1)) × (e < 256 ^ k) ⌝ }
-    requires { ⌜ Room k (n + 1) (now t) ⌝ }
+    requires { ⌜ EnoughWords k (n + 1) (now t) ⌝ }
     ensures { λ _. ⌜ Front k (length (now (t .exit)) / k) (n + 1) (detailsFrom k (now (x .entry)) i) (now (t .exit)) ⌝ }
 {
     put(k, t, 0, e);
@@ -76,9 +76,9 @@ fn details_from(k: usize, x: &[u8], i: usize, n: usize, e: u32, t: &mut [u8])
 // The n approximations from i on, between the details in t, to their places in a.
 fn approxs_from(k: usize, x: &[u8], i: usize, n: usize, t: &[u8], a: &mut [u8])
     requires { ⌜ Unmirrored k (now x) i n ⌝ }
-    requires { ⌜ (Front k (length (now t) / k) (n + 1) (detailsFrom k (now x) i) (now t)) × (Room k (n + 1) (now t)) ⌝ }
-    requires { ⌜ Front k (ups (length (now x) / k)) i (approxWord k (now x)) (now a) ⌝ }
-    ensures { λ _. ⌜ Front k (ups (length (now (x .entry)) / k)) (i + n) (approxWord k (now (x .entry))) (now (a .exit)) ⌝ }
+    requires { ⌜ (Front k (length (now t) / k) (n + 1) (detailsFrom k (now x) i) (now t)) × (EnoughWords k (n + 1) (now t)) ⌝ }
+    requires { ⌜ Front k (approxLength (length (now x) / k)) i (approxWord k (now x)) (now a) ⌝ }
+    ensures { λ _. ⌜ Front k (approxLength (length (now (x .entry)) / k)) (i + n) (approxWord k (now (x .entry))) (now (a .exit)) ⌝ }
 {
     let mut j = 0;
     while j < n {
@@ -104,7 +104,7 @@ fn approximate_block(
 ) -> u32
     requires { ⌜ Unmirrored k (now x) i n ⌝ }
     requires { ⌜ Approximating k (now x) (now a) i e ⌝ }
-    requires { ⌜ Room k (n + 1) (now t) ⌝ }
+    requires { ⌜ EnoughWords k (n + 1) (now t) ⌝ }
     ensures { λ r. ⌜ Approximating k (now (x .entry)) (now (a .exit)) (i + n) r ⌝ }
 {
     details_from(k, x, i, n, e, t);
@@ -116,7 +116,7 @@ fn approximate_block(
 fn approximate_end(k: usize, x: &[u8], a: &mut [u8], last: usize, e: u32)
     requires { ⌜ Input k (now x) ⌝ }
     requires { ⌜ Approximating k (now x) (now a) last e ⌝ }
-    requires { ⌜ last ≡ downs (length (now x) / k) - 1 ⌝ }
+    requires { ⌜ last ≡ detailsLength (length (now x) / k) - 1 ⌝ }
     ensures { λ _. ⌜ now (a .exit) ≡ low k (now (x .entry)) ⌝ }
 {
     let na = (x.len() / k + 1) / 2;
@@ -135,7 +135,7 @@ fn approximate_end(k: usize, x: &[u8], a: &mut [u8], last: usize, e: u32)
 // The approximations of the samples in x alone, into a.
 pub fn approximate(k: usize, x: &[u8], a: &mut [u8])
     requires { ⌜ Input k (now x) ⌝ }
-    requires { ⌜ Holds k (ups (length (now x) / k)) (now a) ⌝ }
+    requires { ⌜ Holds k (approxLength (length (now x) / k)) (now a) ⌝ }
     ensures { λ _. ⌜ now (a .exit) ≡ low k (now (x .entry)) ⌝ }
 {
     let last = x.len() / k / 2 - 1;
@@ -155,7 +155,7 @@ pub fn approximate(k: usize, x: &[u8], a: &mut [u8])
 fn evens_from(k: usize, a: &[u8], d: &[u8], i: usize, n: usize, e: u32, t: &mut [u8])
     requires { ⌜ Inside k (now a) (now d) i n ⌝ }
     requires { ⌜ (e ≡ evenWord k (now a) (now d) i) × (e < 256 ^ k) ⌝ }
-    requires { ⌜ Room k (n + 1) (now t) ⌝ }
+    requires { ⌜ EnoughWords k (n + 1) (now t) ⌝ }
     ensures { λ _. ⌜ Front k (length (now (t .exit)) / k) (n + 1) (evensFrom k (now (a .entry)) (now (d .entry)) i) (now (t .exit)) ⌝ }
 {
     put(k, t, 0, e);
@@ -170,7 +170,7 @@ fn evens_from(k: usize, a: &[u8], d: &[u8], i: usize, n: usize, e: u32, t: &mut 
 fn odds_from(k: usize, a: &[u8], d: &[u8], i: usize, n: usize, t: &[u8], u: &mut [u8])
     requires { ⌜ Inside k (now a) (now d) i n ⌝ }
     requires { ⌜ Front k (length (now t) / k) (n + 1) (evensFrom k (now a) (now d) i) (now t) ⌝ }
-    requires { ⌜ (Room k (n + 1) (now t)) × (Room k n (now u)) ⌝ }
+    requires { ⌜ (EnoughWords k (n + 1) (now t)) × (EnoughWords k n (now u)) ⌝ }
     ensures { λ _. ⌜ Front k (length (now (u .entry)) / k) n (oddsFrom k (now (a .entry)) (now (d .entry)) i) (now (u .exit)) ⌝ }
 {
     let mut j = 0;
@@ -190,7 +190,7 @@ fn pairs_from(k: usize, a: &[u8], d: &[u8], i: usize, n: usize, t: &[u8], u: &[u
     requires { ⌜ Inside k (now a) (now d) i n ⌝ }
     requires { ⌜ Front k (length (now t) / k) (n + 1) (evensFrom k (now a) (now d) i) (now t) ⌝ }
     requires { ⌜ Front k (length (now u) / k) n (oddsFrom k (now a) (now d) i) (now u) ⌝ }
-    requires { ⌜ (Room k (n + 1) (now t)) × (Room k n (now u)) × (2 * (i + n) ≤ length (now x) / k) ⌝ }
+    requires { ⌜ (EnoughWords k (n + 1) (now t)) × (EnoughWords k n (now u)) × (2 * (i + n) ≤ length (now x) / k) ⌝ }
     requires { ⌜ Front k (length (now x) / k) (2 * i) (sampleWord k (now a) (now d)) (now x) ⌝ }
     ensures { λ _. ⌜ Front k (length (now (x .entry)) / k) (2 * (i + n)) (sampleWord k (now (a .entry)) (now (d .entry))) (now (x .exit)) ⌝ }
 {
@@ -214,10 +214,10 @@ fn restore_block(
     t: &mut [u8],
     u: &mut [u8],
 ) -> u32
-    requires { ⌜ Bands k (now x) (now a) (now d) ⌝ }
+    requires { ⌜ InputBands k (now x) (now a) (now d) ⌝ }
     requires { ⌜ Restoring k (length (now x) / k) (now a) (now d) (now x) i e ⌝ }
     requires { ⌜ Inside k (now a) (now d) i n ⌝ }
-    requires { ⌜ (Room k (n + 1) (now t)) × (Room k n (now u)) ⌝ }
+    requires { ⌜ (EnoughWords k (n + 1) (now t)) × (EnoughWords k n (now u)) ⌝ }
     ensures { λ r. ⌜ Restoring k (length (now (x .entry)) / k) (now (a .entry)) (now (d .entry)) (now (x .exit)) (i + n) r ⌝ }
 {
     evens_from(k, a, d, i, n, e, t);
@@ -228,7 +228,7 @@ fn restore_block(
 
 // Even sample `last`, of the word e, the odd one after it, and the even one after that where there is one: the ends, whose right neighbours are mirrored.
 fn restore_end(k: usize, a: &[u8], d: &[u8], x: &mut [u8], last: usize, e: u32)
-    requires { ⌜ Bands k (now x) (now a) (now d) ⌝ }
+    requires { ⌜ InputBands k (now x) (now a) (now d) ⌝ }
     requires { ⌜ Restoring k (length (now x) / k) (now a) (now d) (now x) last e ⌝ }
     requires { ⌜ last ≡ length (now d) / k - 1 ⌝ }
     ensures { λ _. ⌜ now (x .exit) ≡ back k (now (a .entry)) (now (d .entry)) ⌝ }
@@ -245,7 +245,7 @@ fn restore_end(k: usize, a: &[u8], d: &[u8], x: &mut [u8], last: usize, e: u32)
 
 // The samples whose approximations are in a and details in d, into x.
 pub fn inverse(k: usize, a: &[u8], d: &[u8], x: &mut [u8])
-    requires { ⌜ Bands k (now x) (now a) (now d) ⌝ }
+    requires { ⌜ InputBands k (now x) (now a) (now d) ⌝ }
     ensures { λ _. ⌜ now (x .exit) ≡ back k (now (a .entry)) (now (d .entry)) ⌝ }
 {
     let last = d.len() / k - 1;

@@ -16,8 +16,8 @@ use Rattle.answers.specs.declared.err.Refusal.the-variants.{Done, NoRoom, CutSh
 use Rattle.answers.specs.Answers.{answerOf}
 use Rattle.answers.specs.Checks.{firstOf}
 use Rattle.order.proofs.Order.{lt-or-le}
-use Rattle.sizes.specs.Bands.{ups}
-use Rattle.sizes.specs.Levels.{places}
+use Rattle.sizes.specs.Lengths.{approxLength}
+use Rattle.sizes.specs.Levels.{afterLevels, countAt}
 use Rattle.dwt.specs.declared.filter.Filter.{Filter}
 use Rattle.dwt.specs.Filters.{widthOf}
 use Rattle.dwt.specs.Pyramids.{approxAt}
@@ -39,7 +39,7 @@ all-whole z k l n =
 pub only-whole : (z k l n b : ℕ) → 1 ≤ l → needed z k l n ≤ b → b < fileSize z k l n → 1 ≤ levelLeft z k l n b
 only-whole z k zero n b h c e = omega arith
 only-whole z k (suc l) n b h c e =
-    omega (arith, whole-is z k (suc l) n b c, whole-less k l n (b - z) (omega arith), whole-most k l (ups n) (b - z))
+    omega (arith, whole-is z k (suc l) n b c, whole-less k l n (b - z) (omega arith), whole-most k l (approxLength n) (b - z))
 
 -- the number of an answer is none of those of a file of another width, with a wrong count, for another point, or with bytes behind it
 pub record Unmixed (r : Answer) : Type 0 where
@@ -71,14 +71,14 @@ module _ {z : ℕ} {f : Filter} {l n p : ℕ} {x s : List ℕ} (d : Filed z f l 
 
   -- the whole file, with room for the samples: level 0, and the samples
   pub opens-whole : Roomy k n o u v → OpensTo s k p o u v 0 n x
-  unfolding places approxAt
+  unfolding afterLevels
   opens-whole g =
       let b = fileSize z k l n in
       let e : take b s ≡ s = take-all b s (omega (arith, all-length d)) in
       let q : levelLeft z k l n b ≡ 0 = omega (arith, all-whole z k l n) in
-      let room : Roomy k (places (levelLeft z k l n b) n) o u v = subst (λ (m : ℕ). Roomy k (places m n) o u v) (sym q) g in
+      let room : Roomy k (countAt (levelLeft z k l n b) n) o u v = subst (λ (m : ℕ). Roomy k (countAt m n) o u v) (sym q) g in
       let i = survives d a b (omega (arith, first-most k l n)) (omega arith) room in
-      subst (λ (t : List ℕ). OpensTo t k p o u v 0 n x) e (subst (λ (m : ℕ). OpensTo (take b s) k p o u v m (places m n) (approxAt f m x)) q i)
+      subst (λ (t : List ℕ). OpensTo t k p o u v 0 n x) e (subst (λ (m : ℕ). OpensTo (take b s) k p o u v m (countAt m n) (approxAt f m x)) q i)
 
   -- whatever the room, opening is done, 7 or 10
   pub plain : (b : ℕ) → b ≤ fileSize z k l n → Plain (answerOf (sayOpen (take b s) k p o u v))
@@ -87,7 +87,7 @@ module _ {z : ℕ} {f : Filter} {l n p : ℕ} {x s : List ℕ} (d : Filed z f l 
       ⊎-elim
       (λ (h : b < needed z k l n). plain-is (sayOpen (take b s) k p o u v) (CutShort b) (cut-short d a b h) (inr (inr refl)))
       (λ (h : needed z k l n ≤ b).
-      plain-is (sayOpen (take b s) k p o u v) (firstOf (roomsFor k (places i n) o u v) (Done i (places i n))) (rooms-decide d a b h e) (rooms-plain k (places i n) o u v i))
+      plain-is (sayOpen (take b s) k p o u v) (firstOf (roomsFor k (countAt i n) o u v) (Done i (countAt i n))) (rooms-decide d a b h e) (rooms-plain k (countAt i n) o u v i))
       (lt-or-le b (needed z k l n))
 
   -- and never refused as a file that is not this one

@@ -1,4 +1,4 @@
--- A walk over the sections of a file that is cut anywhere: it is as far as `reach` says. Any filter.
+-- A walk over the sections of a file that is cut anywhere: it is as far as `wayWithin` says. Any filter.
 use mathlib.Core.Bool.{cond}
 use mathlib.Core.List.{List, _++_, append-assoc}
 use mathlib.Core.Logic.{⊎-elim}
@@ -12,7 +12,7 @@ use lib.ListN.{length, take, drop, length-drop, length-append}
 use lib.Seq.{drop-at, take-append-add, drop-append-add, length-take-le}
 use Rattle.answers.proofs.Chain.{by, stop, same}
 use Rattle.order.proofs.Order.{lt-or-le}
-use Rattle.sizes.specs.Bands.{ups, downs}
+use Rattle.sizes.specs.Lengths.{approxLength, detailsLength}
 use Rattle.samples.specs.Le.{leAt, leBytes}
 use Rattle.samples.proofs.LeLaws.{leAt-bytes, leAt-drop, leAt-take}
 use Rattle.dwt.specs.declared.filter.Filter.{Filter}
@@ -23,7 +23,7 @@ use Rattle.pyramid.specs.declared.walk.Way.{Way}
 use Rattle.pyramid.specs.declared.walk.Way.the-variants.{Went, Short, Wrong}
 use Rattle.pyramid.specs.Files.{sectionOf, bodyOf, bodySize}
 use Rattle.pyramid.specs.Walks.{oneOf, goOn, walkOf}
-use Rattle.cuts.specs.Sees.{stopped, reach}
+use Rattle.cuts.specs.Sees.{stopped, wayWithin}
 use Rattle.cuts.proofs.Sized.{section-length, body-length}
 
 -- the count of a section that stands at p
@@ -60,10 +60,10 @@ one-cut s b t k c num p j hc hb e hj hp =
     (lt-or-le j 4)
 
 -- where all is there, the walk goes past all
-pub reach-whole : (k l n p b : ℕ) → bodySize k l n ≤ b → Went (p + bodySize k l n) ≡ reach k l n p b
-unfolding reach
-reach-whole k zero n p b h = stop _ (le-leb _ b h) refl
-reach-whole k (suc l) n p b h = stop _ (le-leb _ b h) refl
+pub within-whole : (k l n p b : ℕ) → bodySize k l n ≤ b → Went (p + bodySize k l n) ≡ wayWithin k l n p b
+unfolding wayWithin
+within-whole k zero n p b h = stop _ (le-leb _ b h) refl
+within-whole k (suc l) n p b h = stop _ (le-leb _ b h) refl
 
 twice : (v : Way) (i j : ℕ) (g : ℕ → Way) → goOn (stopped v i) g ≡ stopped (stopped v i) j
 twice (Went p) i j g = refl
@@ -71,39 +71,39 @@ twice (Short q) i j g = refl
 twice (Wrong q found) i j g = refl
 
 -- a walk that is cut goes no further
-reach-cut : (k l n p b j : ℕ) (g : ℕ → Way) → b < bodySize k l n → goOn (reach k l n p b) g ≡ stopped (reach k l n p b) j
-unfolding reach
-reach-cut k zero n p b j g h = rw (lt-leb (bodySize k 0 n) b h)
-reach-cut k (suc l) n p b j g h = rw (lt-leb (bodySize k (suc l) n) b h) (twice (reach k l (ups n) p b) (suc l + 1) j g)
+within-cut : (k l n p b j : ℕ) (g : ℕ → Way) → b < bodySize k l n → goOn (wayWithin k l n p b) g ≡ stopped (wayWithin k l n p b) j
+unfolding wayWithin
+within-cut k zero n p b j g h = rw (lt-leb (bodySize k 0 n) b h)
+within-cut k (suc l) n p b j g h = rw (lt-leb (bodySize k (suc l) n) b h) (twice (wayWithin k l (approxLength n) p b) (suc l + 1) j g)
 
 -- one more section, of the bytes d
-more : (s d t : List ℕ) (k l n p b : ℕ) → walkOf s k l (ups n) p ≡ reach k l (ups n) p b → length d ≡ k * downs n → n < 256 ^ 4
-    → (bodySize k l (ups n) ≤ b → (drop (p + bodySize k l (ups n)) s ≡ take (b - bodySize k l (ups n)) (sectionOf (downs n) d ++ t)) × (p + bodySize k l (ups n) ≤ length s))
+more : (s d t : List ℕ) (k l n p b : ℕ) → walkOf s k l (approxLength n) p ≡ wayWithin k l (approxLength n) p b → length d ≡ k * detailsLength n → n < 256 ^ 4
+    → (bodySize k l (approxLength n) ≤ b → (drop (p + bodySize k l (approxLength n)) s ≡ take (b - bodySize k l (approxLength n)) (sectionOf (detailsLength n) d ++ t)) × (p + bodySize k l (approxLength n) ≤ length s))
     → b ≤ bodySize k (suc l) n + length t
-    → walkOf s k (suc l) n p ≡ reach k (suc l) n p b
-unfolding walkOf reach
+    → walkOf s k (suc l) n p ≡ wayWithin k (suc l) n p b
+unfolding walkOf wayWithin
 more s d t k l n p b e hd hn part hb =
-    let sizes : bodySize k (suc l) n ≡ bodySize k l (ups n) + (4 + k * downs n) = omega (arith, split-width k n) in
-    let z = bodySize k l (ups n) in
+    let sizes : bodySize k (suc l) n ≡ bodySize k l (approxLength n) + (4 + k * detailsLength n) = omega (arith, split-width k n) in
+    let z = bodySize k l (approxLength n) in
     let y = bodySize k (suc l) n in
-    let g : ℕ → Way = (λ q. oneOf s k (downs n) (suc l + 1) q) in
+    let g : ℕ → Way = (λ q. oneOf s k (detailsLength n) (suc l + 1) q) in
     ⊎-elim
     (λ (c : b < z).
-    let q : stopped (reach k l (ups n) p b) (suc l + 1) ≡ reach k (suc l) n p b = by _ (lt-leb y b (omega arith)) refl in
-    ap (λ (v : Way). goOn v g) e ∙ reach-cut k l (ups n) p b (suc l + 1) g c ∙ q)
+    let q : stopped (wayWithin k l (approxLength n) p b) (suc l + 1) ≡ wayWithin k (suc l) n p b = by _ (lt-leb y b (omega arith)) refl in
+    ap (λ (v : Way). goOn v g) e ∙ within-cut k l (approxLength n) p b (suc l + 1) g c ∙ q)
     (λ (c : z ≤ b).
-    let went : Went (p + z) ≡ reach k l (ups n) p b = reach-whole k l (ups n) p b c in
-    let one = one-cut s d t k (downs n) (suc l + 1) (p + z) (b - z) (omega arith) hd (part c .0) (omega arith) (part c .1) in
+    let went : Went (p + z) ≡ wayWithin k l (approxLength n) p b = within-whole k l (approxLength n) p b c in
+    let one = one-cut s d t k (detailsLength n) (suc l + 1) (p + z) (b - z) (omega arith) hd (part c .0) (omega arith) (part c .1) in
     ap (λ (v : Way). goOn v g) (e ∙ sym went) ∙ one
     ∙ ⊎-elim
     (λ (h : b < y).
-    let a : Short (suc l + 1) ≡ cond (leb (4 + k * downs n) (b - z)) (Went (p + z + (4 + k * downs n))) (Short (suc l + 1)) = by _ (lt-leb (4 + k * downs n) (b - z) (omega arith)) refl in
-    let q : Short (suc l + 1) ≡ reach k (suc l) n p b = by _ (lt-leb y b h) (ap (λ (v : Way). stopped v (suc l + 1)) went) in
+    let a : Short (suc l + 1) ≡ cond (leb (4 + k * detailsLength n) (b - z)) (Went (p + z + (4 + k * detailsLength n))) (Short (suc l + 1)) = by _ (lt-leb (4 + k * detailsLength n) (b - z) (omega arith)) refl in
+    let q : Short (suc l + 1) ≡ wayWithin k (suc l) n p b = by _ (lt-leb y b h) (ap (λ (v : Way). stopped v (suc l + 1)) went) in
     sym a ∙ q)
     (λ (h : y ≤ b).
-    let i : p + y ≡ p + z + (4 + k * downs n) = omega arith in
-    let a : Went (p + y) ≡ cond (leb (4 + k * downs n) (b - z)) (Went (p + z + (4 + k * downs n))) (Short (suc l + 1)) = stop _ (le-leb (4 + k * downs n) (b - z) (omega arith)) (ap Went i) in
-    let q : Went (p + y) ≡ reach k (suc l) n p b = stop _ (le-leb y b h) refl in
+    let i : p + y ≡ p + z + (4 + k * detailsLength n) = omega arith in
+    let a : Went (p + y) ≡ cond (leb (4 + k * detailsLength n) (b - z)) (Went (p + z + (4 + k * detailsLength n))) (Short (suc l + 1)) = stop _ (le-leb (4 + k * detailsLength n) (b - z) (omega arith)) (ap Went i) in
+    let q : Went (p + y) ≡ wayWithin k (suc l) n p b = stop _ (le-leb y b h) refl in
     sym a ∙ q)
     (lt-or-le b y))
     (lt-or-le b z)
@@ -119,8 +119,8 @@ past front b r z j e h =
 
 -- the walk over the first b bytes of the sections of a file, after any front, and whatever stands behind them
 pub walk-cut : (f : Filter) (l n : ℕ) (x front t : List ℕ) (b : ℕ) → length x ≡ widthOf f * n → n < 256 ^ 4 → b ≤ length (bodyOf f l n x ++ t)
-    → walkOf (front ++ take b (bodyOf f l n x ++ t)) (widthOf f) l n (length front) ≡ reach (widthOf f) l n (length front) b
-unfolding walkOf bodyOf reach
+    → walkOf (front ++ take b (bodyOf f l n x ++ t)) (widthOf f) l n (length front) ≡ wayWithin (widthOf f) l n (length front) b
+unfolding walkOf bodyOf wayWithin
 walk-cut f zero n x front t b h hn hb =
     let s = front ++ take b (sectionOf n x ++ t) in
     let a = length-append front (take b (sectionOf n x ++ t)) in
@@ -129,20 +129,20 @@ walk-cut f zero n x front t b h hn hb =
 walk-cut f (suc l) n x front t b h hn hb =
     let k = widthOf f in
     let y = lowOf f x in
-    let body = bodyOf f l (ups n) y in
+    let body = bodyOf f l (approxLength n) y in
     let d = highOf f x in
-    let r = sectionOf (downs n) d ++ t in
+    let r = sectionOf (detailsLength n) d ++ t in
     let s = front ++ take b (body ++ r) in
-    let whole : (body ++ sectionOf (downs n) d) ++ t ≡ body ++ r = append-assoc body (sectionOf (downs n) d) t in
+    let whole : (body ++ sectionOf (detailsLength n) d) ++ t ≡ body ++ r = append-assoc body (sectionOf (detailsLength n) d) t in
     let room : b ≤ length (body ++ r) = subst (λ (u : List ℕ). b ≤ length u) whole hb in
     let ey = length-low f x n h in
-    let lb = body-length f l (ups n) y ey in
+    let lb = body-length f l (approxLength n) y ey in
     let ld = length-high f x n h in
     let size = length-append body r in
-    let rest = length-append (sectionOf (downs n) d) t in
-    let sec = section-length (downs n) d in
+    let rest = length-append (sectionOf (detailsLength n) d) t in
+    let sec = section-length (detailsLength n) d in
     let all = length-append front (take b (body ++ r)) in
     let cut = length-take-le b (body ++ r) room in
-    let before = walk-cut f l (ups n) y front r b ey (omega arith) room in
-    subst (λ (u : List ℕ). walkOf (front ++ take b u) k (suc l) n (length front) ≡ reach k (suc l) n (length front) b) (sym whole)
-    (more s d t k l n (length front) b before ld hn (λ c. (past front body r (bodySize k l (ups n)) b lb c, omega arith)) (omega (arith, split-width k n)))
+    let before = walk-cut f l (approxLength n) y front r b ey (omega arith) room in
+    subst (λ (u : List ℕ). walkOf (front ++ take b u) k (suc l) n (length front) ≡ wayWithin k (suc l) n (length front) b) (sym whole)
+    (more s d t k l n (length front) b before ld hn (λ c. (past front body r (bodySize k l (approxLength n)) b lb c, omega arith)) (omega (arith, split-width k n)))

@@ -12,7 +12,7 @@ use Rattle.answers.specs.declared.err.Refusal.the-variants.{MinFilterSize, CutS
 use Rattle.answers.specs.Checks.{Check, firstOf}
 use Rattle.answers.proofs.Passed.{Passing}
 use Rattle.sizes.specs.declared.Wavelet.the-variants.{Cdf53}
-use Rattle.sizes.specs.Bands.{mostSamples}
+use Rattle.sizes.specs.Lengths.{mostSamples}
 use Rattle.sizes.specs.Levels.{depthOf}
 use Rattle.samples.specs.Le.{Bytes}
 use Rattle.samples.specs.Integers.{isWidth}

@@ -16,7 +16,7 @@ use Rattle.answers.proofs.Endings.{is-done, left-done}
 use Rattle.answers.proofs.Passed.{passing, whole, roomy}
 use Rattle.sizes.specs.declared.Wavelet.{Wavelet}
 use Rattle.sizes.specs.declared.Wavelet.the-variants.{Cdf53}
-use Rattle.sizes.specs.Bands.{mostSamples}
+use Rattle.sizes.specs.Lengths.{mostSamples}
 use Rattle.sizes.specs.Levels.{depthOf, levelsOf}
 use Rattle.sizes.proofs.Depths.{step}
 use Rattle.samples.specs.Le.{Bytes}

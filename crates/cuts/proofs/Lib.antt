@@ -7,7 +7,7 @@ pub mod Whole
 pub mod Survives
 pub mod Answers
 pub mod Opened
-pub mod Bands
+pub mod CutSections
 pub mod Kept
 pub mod WriteFits
 pub mod Demand3

@@ -11,7 +11,7 @@ use Rattle.answers.specs.declared.err.Refusal.{Refusal}
 use Rattle.answers.specs.Answers.{say, answerOf}
 use Rattle.answers.specs.Checks.{left}
 use Rattle.order.proofs.Order.{lt-or-le}
-use Rattle.sizes.specs.Levels.{places}
+use Rattle.sizes.specs.Levels.{afterLevels, countAt}
 use Rattle.dwt.specs.declared.filter.Filter.{Filter}
 use Rattle.dwt.specs.Filters.{widthOf}
 use Rattle.dwt.specs.Pyramids.{approxAt}
@@ -25,7 +25,7 @@ use Rattle.cuts.proofs.Answers.{all-whole, only-whole}
 
 module _ {z : ℕ} {f : Filter} {l n p : ℕ} {x s : List ℕ} (d : Filed z f l n p x s) (c : ℕ) (most : c ≤ fileSize z (widthOf f) l n) {o g h : List ℕ}
     (y : Sampled (widthOf f) (length o) (length g) (length h))
-    (room : needed z (widthOf f) l n ≤ c → Roomy (widthOf f) (places (levelLeft z (widthOf f) l n c) n) (length o) (length g) (length h))
+    (room : needed z (widthOf f) l n ≤ c → Roomy (widthOf f) (countAt (levelLeft z (widthOf f) l n c) n) (length o) (length g) (length h))
     {r : Answer} {o′ g′ h′ : List ℕ} (q : Open (take c s) (widthOf f) p o g h r o′ g′ h′) where
   abbrev k : ℕ
   k = widthOf f
@@ -41,7 +41,7 @@ module _ {z : ℕ} {f : Filter} {l n p : ℕ} {x s : List ℕ} (d : Filed z f l 
   below e = let t = cut-short d y c e in (q .answer ∙ ap answerOf t, q .output ∙ ap outputBy t)
 
   -- cut later, or not at all, it says the level and how many samples it has, and gives just its approximations
-  above : needed z k l n ≤ c → (r ≡ say 0 j (places j n)) × (o′ ≡ approxAt f j x ++ drop (k * places j n) o)
+  above : needed z k l n ≤ c → (r ≡ say 0 j (countAt j n)) × (o′ ≡ approxAt f j x ++ drop (k * countAt j n) o)
   above e =
       let t = survives d y c e most (room e) in (
         q .answer ∙ ap answerOf (t .says),
@@ -50,10 +50,10 @@ module _ {z : ℕ} {f : Filter} {l n p : ℕ} {x s : List ℕ} (d : Filed z f l 
 
   -- the whole file gives the samples
   whole-file : c ≡ fileSize z k l n → (r ≡ say 0 0 n) × (o′ ≡ x ++ drop (length x) o)
-  unfolding places approxAt
+  unfolding afterLevels
   whole-file e =
       let i : j ≡ 0 = omega (arith, ap (levelLeft z k l n) e, all-whole z k l n) in
-      let t = subst (λ (m : ℕ). (r ≡ say 0 m (places m n)) × (o′ ≡ approxAt f m x ++ drop (k * places m n) o)) i (above (omega (arith, first-most k l n))) in
+      let t = subst (λ (m : ℕ). (r ≡ say 0 m (countAt m n)) × (o′ ≡ approxAt f m x ++ drop (k * countAt m n) o)) i (above (omega (arith, first-most k l n))) in
       (t .0, t .1 ∙ ap (λ (m : ℕ). x ++ drop m o) (sym (d .recording .size)))
 
   opened : Opened z f l n c x o r o′
@@ -62,7 +62,7 @@ module _ {z : ℕ} {f : Filter} {l n p : ℕ} {x s : List ℕ} (d : Filed z f l 
     only-cut = λ ten. ⊎-elim (λ e. e) (λ (e : needed z k l n ≤ c). absurd (let i : r .number ≡ 0 = ap (λ (a : Answer). a .number) (above e .0) in omega arith)) (lt-or-le c (needed z k l n));
     level = above;
     just = λ e size.
-        above e .1 ∙ ap (λ (m : List ℕ). approxAt f j x ++ m) (drop-of-length-le o {i = k * places j n} (omega arith)) ∙ append-nil (approxAt f j x);
+        above e .1 ∙ ap (λ (m : List ℕ). approxAt f j x ++ m) (drop-of-length-le o {i = k * countAt j n} (omega arith)) ∙ append-nil (approxAt f j x);
     all = whole-file;
     only-all = λ zero first.
         ⊎-elim

@@ -9,8 +9,8 @@ use borrow.Author.Tests.{le-leb, lt-leb}
 use lib.ListN.{length, take, drop}
 use lib.Seq.{take-take, take-at, drop-at, drop-drop, take-append-add}
 use Rattle.order.proofs.Order.{lt-or-le}
-use Rattle.sizes.specs.Bands.{ups, downs, smallestOf}
-use Rattle.sizes.specs.Levels.{places, depthOf}
+use Rattle.sizes.specs.Lengths.{approxLength, detailsLength, smallestOf}
+use Rattle.sizes.specs.Levels.{afterLevels, countAt, depthOf}
 use Rattle.sizes.proofs.Depths.{step, two-below}
 use Rattle.samples.specs.Le.{Bytes, leBytes}
 use Rattle.samples.proofs.LeLaws.{length-leBytes}
@@ -45,7 +45,7 @@ unfolding wholeIn
 whole-most k zero n b = omega arith
 whole-most k (suc l) n b =
     ⊎-elim
-    (λ (h : b < bodySize k (suc l) n). rw (lt-leb (bodySize k (suc l) n) b h) (omega (arith, whole-most k l (ups n) b)))
+    (λ (h : b < bodySize k (suc l) n). rw (lt-leb (bodySize k (suc l) n) b h) (omega (arith, whole-most k l (approxLength n) b)))
     (λ (h : bodySize k (suc l) n ≤ b). rw (le-leb (bodySize k (suc l) n) b h) (omega arith))
     (lt-or-le b (bodySize k (suc l) n))
 
@@ -56,7 +56,7 @@ whole-all k zero n b h = refl
 whole-all k (suc l) n b h = rw (le-leb (bodySize k (suc l) n) b h)
 
 -- where not all is there, the last section is not whole
-pub whole-less : (k l n b : ℕ) → b < bodySize k (suc l) n → wholeIn k (suc l) n b ≡ wholeIn k l (ups n) b
+pub whole-less : (k l n b : ℕ) → b < bodySize k (suc l) n → wholeIn k (suc l) n b ≡ wholeIn k l (approxLength n) b
 unfolding wholeIn
 whole-less k l n b h = rw (lt-leb (bodySize k (suc l) n) b h)
 
@@ -74,41 +74,41 @@ module _ (f : Filter) (int : Integers f) where
       let k = widthOf f in
       let w = waveletOf f in
       let a = lowOf f x in
-      let body = bodyOf f l (ups n) a in
+      let body = bodyOf f l (approxLength n) a in
       let d = highOf f x in
-      let r = sectionOf (downs n) d ++ t in
+      let r = sectionOf (detailsLength n) d ++ t in
       let s = front ++ take b (body ++ r) in
-      let z = bodySize k l (ups n) in
-      let whole : (body ++ sectionOf (downs n) d) ++ t ≡ body ++ r = append-assoc body (sectionOf (downs n) d) t in
+      let z = bodySize k l (approxLength n) in
+      let whole : (body ++ sectionOf (detailsLength n) d) ++ t ≡ body ++ r = append-assoc body (sectionOf (detailsLength n) d) t in
       let ea = length-low f x n h in
-      let lb = body-length f l (ups n) a ea in
+      let lb = body-length f l (approxLength n) a ea in
       let sw = split-width k n in
       let st = step (smallestOf w) (two-below w) l n g in
-      let inner : restoredAt (widthOf f) s l (ups n) (length front) ≡ a = restored-whole l (ups n) a front r b (u .low-bytes x) ea (st .1) (omega arith) in
-      let outer : bytesAt k s (downs n) (length front + z) ≡ d =
-      bytes-whole s d t k (downs n) (length front + z) (b - z) (past front body r z b lb (omega arith)) (length-high f x n h) (omega arith) in
+      let inner : restoredAt (widthOf f) s l (approxLength n) (length front) ≡ a = restored-whole l (approxLength n) a front r b (u .low-bytes x) ea (st .1) (omega arith) in
+      let outer : bytesAt k s (detailsLength n) (length front + z) ≡ d =
+      bytes-whole s d t k (detailsLength n) (length front + z) (b - z) (past front body r z b lb (omega arith)) (length-high f x n h) (omega arith) in
       subst (λ (y : List ℕ). restoredAt (widthOf f) (front ++ take b y) (suc l) n (length front) ≡ x) (sym whole)
       (ap₂ (back k) inner outer ∙ ap (λ g. g a d) (sym (back-is f int)) ∙ u .there x n v h (omega (arith, st .0, two-below w)))
 
   -- sections of which the first b bytes are there: those that are whole restore the approximations of the level that they reach
-  pub restored-cut : (l n : ℕ) (x front t : List ℕ) (b : ℕ) → Bytes x → length x ≡ widthOf f * n → l ≤ depthOf (waveletOf f) n → bodySize (widthOf f) 0 (places l n) ≤ b
-      → restoredAt (widthOf f) (front ++ take b (bodyOf f l n x ++ t)) (wholeIn (widthOf f) l n b) (places (l - wholeIn (widthOf f) l n b) n) (length front)
+  pub restored-cut : (l n : ℕ) (x front t : List ℕ) (b : ℕ) → Bytes x → length x ≡ widthOf f * n → l ≤ depthOf (waveletOf f) n → bodySize (widthOf f) 0 (countAt l n) ≤ b
+      → restoredAt (widthOf f) (front ++ take b (bodyOf f l n x ++ t)) (wholeIn (widthOf f) l n b) (countAt (l - wholeIn (widthOf f) l n b) n) (length front)
       ≡ approxAt f (l - wholeIn (widthOf f) l n b) x
-  unfolding bodyOf places approxAt wholeIn
+  unfolding bodyOf afterLevels wholeIn
   restored-cut zero n x front t b v h g c = restored-whole zero n x front t b v h g c
   restored-cut (suc l) n x front t b v h g c =
       let k = widthOf f in
       let a = lowOf f x in
-      let body = bodyOf f l (ups n) a in
-      let d = sectionOf (downs n) (highOf f x) in
+      let body = bodyOf f l (approxLength n) a in
+      let d = sectionOf (detailsLength n) (highOf f x) in
       let whole : (body ++ d) ++ t ≡ body ++ (d ++ t) = append-assoc body d t in
       let w = waveletOf f in
       let st = step (smallestOf w) (two-below w) l n g in
       ⊎-elim
       (λ (i : b < bodySize k (suc l) n).
-      let m = wholeIn k l (ups n) b in
-      let e : suc l - m ≡ suc (l - m) = omega (arith, whole-most k l (ups n) b) in
-      rw (lt-leb (bodySize k (suc l) n) b i, e, whole) (restored-cut l (ups n) a front (d ++ t) b (u .low-bytes x) (length-low f x n h) (st .1) c))
+      let m = wholeIn k l (approxLength n) b in
+      let e : suc l - m ≡ suc (l - m) = omega (arith, whole-most k l (approxLength n) b) in
+      rw (lt-leb (bodySize k (suc l) n) b i, e, whole) (restored-cut l (approxLength n) a front (d ++ t) b (u .low-bytes x) (length-low f x n h) (st .1) c))
       (λ (i : bodySize k (suc l) n ≤ b).
       let e : suc l - suc l ≡ 0 = omega arith in
       rw (le-leb (bodySize k (suc l) n) b i, e) (restored-whole (suc l) n x front t b v h g i))

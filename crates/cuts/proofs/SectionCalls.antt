@@ -10,9 +10,9 @@ use Rattle.answers.specs.declared.err.Answer.{Answer}
 use Rattle.answers.specs.declared.err.Refusal.{Refusal}
 use Rattle.answers.specs.Answers.{done}
 use Rattle.answers.proofs.Endings.{is-done}
-use Rattle.sizes.specs.Bands.{downs}
-use Rattle.sizes.specs.Levels.{places, levelsOf}
-use Rattle.sizes.proofs.Counts.{places-le}
+use Rattle.sizes.specs.Lengths.{detailsLength}
+use Rattle.sizes.specs.Levels.{countAt, levelsOf}
+use Rattle.sizes.proofs.Counts.{count-at-le}
 use Rattle.samples.specs.Le.{Bytes}
 use Rattle.dwt.specs.declared.filter.Filter.{Filter}
 use Rattle.dwt.specs.Filters.{widthOf, highOf, Integers}
@@ -23,14 +23,14 @@ use Rattle.pyramid.specs.Files.{headSize, fileOf, fileSize}
 use Rattle.pyramid.specs.Opens.{headIn, lengthOf, startOf, sectionIn}
 use Rattle.pyramid.specs.Writes.{Write}
 use Rattle.cuts.proofs.Filed.{Filed}
-use Rattle.cuts.proofs.Bands.{upTo, section-found, section-approx, section-details}
+use Rattle.cuts.proofs.CutSections.{upTo, section-found, section-approx, section-details}
 use Rattle.cuts.proofs.Kept.{written, front-in}
 
 -- every section ends within the file
 up-most : (z k l n j : ℕ) → j ≤ l → upTo z k l n (1 + j) ≤ fileSize z k l n
 up-most z k l n j h =
     let e : 1 + j - 1 ≡ j = omega arith in
-    let q = places-le (l + 1 - (1 + j)) n in
+    let q = count-at-le (l + 1 - (1 + j)) n in
     omega (arith, e, mul-le-mul-left k q)
 
 -- in the first c bytes of a recording's file
@@ -83,15 +83,15 @@ module _ (f : Filter) (i : Integers f) (l p : ℕ) (hp : p < 2 ^ 32) (x : List �
   made = is-done (sayMulti f l (length x) (length o) (length g) (length h)) r (m .answer) y
 
   -- the details of level L + 1 - j in the output
-  level-at : (j : ℕ) → 1 ≤ j → j ≤ L → highOf f (approxAt f (L - j) x) ≡ take (k * downs (places (L - j) n)) (drop (k * places (L + 1 - j) n) o′)
+  level-at : (j : ℕ) → 1 ≤ j → j ≤ L → highOf f (approxAt f (L - j) x) ≡ take (k * detailsLength (countAt (L - j) n)) (drop (k * countAt (L + 1 - j) n) o′)
   level-at j some most =
       let e : suc (L - j) ≡ L + 1 - j = omega arith in
-      sym (call-level f l x m made (L - j) (omega arith)) ∙ ap (λ (q : ℕ). take (k * downs (places (L - j) n)) (drop (k * places q n) o′)) e
+      sym (call-level f l x m made (L - j) (omega arith)) ∙ ap (λ (q : ℕ). take (k * detailsLength (countAt (L - j) n)) (drop (k * countAt q n) o′)) e
 
   -- cut to c bytes, which have the section whole
   pub section-in-cut : (c : ℕ) → c ≤ fileSize headSize k L n
-      → (upTo headSize k L n 1 ≤ c → sectionIn (take c b′) k p 1 ≡ take (k * places L n) o′)
-      × ((j : ℕ) → 1 ≤ j → j ≤ L → upTo headSize k L n (1 + j) ≤ c → sectionIn (take c b′) k p (1 + j) ≡ take (k * downs (places (L - j) n)) (drop (k * places (L + 1 - j) n) o′))
+      → (upTo headSize k L n 1 ≤ c → sectionIn (take c b′) k p 1 ≡ take (k * countAt L n) o′)
+      × ((j : ℕ) → 1 ≤ j → j ≤ L → upTo headSize k L n (1 + j) ≤ c → sectionIn (take c b′) k p (1 + j) ≡ take (k * detailsLength (countAt (L - j) n)) (drop (k * countAt (L + 1 - j) n) o′))
   section-in-cut c e =
       let front = front-in f l p x i bx hp b u v a b′ u′ v′ w z c e in (
         λ up. ap (λ (s : List ℕ). sectionIn s k p 1) front ∙ file-first file c e up ∙ sym (call-approx f l x m made),
@@ -102,8 +102,8 @@ module _ (f : Filter) (i : Integers f) (l p : ℕ) (hp : p < 2 ^ 32) (x : List �
       )
 
   -- the whole file: section 1 is the approximations, section 1 + j the details of level L + 1 - j
-  pub section-is-band : (sectionIn (take (fileSize headSize k L n) b′) k p 1 ≡ take (k * places L n) o′)
-      × ((j : ℕ) → 1 ≤ j → j ≤ L → sectionIn (take (fileSize headSize k L n) b′) k p (1 + j) ≡ take (k * downs (places (L - j) n)) (drop (k * places (L + 1 - j) n) o′))
+  pub section-is-band : (sectionIn (take (fileSize headSize k L n) b′) k p 1 ≡ take (k * countAt L n) o′)
+      × ((j : ℕ) → 1 ≤ j → j ≤ L → sectionIn (take (fileSize headSize k L n) b′) k p (1 + j) ≡ take (k * detailsLength (countAt (L - j) n)) (drop (k * countAt (L + 1 - j) n) o′))
   section-is-band =
       let t = section-in-cut (fileSize headSize k L n) (omega arith) in
       (t .0 (up-most headSize k L n 0 (omega arith)), λ j some most. t .1 j some most (up-most headSize k L n j most))

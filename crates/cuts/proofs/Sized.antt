@@ -4,7 +4,7 @@ use mathlib.Core.Path.{_≡_, ap, _∙_}
 use Prim.Native.Nat.{ℕ, zero, suc, _+_, _*_}
 use native.Mathlib.Omega.{arith}
 use lib.ListN.{length, length-append}
-use Rattle.sizes.specs.Bands.{ups, downs}
+use Rattle.sizes.specs.Lengths.{approxLength, detailsLength}
 use Rattle.samples.specs.Le.{leBytes}
 use Rattle.samples.proofs.LeLaws.{length-leBytes}
 use Rattle.dwt.specs.declared.filter.Filter.{Filter}
@@ -22,9 +22,9 @@ pub body-length : (f : Filter) (l n : ℕ) (x : List ℕ) → length x ≡ width
 unfolding bodyOf
 body-length f zero n x h = omega (arith, section-length n x)
 body-length f (suc l) n x h =
-    let i = body-length f l (ups n) (lowOf f x) (length-low f x n h) in
-    let a = length-append (bodyOf f l (ups n) (lowOf f x)) (sectionOf (downs n) (highOf f x)) in
-    omega (arith, i, a, section-length (downs n) (highOf f x), length-high f x n h, split-width (widthOf f) n)
+    let i = body-length f l (approxLength n) (lowOf f x) (length-low f x n h) in
+    let a = length-append (bodyOf f l (approxLength n) (lowOf f x)) (sectionOf (detailsLength n) (highOf f x)) in
+    omega (arith, i, a, section-length (detailsLength n) (highOf f x), length-high f x n h, split-width (widthOf f) n)
 
 -- "Size: 14 + 4(L+1) + width·n": the sections behind a section 0 of z bytes
 pub file-length : (f : Filter) (l n z : ℕ) (x front s : List ℕ) → length x ≡ widthOf f * n → length front ≡ z → s ≡ front ++ bodyOf f l n x → length s ≡ fileSize z (widthOf f) l n

@@ -16,7 +16,7 @@ use Rattle.answers.specs.Checks.{Check, firstOf}
 use Rattle.answers.proofs.Chain.{same}
 use Rattle.order.proofs.Order.{lt-or-le}
 use Rattle.answers.proofs.Passed.{Passing, pass-both, through}
-use Rattle.sizes.specs.Levels.{places}
+use Rattle.sizes.specs.Levels.{countAt}
 use Rattle.samples.specs.Integers.{isWidth}
 use Rattle.dwt.specs.declared.filter.Filter.{Filter}
 use Rattle.dwt.specs.Filters.{widthOf}
@@ -29,12 +29,12 @@ use Rattle.pyramid.specs.Files.{bodyOf, bodySize, fileSize}
 use Rattle.pyramid.specs.Walks.{walkOf, restoredAt}
 use Rattle.pyramid.specs.Opens.{headIn, headChecks, wayIn, wayChecks, fileChecks, wholeDetails, levelIn, countIn, samplesIn, areaChecks, roomsFor, sayOpen}
 use Rattle.pyramid.proofs.Opening.{pass-on}
-use Rattle.cuts.specs.Sees.{Sampled, Roomy, OpensTo, needed, wholeOf, wholeIn, levelLeft, reach}
+use Rattle.cuts.specs.Sees.{Sampled, Roomy, OpensTo, needed, wholeOf, wholeIn, levelLeft, wayWithin}
 use Rattle.cuts.proofs.Sized.{body-length}
-use Rattle.cuts.proofs.CutWalk.{walk-cut, reach-whole}
+use Rattle.cuts.proofs.CutWalk.{walk-cut, within-whole}
 use Rattle.cuts.proofs.Restored.{restored-cut, whole-all}
 use Rattle.cuts.proofs.Filed.{Filed, cut-parts, cut-length, common}
-use Rattle.cuts.proofs.Whole.{first-most, reach-none, reach-short, whole-is}
+use Rattle.cuts.proofs.Whole.{first-most, within-none, within-short, whole-is}
 
 areas-pass : (k o u v : ℕ) → isWidth k ≡ true → Sampled k o u v → Passing (areaChecks k o u v)
 areas-pass k o u v e a = rw e (same (o % k) 0 (a .output), (same (u % k) 0 (a .first), (same (v % k) 0 (a .second), tt)))
@@ -50,14 +50,14 @@ module _ {z : ℕ} {f : Filter} {l n p : ℕ} {x s : List ℕ} (d : Filed z f l 
   k = widthOf f
 
   -- the walk over the first b bytes of the file
-  pub way-is : (b : ℕ) → z ≤ b → b ≤ fileSize z k l n → wayIn (take b s) (headIn (take b s)) ≡ reach k l n z (b - z)
+  pub way-is : (b : ℕ) → z ≤ b → b ≤ fileSize z k l n → wayIn (take b s) (headIn (take b s)) ≡ wayWithin k l n z (b - z)
   way-is b c e =
       let r = d .recording in
       let body = bodyOf f l n x in
       let room : b - z ≤ length (body ++ []) = omega (arith, length-append body [], body-length f l n x (r .size)) in
       ap (wayIn (take b s)) (d .head b c)
       ∙ ap (λ (t : List ℕ). walkOf t k l n z) (cut-parts d b c)
-      ∙ subst (λ (q : ℕ). walkOf (d .front ++ take (b - z) (body ++ [])) k l n q ≡ reach k l n q (b - z)) (d .long)
+      ∙ subst (λ (q : ℕ). walkOf (d .front ++ take (b - z) (body ++ [])) k l n q ≡ wayWithin k l n q (b - z)) (d .long)
       (walk-cut f l n x (d .front) [] (b - z) (r .size) (omega (arith, r .most)) room)
 
   -- so many sections of details are whole
@@ -69,8 +69,8 @@ module _ {z : ℕ} {f : Filter} {l n p : ℕ} {x s : List ℕ} (d : Filed z f l 
       (λ (h : j < bodySize k l n).
       let m = wholeIn k l n j in
       let q : m + 2 - 2 ≡ m = omega arith in
-      ap (λ (v : Way). wholeDetails v l) (reach-short k l n z j (omega arith) h) ∙ q)
-      (λ (h : bodySize k l n ≤ j). sym (ap (λ (v : Way). wholeDetails v l) (reach-whole k l n z j h)) ∙ sym (whole-all k l n j h))
+      ap (λ (v : Way). wholeDetails v l) (within-short k l n z j (omega arith) h) ∙ q)
+      (λ (h : bodySize k l n ≤ j). sym (ap (λ (v : Way). wholeDetails v l) (within-whole k l n z j h)) ∙ sym (whole-all k l n j h))
       (lt-or-le j (bodySize k l n))
       ∙ whole-is z k l n b c
 
@@ -82,8 +82,8 @@ module _ {z : ℕ} {f : Filter} {l n p : ℕ} {x s : List ℕ} (d : Filed z f l 
       rw (way-is b (omega arith) e)
       (⊎-elim
       (λ (h : j < bodySize k l n).
-      rw (reach-short k l n z j (omega arith) h) (ne-eqb (wholeIn k l n j + 2) 1 (λ z. omega arith), tt))
-      (λ (h : bodySize k l n ≤ j). rw (← reach-whole k l n z j h) (le-ltb (z + bodySize k l n) (length (take b s)) (omega arith), tt))
+      rw (within-short k l n z j (omega arith) h) (ne-eqb (wholeIn k l n j + 2) 1 (λ z. omega arith), tt))
+      (λ (h : bodySize k l n ≤ j). rw (← within-whole k l n z j h) (le-ltb (z + bodySize k l n) (length (take b s)) (omega arith), tt))
       (lt-or-le j (bodySize k l n)))
 
   -- the level that is given back
@@ -93,8 +93,8 @@ module _ {z : ℕ} {f : Filter} {l n p : ℕ} {x s : List ℕ} (d : Filed z f l 
       ap (λ (h : Head). h .levels - wholeDetails way (h .levels)) (d .head b (omega arith)) ∙ ap (λ (m : ℕ). l - m) (details-are b c e)
 
   -- how many samples it has
-  pub count-left : (b : ℕ) → needed z k l n ≤ b → b ≤ fileSize z k l n → countIn (take b s) ≡ places (levelLeft z k l n b) n
-  count-left b c e = ap₂ places (level-is b c e) (ap (λ (h : Head). h .samples) (d .head b (omega arith)))
+  pub count-left : (b : ℕ) → needed z k l n ≤ b → b ≤ fileSize z k l n → countIn (take b s) ≡ countAt (levelLeft z k l n b) n
+  count-left b c e = ap₂ countAt (level-is b c e) (ap (λ (h : Head). h .samples) (d .head b (omega arith)))
 
   -- and which: the approximations of that level
   pub samples-are : (b : ℕ) → needed z k l n ≤ b → b ≤ fileSize z k l n → samplesIn (take b s) ≡ approxAt f (levelLeft z k l n b) x
@@ -108,9 +108,9 @@ module _ {z : ℕ} {f : Filter} {l n p : ℕ} {x s : List ℕ} (d : Filed z f l 
       let m = wholeOf z k l n b in
       ap (λ (h : Head). restoredAt (h .width) t (wholeDetails way (h .levels)) (countIn t) (h .body)) (d .head b (omega arith))
       ∙ ap₂ (λ (q c : ℕ). restoredAt k t q c z) (details-are b c e) (count-left b c e)
-      ∙ ap (λ (u : List ℕ). restoredAt k u m (places (l - m) n) z) (cut-parts d b (omega arith))
-      ∙ subst (λ (q : ℕ). restoredAt k cut q (places (l - q) n) z ≡ approxAt f (l - q) x) (whole-is z k l n b c)
-      (subst (λ (a : ℕ). restoredAt k cut (wholeIn k l n j) (places (l - wholeIn k l n j) n) a ≡ approxAt f (l - wholeIn k l n j) x) (d .long)
+      ∙ ap (λ (u : List ℕ). restoredAt k u m (countAt (l - m) n) z) (cut-parts d b (omega arith))
+      ∙ subst (λ (q : ℕ). restoredAt k cut q (countAt (l - q) n) z ≡ approxAt f (l - q) x) (whole-is z k l n b c)
+      (subst (λ (a : ℕ). restoredAt k cut (wholeIn k l n j) (countAt (l - wholeIn k l n j) n) a ≡ approxAt f (l - wholeIn k l n j) x) (d .long)
       (restored-cut f (r .integers) l n x (d .front) [] j (r .bytes) (r .size) (own-depth f (r .integers) l n (r .deep)) (omega arith)))
 
   -- cut in section 0 or 1: "10", whatever is checked after the file
@@ -125,7 +125,7 @@ module _ {z : ℕ} {f : Filter} {l n p : ℕ} {x s : List ℕ} (d : Filed z f l 
       (λ (h : b < z). d .early b h (ways ++ m) e)
       (λ (h : z ≤ b).
       pass-on heads (ways ++ m) e (d .passes b h most)
-      ∙ ap (λ (y : Way). firstOf (wayChecks y (length t) ++ m) e) (way-is b h most ∙ reach-none k l n z (b - z) (omega arith))
+      ∙ ap (λ (y : Way). firstOf (wayChecks y (length t) ++ m) e) (way-is b h most ∙ within-none k l n z (b - z) (omega arith))
       ∙ ap CutShort (cut-length d b most))
       (lt-or-le b z)
 
@@ -144,7 +144,7 @@ module _ {z : ℕ} {f : Filter} {l n p : ℕ} {x s : List ℕ} (d : Filed z f l 
 
     -- cut later, or not at all: nothing but the room decides
     pub rooms-decide : (b : ℕ) → needed z k l n ≤ b → b ≤ fileSize z k l n
-        → let i = levelLeft z k l n b in sayOpen (take b s) k p o u v ≡ firstOf (roomsFor k (places i n) o u v) (Done i (places i n))
+        → let i = levelLeft z k l n b in sayOpen (take b s) k p o u v ≡ firstOf (roomsFor k (countAt i n) o u v) (Done i (countAt i n))
     unfolding sayOpen
     rooms-decide b c e =
         let t = take b s in
@@ -155,10 +155,10 @@ module _ {z : ℕ} {f : Filter} {l n p : ℕ} {x s : List ℕ} (d : Filed z f l 
 
     -- with room for the level that the whole sections reach: that level, and just its approximations
     pub survives : (b : ℕ) → needed z k l n ≤ b → b ≤ fileSize z k l n
-        → let i = levelLeft z k l n b in Roomy k (places i n) o u v → OpensTo (take b s) k p o u v i (places i n) (approxAt f i x)
+        → let i = levelLeft z k l n b in Roomy k (countAt i n) o u v → OpensTo (take b s) k p o u v i (countAt i n) (approxAt f i x)
     survives b c e g =
         let i = levelLeft z k l n b in
         record {
-          says = rooms-decide b c e ∙ through (roomsFor k (places i n) o u v) (Done i (places i n)) (rooms-pass k (places i n) o u v (width-pos f) g);
+          says = rooms-decide b c e ∙ through (roomsFor k (countAt i n) o u v) (Done i (countAt i n)) (rooms-pass k (countAt i n) o u v (width-pos f) g);
           samples = samples-are b c e;
         }

@@ -7,7 +7,7 @@ use borrow.Author.Tests.{le-ltb}
 use Rattle.answers.specs.declared.err.Refusal.the-variants.{Done}
 use Rattle.answers.specs.Checks.{ragged}
 use Rattle.answers.proofs.Passed.{through}
-use Rattle.sizes.specs.Bands.{mostSamples}
+use Rattle.sizes.specs.Lengths.{mostSamples}
 use Rattle.sizes.specs.Levels.{depthOf, levelsOf}
 use Rattle.sizes.proofs.OneLevel.{whole-passes, count-is}
 use Rattle.dwt.specs.declared.filter.Filter.{Filter}

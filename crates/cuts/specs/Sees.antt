@@ -9,8 +9,8 @@ use lib.ListN.{length, take, drop}
 use Rattle.answers.specs.declared.err.Answer.{Answer}
 use Rattle.answers.specs.declared.err.Refusal.the-variants.{Done}
 use Rattle.answers.specs.Answers.{say}
-use Rattle.sizes.specs.Bands.{ups}
-use Rattle.sizes.specs.Levels.{places}
+use Rattle.sizes.specs.Lengths.{approxLength}
+use Rattle.sizes.specs.Levels.{countAt}
 use Rattle.dwt.specs.declared.filter.Filter.{Filter}
 use Rattle.dwt.specs.Filters.{widthOf}
 use Rattle.dwt.specs.Pyramids.{approxAt, lengthsOf}
@@ -28,7 +28,7 @@ firstWhole k (c ∷ cs) b = cond (leb (4 + k * c) b) (suc (firstWhole k cs (b - 
 
 -- the bytes of sections 0 and 1: the header and the deepest approximations
 abbrev pub needed : ℕ → ℕ → ℕ → ℕ → ℕ
-needed z k l n = z + bodySize k 0 (places l n)
+needed z k l n = z + bodySize k 0 (countAt l n)
 
 -- how many sections of details, deepest first, are whole in the first b bytes of a file
 abbrev pub wholeOf : ℕ → ℕ → ℕ → ℕ → ℕ → ℕ
@@ -40,7 +40,7 @@ wholeOf z k l n b = firstWhole k (lengthsOf l n) (b - needed z k l n)
 -- sections stand before
 unfoldable pub wholeIn : ℕ → ℕ → ℕ → ℕ → ℕ
 wholeIn k zero n b = 0
-wholeIn k (suc l) n b = cond (leb (bodySize k (suc l) n) b) (suc l) (wholeIn k l (ups n) b)
+wholeIn k (suc l) n b = cond (leb (bodySize k (suc l) n) b) (suc l) (wholeIn k l (approxLength n) b)
 
 -- the section in which a walk over a cut body stops: the one where it stopped before, or section j
 abbrev pub stopped : Way → ℕ → Way
@@ -49,9 +49,9 @@ stopped (Short i) j = Short i
 stopped (Wrong i found) j = Wrong i found
 
 -- how far a walk over these sections, which stand at p, gets in their first b bytes
-unfoldable pub reach : ℕ → ℕ → ℕ → ℕ → ℕ → Way
-reach k zero n p b = cond (leb (bodySize k 0 n) b) (Went (p + bodySize k 0 n)) (Short 1)
-reach k (suc l) n p b = cond (leb (bodySize k (suc l) n) b) (Went (p + bodySize k (suc l) n)) (stopped (reach k l (ups n) p b) (suc l + 1))
+unfoldable pub wayWithin : ℕ → ℕ → ℕ → ℕ → ℕ → Way
+wayWithin k zero n p b = cond (leb (bodySize k 0 n) b) (Went (p + bodySize k 0 n)) (Short 1)
+wayWithin k (suc l) n p b = cond (leb (bodySize k (suc l) n) b) (Went (p + bodySize k (suc l) n)) (stopped (wayWithin k l (approxLength n) p b) (suc l + 1))
 
 -- ---- opening
 
@@ -85,21 +85,21 @@ pub record Opened (z : ℕ) (f : Filter) (l n c : ℕ) (x o : List ℕ) (r : Ans
   pub only-cut : r .number ≡ 10 → c < needed z (widthOf f) l n
   -- from there on it is done, with the level, its count, and exactly its approximations
   pub level : needed z (widthOf f) l n ≤ c
-      → (r ≡ say 0 (levelLeft z (widthOf f) l n c) (places (levelLeft z (widthOf f) l n c) n))
-      × (o′ ≡ approxAt f (levelLeft z (widthOf f) l n c) x ++ drop (widthOf f * places (levelLeft z (widthOf f) l n c) n) o)
+      → (r ≡ say 0 (levelLeft z (widthOf f) l n c) (countAt (levelLeft z (widthOf f) l n c) n))
+      × (o′ ≡ approxAt f (levelLeft z (widthOf f) l n c) x ++ drop (widthOf f * countAt (levelLeft z (widthOf f) l n c) n) o)
   -- and in an output of just that many samples nothing else
-  pub just : needed z (widthOf f) l n ≤ c → length o ≡ widthOf f * places (levelLeft z (widthOf f) l n c) n → o′ ≡ approxAt f (levelLeft z (widthOf f) l n c) x
+  pub just : needed z (widthOf f) l n ≤ c → length o ≡ widthOf f * countAt (levelLeft z (widthOf f) l n c) n → o′ ≡ approxAt f (levelLeft z (widthOf f) l n c) x
   -- the whole file gives level 0, which is the samples, and nothing less gives it
   pub all : c ≡ fileSize z (widthOf f) l n → (r ≡ say 0 0 n) × (o′ ≡ x ++ drop (length x) o)
   pub only-all : r .number ≡ 0 → r .first ≡ 0 → c ≡ fileSize z (widthOf f) l n
   -- so many detail sections are whole: they end within c bytes, and the next one does not
-  pub within : needed z (widthOf f) l n ≤ c → z + bodySize (widthOf f) (wholeOf z (widthOf f) l n c) (places (levelLeft z (widthOf f) l n c) n) ≤ c
+  pub within : needed z (widthOf f) l n ≤ c → z + bodySize (widthOf f) (wholeOf z (widthOf f) l n c) (countAt (levelLeft z (widthOf f) l n c) n) ≤ c
   pub next : needed z (widthOf f) l n ≤ c → wholeOf z (widthOf f) l n c < l
-      → c < z + bodySize (widthOf f) (suc (wholeOf z (widthOf f) l n c)) (places (l - suc (wholeOf z (widthOf f) l n c)) n)
+      → c < z + bodySize (widthOf f) (suc (wholeOf z (widthOf f) l n c)) (countAt (l - suc (wholeOf z (widthOf f) l n c)) n)
 
 -- every opening, for the same width and point, of the first c bytes of s, with an output and work areas of whole samples that have room for the count given back
 abbrev pub Openings : ℕ → Filter → ℕ → ℕ → ℕ → List ℕ → List ℕ → Type 0
 Openings z f l n p x s =
     (c : ℕ) → c ≤ fileSize z (widthOf f) l n → (o g h : List ℕ) → Sampled (widthOf f) (length o) (length g) (length h)
-    → (needed z (widthOf f) l n ≤ c → Roomy (widthOf f) (places (levelLeft z (widthOf f) l n c) n) (length o) (length g) (length h))
+    → (needed z (widthOf f) l n ≤ c → Roomy (widthOf f) (countAt (levelLeft z (widthOf f) l n c) n) (length o) (length g) (length h))
     → (r : Answer) (o′ g′ h′ : List ℕ) → Open (take c s) (widthOf f) p o g h r o′ g′ h′ → Opened z f l n c x o r o′

@@ -9,7 +9,7 @@ use notes::notes::CoefficientNumber;
 use notes::notes::SampleNumber;
 use notes::notes::note_column;
 use notes::notes::note_span;
-use notes::window::Width;
+use notes::window::SampleWidth;
 use notes::window::band_window_answer;
 
 // Notes: the column of a sample, and the span of a column.
@@ -36,33 +36,40 @@ pub extern "C" fn bk_note_span(n: u64, level: u32, place: u64) -> Answer
 pub extern "C" fn bk_band_window_i8(a: &[u8], d: &[u8], band: u32, from: u64, count: u64) -> Answer
     ensures { λ r. ⌜ r ≡ answerOf (sayWindow 1 (length (now (a .entry))) (length (now (d .entry))) band from count) ⌝ }
 {
-    band_window_answer(Width::One, a, d, band, from as usize, count as usize)
+    band_window_answer(SampleWidth::One, a, d, band, from as usize, count as usize)
 }
 
 #[no_mangle]
 pub extern "C" fn bk_band_window_i16(a: &[u8], d: &[u8], band: u32, from: u64, count: u64) -> Answer
     ensures { λ r. ⌜ r ≡ answerOf (sayWindow 2 (length (now (a .entry))) (length (now (d .entry))) band from count) ⌝ }
 {
-    band_window_answer(Width::Two, a, d, band, from as usize, count as usize)
+    band_window_answer(SampleWidth::Two, a, d, band, from as usize, count as usize)
 }
 
 #[no_mangle]
 pub extern "C" fn bk_band_window_i32(a: &[u8], d: &[u8], band: u32, from: u64, count: u64) -> Answer
     ensures { λ r. ⌜ r ≡ answerOf (sayWindow 4 (length (now (a .entry))) (length (now (d .entry))) band from count) ⌝ }
 {
-    band_window_answer(Width::Four, a, d, band, from as usize, count as usize)
+    band_window_answer(SampleWidth::Four, a, d, band, from as usize, count as usize)
 }
 
 #[no_mangle]
 pub extern "C" fn bk_band_window_f32(a: &[u8], d: &[u8], band: u32, from: u64, count: u64) -> Answer
     ensures { λ r. ⌜ r ≡ answerOf (sayWindow 4 (length (now (a .entry))) (length (now (d .entry))) band from count) ⌝ }
 {
-    band_window_answer(Width::Four, a, d, band, from as usize, count as usize)
+    band_window_answer(SampleWidth::Four, a, d, band, from as usize, count as usize)
 }
 
 #[no_mangle]
 pub extern "C" fn bk_band_window_f64(a: &[u8], d: &[u8], band: u32, from: u64, count: u64) -> Answer
     ensures { λ r. ⌜ r ≡ answerOf (sayWindow 8 (length (now (a .entry))) (length (now (d .entry))) band from count) ⌝ }
 {
-    band_window_answer(Width::Eight, a, d, band, from as usize, count as usize)
+    band_window_answer(
+        SampleWidth::Eight,
+        a,
+        d,
+        band,
+        from as usize,
+        count as usize,
+    )
 }

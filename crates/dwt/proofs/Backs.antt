@@ -11,7 +11,7 @@ use Rattle.answers.specs.declared.err.Refusal.the-variants.{Done}
 use Rattle.answers.specs.Answers.{done}
 use Rattle.answers.proofs.Passed.{Passing, passing, both-refuse, both-pass, whole, roomy, right}
 use Rattle.sizes.specs.declared.Wavelet.{Wavelet}
-use Rattle.sizes.specs.Bands.{mostSamples, expectedApprox, expectedDetails}
+use Rattle.sizes.specs.Lengths.{mostSamples, expectedApprox, expectedDetails}
 use Rattle.sizes.proofs.OneLevel.{expected}
 use Rattle.samples.specs.Words.{wordsOf}
 use Rattle.samples.proofs.Words.{length-words}
@@ -19,7 +19,7 @@ use Rattle.dwt.specs.declared.filter.Filter.{Filter}
 use Rattle.dwt.specs.Filters.{widthOf, waveletOf}
 use Rattle.dwt.specs.Calls.{roomChecks}
 use Rattle.dwt.specs.Backward.{total, bandChecks, wholeChecks, backChecks, sayBack, Fits, Rising}
-use Rattle.dwt.proofs.Rises.{bands-refuse}
+use Rattle.dwt.proofs.LevelsBack.{bands-refuse}
 
 -- bands that pass the checks are those of levels
 pub bands-fit : (w : Wavelet) (a : ℕ) (ms : List ℕ) → Passing (bandChecks w a ms) → Fits w a ms

@@ -3,7 +3,7 @@ use mathlib.Core.Path.{_≡_, ap, _∙_}
 use Prim.Native.Nat.{ℕ, _+_, _*_, _^_, _≤_, _<_}
 use native.Mathlib.Nat.{mul-add}
 use native.Mathlib.Omega.{arith}
-use Rattle.sizes.specs.Bands.{mostSamples, ups, downs}
+use Rattle.sizes.specs.Lengths.{mostSamples, approxLength, detailsLength}
 use Rattle.dwt.specs.declared.filter.Filter.{Filter}
 use Rattle.dwt.specs.declared.filter.Filter.the-variants.{Cdf53I8, Cdf53I16, Cdf53I32, Cdf53F32, Cdf53F64, Cdf97F32, Cdf97F64}
 use Rattle.dwt.specs.Filters.{widthOf}
@@ -28,11 +28,11 @@ width-room Cdf53F64 n h = omega arith
 width-room Cdf97F32 n h = omega arith
 width-room Cdf97F64 n h = omega arith
 
-pub split-width : (k n : ℕ) → k * n ≡ k * ups n + k * downs n
-split-width k n = let e : n ≡ ups n + downs n = omega arith in ap (λ m. k * m) e ∙ mul-add k (ups n) (downs n)
+pub split-width : (k n : ℕ) → k * n ≡ k * approxLength n + k * detailsLength n
+split-width k n = let e : n ≡ approxLength n + detailsLength n = omega arith in ap (λ m. k * m) e ∙ mul-add k (approxLength n) (detailsLength n)
 
-pub half-within : (k n : ℕ) → k * ups n ≤ k * n
+pub half-within : (k n : ℕ) → k * approxLength n ≤ k * n
 half-within k n = omega (arith, split-width k n)
 
-pub cut-at : (f : Filter) (n r : ℕ) → r ≡ widthOf f * ups n → Cut f n r
+pub cut-at : (f : Filter) (n r : ℕ) → r ≡ widthOf f * approxLength n → Cut f n r
 cut-at f n r e = let s = split-width (widthOf f) n in record { place = e; within = omega arith; rest = omega arith }

@@ -4,6 +4,6 @@ pub mod Cuts
 pub mod Rooms
 pub mod PyramidLaws
 pub mod Multi
-pub mod Rises
+pub mod LevelsBack
 pub mod Backs
-pub mod Lasts
+pub mod LastLevel

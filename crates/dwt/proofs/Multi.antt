@@ -10,18 +10,18 @@ use Rattle.answers.specs.declared.err.Refusal.the-variants.{Done, BufferWasTooS
 use Rattle.answers.specs.Answers.{done}
 use Rattle.answers.specs.Checks.{ragged}
 use Rattle.answers.proofs.Passed.{Refusing, passing, whole, roomy, right}
-use Rattle.sizes.specs.Bands.{mostSamples}
+use Rattle.sizes.specs.Lengths.{mostSamples}
 use Rattle.sizes.specs.Levels.{depthOf, levelsOf}
 use Rattle.dwt.specs.declared.filter.Filter.{Filter}
 use Rattle.dwt.specs.declared.filter.Filter.the-variants.{Cdf53I8, Cdf53I16, Cdf53I32, Cdf53F32, Cdf53F64, Cdf97F32, Cdf97F64}
 use Rattle.dwt.specs.Filters.{widthOf, waveletOf}
-use Rattle.dwt.specs.Calls.{short, levelsChecks, multiChecks, sayMulti, Ready}
+use Rattle.dwt.specs.Calls.{tooShort, depthChecks, multiChecks, sayMulti, Ready}
 
 pub levels-pos : (l : ℕ) → 0 < levelsOf l
 levels-pos zero = omega arith
 levels-pos (suc l) = simp (eqb·suc-zero l) (omega arith)
 
-short-refuses : (f : Filter) (n : ℕ) → done (short f n) ≡ false
+short-refuses : (f : Filter) (n : ℕ) → done (tooShort f n) ≡ false
 short-refuses Cdf53I8 n = refl
 short-refuses Cdf53I16 n = refl
 short-refuses Cdf53I32 n = refl
@@ -30,13 +30,13 @@ short-refuses Cdf53F64 n = refl
 short-refuses Cdf97F32 n = refl
 short-refuses Cdf97F64 n = refl
 
-pub too-short : (f : Filter) (n : ℕ) (t : Bool) → done (cond t (short f n) BufferWasTooSmallForLevel) ≡ false
-too-short f n true = short-refuses f n
-too-short f n false = refl
+pub shallow-refused : (f : Filter) (n : ℕ) (t : Bool) → done (cond t (tooShort f n) BufferWasTooSmallForLevel) ≡ false
+shallow-refused f n true = short-refuses f n
+shallow-refused f n false = refl
 
 -- the checks of the levels refuse with what no done call says
-pub levels-refuse : (f : Filter) (l n : ℕ) → Refusing (levelsChecks f l n)
-levels-refuse f l n = (refl, (too-short f n (leb l 1), tt))
+pub depth-refuse : (f : Filter) (l n : ℕ) → Refusing (depthChecks f l n)
+depth-refuse f l n = (refl, (shallow-refused f n (leb l 1), tt))
 
 -- what the checks leave: the levels run, and the output has its length
 pub multi-ready : (f : Filter) (l x o u v : ℕ) → done (sayMulti f l x o u v) ≡ true → Ready f (levelsOf l) (x / widthOf f) x u v × (o ≡ widthOf f * (x / widthOf f))
@@ -44,7 +44,7 @@ unfolding sayMulti
 multi-ready f l x o u v h =
     let k = widthOf f in
     let p = passing (ragged k x ∷ ragged k o ∷ ragged k u ∷ ragged k v ∷ multiChecks f l (x / k) (o / k) (u / k) (v / k)) (Done 0 0)
-    (refl, (refl, (refl, (refl, (refl, (too-short f (x / k) (leb l 1), (refl, (refl, (refl, tt))))))))) h in
+    (refl, (refl, (refl, (refl, (refl, (shallow-refused f (x / k) (leb l 1), (refl, (refl, (refl, tt))))))))) h in
     let q = p .1 .1 .1 .1 in
     let eu = whole k u (p .1 .1 .0) in
     let ev = whole k v (p .1 .1 .1 .0) in

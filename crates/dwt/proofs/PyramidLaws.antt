@@ -1,4 +1,5 @@
 -- One level of a pyramid. Looks into no filter.
+use Rattle.sizes.specs.Levels.{afterLevels}
 use mathlib.Core.Path.{_≡_, refl, ap, _∙_}
 use mathlib.Core.List.{List, _++_}
 use Prim.Native.Nat.{ℕ, zero, suc, _-_, _≤_}
@@ -24,17 +25,11 @@ pyramid-more f l x o t r cut p h e q =
     ∙ ap (λ (k : List ℕ). k ++ highOf f x) (q ∙ ap (λ (k : List ℕ). pyramid f (l - 1) k) (take-at (lowOf f x) t cut e))
     ∙ ap (λ (k : ℕ). pyramid f k x) s
 
--- one level more, at the end
-pub approx-after : (f : Filter) (l : ℕ) (x : List ℕ) → approxAt f (suc l) x ≡ lowOf f (approxAt f l x)
-unfolding approxAt
-approx-after f zero x = refl
-approx-after f (suc l) x = approx-after f l (lowOf f x)
-
 -- the bands of what no level leaves, and of what the levels below one leave
 pub parted-none : (f : Filter) {l : ℕ} (x : List ℕ) {a d : List ℕ} → l ≡ 0 → Parted f x a d → Parted f (approxAt f l x) a d
-unfolding approxAt
+unfolding afterLevels
 parted-none f x e p = rw e p
 
 pub parted-more : (f : Filter) {l m : ℕ} (x : List ℕ) {y a d : List ℕ} → l ≡ suc m → y ≡ lowOf f x → Parted f (approxAt f m y) a d → Parted f (approxAt f l x) a d
-unfolding approxAt
+unfolding afterLevels
 parted-more f x e h p = rw e (rw h at p)

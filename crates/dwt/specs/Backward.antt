@@ -10,7 +10,7 @@ use Rattle.answers.specs.declared.err.Refusal.{Refusal}
 use Rattle.answers.specs.declared.err.Refusal.the-variants.{Done, ZeroedBaseSize, TooLong, BadCount}
 use Rattle.answers.specs.Checks.{Check, firstOf, ragged, Call}
 use Rattle.sizes.specs.declared.Wavelet.{Wavelet}
-use Rattle.sizes.specs.Bands.{mostSamples, ups, downs, smallestOf}
+use Rattle.sizes.specs.Lengths.{mostSamples, approxLength, detailsLength, smallestOf}
 use Rattle.sizes.specs.Calls.{inverseBands}
 use Rattle.samples.specs.Words.{wordsOf}
 use Rattle.dwt.specs.declared.filter.Filter.{Filter}
@@ -65,7 +65,7 @@ MultiBack f a d ls o u v = Call (sayBack f (length a) (length d) ls (length o) (
 -- a approximations and details of the lengths ms are the bands of levels, from the deepest
 unfoldable pub Fits : Wavelet → ℕ → List ℕ → Type 0
 Fits w a [] = Unit {0}
-Fits w a (m ∷ ms) = (smallestOf w ≤ a + m) × (a ≡ ups (a + m)) × (m ≡ downs (a + m)) × Fits w (a + m) ms
+Fits w a (m ∷ ms) = (smallestOf w ≤ a + m) × (a ≡ approxLength (a + m)) × (m ≡ detailsLength (a + m)) × Fits w (a + m) ms
 
 -- what the checks leave for the levels: a approximations and details of the lengths ms, and byte lengths of the details, of two work areas and of the output
 pub record Rising (f : Filter) (a : ℕ) (ms : List ℕ) (d u v o : ℕ) : Type 0 where

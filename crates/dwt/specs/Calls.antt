@@ -10,9 +10,9 @@ use Rattle.answers.specs.declared.err.Refusal.{Refusal}
 use Rattle.answers.specs.declared.err.Refusal.the-variants.{Done, MinFilterSize, OutputSizeIsNotValid, BufferWasTooSmallForLevel, TooLong}
 use Rattle.answers.specs.Answers.{answerOf}
 use Rattle.answers.specs.Checks.{Check, firstOf, ragged, twoAreas, left, Spared, Call}
-use Rattle.sizes.specs.Bands.{mostSamples, ups, downs}
+use Rattle.sizes.specs.Lengths.{mostSamples, approxLength, detailsLength}
 use Rattle.sizes.specs.Calls.{Level, Forward, Inverse, forwardBands}
-use Rattle.sizes.specs.Levels.{places, depthOf, levelsOf}
+use Rattle.sizes.specs.Levels.{countAt, depthOf, levelsOf}
 use Rattle.dwt.specs.declared.filter.Filter.{Filter}
 use Rattle.dwt.specs.declared.filter.Filter.the-variants.{Cdf53I8, Cdf53I16, Cdf53I32, Cdf53F32, Cdf53F64, Cdf97F32, Cdf97F64}
 use Rattle.dwt.specs.Filters.{widthOf, waveletOf, lowOf, highOf, backOf}
@@ -24,11 +24,11 @@ LevelOf f x a d = Level (waveletOf f) (widthOf f) (x / widthOf f) x a d
 
 -- the same of the approximations alone
 abbrev pub LowOf : Filter → ℕ → ℕ → Type 0
-LowOf f x a = LevelOf f x a (widthOf f * downs (x / widthOf f))
+LowOf f x a = LevelOf f x a (widthOf f * detailsLength (x / widthOf f))
 
 -- bands of a and d bytes are those of n samples
 abbrev pub BandsOf : Filter → ℕ → ℕ → ℕ → Type 0
-BandsOf f n a d = (a ≡ widthOf f * ups n) × (d ≡ widthOf f * downs n)
+BandsOf f n a d = (a ≡ widthOf f * approxLength n) × (d ≡ widthOf f * detailsLength n)
 
 -- a and d are the bands of x
 abbrev pub Parted : Filter → List ℕ → List ℕ → List ℕ → Type 0
@@ -42,19 +42,19 @@ abbrev pub OneInverse : Filter → List ℕ → List ℕ → List ℕ → Answer
 OneInverse f = Inverse (waveletOf f) (widthOf f) (backOf f)
 
 -- "for 0 or 1 levels and n too short, 1 in integer 5/3 and 4 in the float filters"
-abbrev pub short : Filter → ℕ → Refusal
-short Cdf53I8 n = MinFilterSize n 3
-short Cdf53I16 n = MinFilterSize n 3
-short Cdf53I32 n = MinFilterSize n 3
-short Cdf53F32 n = BufferWasTooSmallForLevel
-short Cdf53F64 n = BufferWasTooSmallForLevel
-short Cdf97F32 n = BufferWasTooSmallForLevel
-short Cdf97F64 n = BufferWasTooSmallForLevel
+abbrev pub tooShort : Filter → ℕ → Refusal
+tooShort Cdf53I8 n = MinFilterSize n 3
+tooShort Cdf53I16 n = MinFilterSize n 3
+tooShort Cdf53I32 n = MinFilterSize n 3
+tooShort Cdf53F32 n = BufferWasTooSmallForLevel
+tooShort Cdf53F64 n = BufferWasTooSmallForLevel
+tooShort Cdf97F32 n = BufferWasTooSmallForLevel
+tooShort Cdf97F64 n = BufferWasTooSmallForLevel
 
 -- "6; for 0 or 1 levels and n too short ..; for more levels 4", also of writing a file
-abbrev pub levelsChecks : Filter → ℕ → ℕ → List Check
-levelsChecks f l n =
-    (ltb mostSamples n, TooLong) ∷ (ltb (depthOf (waveletOf f) n) (levelsOf l), cond (leb l 1) (short f n) BufferWasTooSmallForLevel) ∷ []
+abbrev pub depthChecks : Filter → ℕ → ℕ → List Check
+depthChecks f l n =
+    (ltb mostSamples n, TooLong) ∷ (ltb (depthOf (waveletOf f) n) (levelsOf l), cond (leb l 1) (tooShort f n) BufferWasTooSmallForLevel) ∷ []
 
 -- "3, 7, 7", also of `multi_idwt`: n samples are to be put out; m of the output, u and v of the work areas
 abbrev pub roomChecks : ℕ → ℕ → ℕ → ℕ → List Check
@@ -62,7 +62,7 @@ roomChecks n m u v = (not (eqb m n), OutputSizeIsNotValid m n) ∷ twoAreas u v 
 
 -- "`multi_dwt`: 6; ..; 3; 7, 7", by samples: n of the signal
 abbrev pub multiChecks : Filter → ℕ → ℕ → ℕ → ℕ → ℕ → List Check
-multiChecks f l n m u v = levelsChecks f l n ++ roomChecks n m u v
+multiChecks f l n m u v = depthChecks f l n ++ roomChecks n m u v
 
 -- the same by byte lengths
 unfoldable pub sayMulti : Filter → ℕ → ℕ → ℕ → ℕ → ℕ → Refusal
@@ -78,7 +78,7 @@ Multi f l x o u v = Call (sayMulti f l (length x) (length o) (length u) (length 
 -- "`dwt`: 6, 4 (n too short, or depth below the levels), 2, 2 as forward with the last level's input length, 7, 7"
 abbrev pub dwtChecks : Filter → ℕ → ℕ → ℕ → ℕ → ℕ → ℕ → List Check
 dwtChecks f l n a d u v =
-    let m = places (levelsOf l - 1) n in
+    let m = countAt (levelsOf l - 1) n in
     (ltb mostSamples n, TooLong)
     ∷ (ltb (depthOf (waveletOf f) n) (levelsOf l), BufferWasTooSmallForLevel)
     ∷ (forwardBands m a d ++ twoAreas u v n)
@@ -115,6 +115,6 @@ pub record Ready (f : Filter) (l n x u v : ℕ) : Type 0 where
 
 -- r is the byte at which the details of n samples start
 pub record Cut (f : Filter) (n r : ℕ) : Type 0 where
-  pub place : r ≡ widthOf f * ups n
+  pub place : r ≡ widthOf f * approxLength n
   pub within : r ≤ widthOf f * n
-  pub rest : widthOf f * n ≡ r + widthOf f * downs n
+  pub rest : widthOf f * n ≡ r + widthOf f * detailsLength n

@@ -2,14 +2,14 @@
 use mathlib.Core.List.{List, [], _∷_, _++_}
 use Prim.Native.Nat.{ℕ, zero, suc, _*_}
 use lib.ListN.{take, drop}
-use Rattle.sizes.specs.Bands.{ups, downs}
+use Rattle.sizes.specs.Lengths.{approxLength, detailsLength}
+use Rattle.sizes.specs.Levels.{afterLevels, thereAndBack}
 use Rattle.dwt.specs.declared.filter.Filter.{Filter}
 use Rattle.dwt.specs.Filters.{widthOf, lowOf, highOf, backOf}
 
 -- the approximations after l levels
-unfoldable pub approxAt : Filter → ℕ → List ℕ → List ℕ
-approxAt f zero x = x
-approxAt f (suc l) x = approxAt f l (lowOf f x)
+abbrev pub approxAt : Filter → ℕ → List ℕ → List ℕ
+approxAt f = afterLevels (lowOf f)
 
 -- "`multi_dwt` fills one slice of n: deepest approximations, then details deepest first"
 unfoldable pub pyramid : Filter → ℕ → List ℕ → List ℕ
@@ -29,9 +29,8 @@ detailsAt f (suc l) x = detailsAt f l (lowOf f x) ++ highOf f x
 -- how many details each of l levels of n samples has, deepest first
 unfoldable pub lengthsOf : ℕ → ℕ → List ℕ
 lengthsOf zero n = []
-lengthsOf (suc l) n = lengthsOf l (ups n) ++ (downs n ∷ [])
+lengthsOf (suc l) n = lengthsOf l (approxLength n) ++ (detailsLength n ∷ [])
 
 -- l levels forward, and back again
-unfoldable pub roundTrip : Filter → ℕ → List ℕ → List ℕ
-roundTrip f zero x = x
-roundTrip f (suc l) x = backOf f (roundTrip f l (lowOf f x)) (highOf f x)
+abbrev pub roundTrip : Filter → ℕ → List ℕ → List ℕ
+roundTrip f = thereAndBack (lowOf f) (highOf f) (backOf f)

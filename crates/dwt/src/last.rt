@@ -3,8 +3,8 @@ ghost use mathlib.Core.Path.{_≡_};
 ghost use Prim.Native.Nat.{_+_, _-_, _*_};
 ghost use lib.ListN.{length, take, drop};
 ghost use Rattle.answers.specs.Checks.{firstOf};
-ghost use Rattle.sizes.specs.Bands.{ups};
-ghost use Rattle.sizes.specs.Levels.{places};
+ghost use Rattle.sizes.specs.Lengths.{approxLength};
+ghost use Rattle.sizes.specs.Levels.{countAt};
 ghost use Rattle.dwt.specs.Filters.{widthOf, lowOf};
 ghost use Rattle.dwt.specs.Pyramids.{approxAt};
 ghost use Rattle.dwt.specs.Calls.{BandsOf, Parted, Room, Ready, dwtChecks, sayDwt, Dwt};
@@ -20,17 +20,18 @@ use answers::err::Refusal;
 use answers::err::is_done;
 use answers::err::numbers;
 use sizes::MOST_SAMPLES;
+use sizes::approx_length;
 use sizes::at_least_one;
 use sizes::checks::check_whole;
 use sizes::checks::forward_bands;
 use sizes::checks::two_areas;
+use sizes::count_at;
 use sizes::depth;
-use sizes::places_of;
 
 // The approximations of the n samples in front of `from`, to the front of `to`.
 fn level_above(f: Filter, n: usize, from: &[u8], to: &mut [u8])
     requires { ⌜ Room f 1 n (length (now from)) (length (now to)) ⌝ }
-    ensures { λ _. ⌜ take (widthOf f * ups n) (now (to .exit)) ≡ lowOf f (take (widthOf f * n) (now (from .entry))) ⌝ }
+    ensures { λ _. ⌜ take (widthOf f * approxLength n) (now (to .exit)) ≡ lowOf f (take (widthOf f * n) (now (from .entry))) ⌝ }
     ensures { λ _. ⌜ drop (widthOf f * n) (now (to .exit)) ≡ drop (widthOf f * n) (now (to .entry)) ⌝ }
 {
     let all = bytes_of(f, n);
@@ -49,7 +50,7 @@ fn sink(
     details: &mut [u8],
 )
     requires { ⌜ Room f (levels + 1) n (length (now from)) (length (now to)) ⌝ }
-    requires { ⌜ BandsOf f (places levels n) (length (now approx)) (length (now details)) ⌝ }
+    requires { ⌜ BandsOf f (countAt levels n) (length (now approx)) (length (now details)) ⌝ }
     ensures { λ _. ⌜ Parted f (approxAt f levels (take (widthOf f * n) (now (from .entry)))) (now (approx .exit)) (now (details .exit)) ⌝ }
     ensures { λ _. ⌜ drop (widthOf f * n) (now (from .exit)) ≡ drop (widthOf f * n) (now (from .entry)) ⌝ }
     ensures { λ _. ⌜ drop (widthOf f * n) (now (to .exit)) ≡ drop (widthOf f * n) (now (to .entry)) ⌝ }
@@ -59,7 +60,7 @@ fn sink(
         forward(f, &from[..all], approx, details);
     } else {
         level_above(f, n, from, to);
-        let half = (n + 1) / 2;
+        let half = approx_length(n);
         sink(f, levels - 1, half, to, from, approx, details);
     }
 }
@@ -76,7 +77,7 @@ fn run_last(
     two: &mut [u8],
 )
     requires { ⌜ Ready f levels n (length (now signal)) (length (now one)) (length (now two)) ⌝ }
-    requires { ⌜ BandsOf f (places (levels - 1) n) (length (now approx)) (length (now details)) ⌝ }
+    requires { ⌜ BandsOf f (countAt (levels - 1) n) (length (now approx)) (length (now details)) ⌝ }
     ensures { λ _. ⌜ Parted f (approxAt f (levels - 1) (now (signal .entry))) (now (approx .exit)) (now (details .exit)) ⌝ }
     ensures { λ _. ⌜ drop (widthOf f * n) (now (one .exit)) ≡ drop (widthOf f * n) (now (one .entry)) ⌝ }
     ensures { λ _. ⌜ drop (widthOf f * n) (now (two .exit)) ≡ drop (widthOf f * n) (now (two .entry)) ⌝ }
@@ -85,7 +86,7 @@ fn run_last(
         forward(f, signal, approx, details);
     } else {
         level_above(f, n, signal, one);
-        let half = (n + 1) / 2;
+        let half = approx_length(n);
         sink(f, levels - 2, half, one, two, approx, details);
     }
 }
@@ -109,7 +110,7 @@ fn dwt_lengths(
     if depth(wavelet(f), n) < l {
         return Refusal::BufferWasTooSmallForLevel;
     }
-    let m = places_of(l - 1, n);
+    let m = count_at(l - 1, n);
     let said = forward_bands(m, a, d);
     if !is_done(said) {
         return said;

@@ -4,10 +4,10 @@ ghost use mathlib.Core.Path.{_≡_};
 ghost use Prim.Native.Nat.{_*_, _<_, _≤_, _^_};
 ghost use lib.ListN.{length, take, drop};
 ghost use Rattle.answers.specs.Checks.{firstOf};
-ghost use Rattle.sizes.specs.Bands.{mostSamples, ups, downs, smallestOf};
+ghost use Rattle.sizes.specs.Lengths.{mostSamples, approxLength, detailsLength, smallestOf};
 ghost use Rattle.dwt.specs.Filters.{widthOf, waveletOf, lowOf, highOf};
 ghost use Rattle.dwt.specs.Pyramids.{pyramid};
-ghost use Rattle.dwt.specs.Calls.{short, levelsChecks, roomChecks, multiChecks, sayMulti, Multi, Room, Ready, Cut};
+ghost use Rattle.dwt.specs.Calls.{tooShort, depthChecks, roomChecks, multiChecks, sayMulti, Multi, Room, Ready, Cut};
 use crate::filter::Filter;
 use crate::filter::execute_forward;
 use crate::filter::wavelet;
@@ -38,10 +38,10 @@ fn level(f: Filter, n: usize, x: &[u8], to: &mut [u8], out: &mut [u8])
     requires { ⌜ widthOf f * n ≤ length (now to) ⌝ }
     requires { ⌜ length (now out) ≡ widthOf f * n ⌝ }
     requires { ⌜ n ≤ mostSamples ⌝ }
-    ensures { λ _. ⌜ now (to .exit) ≡ lowOf f (now (x .entry)) ++ drop (widthOf f * ups n) (now (to .entry)) ⌝ }
-    ensures { λ _. ⌜ now (out .exit) ≡ take (widthOf f * ups n) (now (out .entry)) ++ highOf f (now (x .entry)) ⌝ }
-    ensures { λ _. ⌜ length (lowOf f (now (x .entry))) ≡ widthOf f * ups n ⌝ }
-    ensures { λ _. ⌜ length (highOf f (now (x .entry))) ≡ widthOf f * downs n ⌝ }
+    ensures { λ _. ⌜ now (to .exit) ≡ lowOf f (now (x .entry)) ++ drop (widthOf f * approxLength n) (now (to .entry)) ⌝ }
+    ensures { λ _. ⌜ now (out .exit) ≡ take (widthOf f * approxLength n) (now (out .entry)) ++ highOf f (now (x .entry)) ⌝ }
+    ensures { λ _. ⌜ length (lowOf f (now (x .entry))) ≡ widthOf f * approxLength n ⌝ }
+    ensures { λ _. ⌜ length (highOf f (now (x .entry))) ≡ widthOf f * detailsLength n ⌝ }
 {
     let cut = cut_of(f, n);
     execute_forward(f, x, &mut to[..cut], &mut out[cut..]);
@@ -60,7 +60,7 @@ fn down(f: Filter, levels: usize, n: usize, from: &mut [u8], to: &mut [u8], out:
         bytes::copy(&from[..all], out);
     } else {
         level(f, n, &from[..all], to, out);
-        let half = (n + 1) / 2;
+        let half = approx_length(n);
         let cut = cut_of(f, n);
         down(f, levels - 1, half, to, from, &mut out[..cut]);
     }
@@ -83,14 +83,14 @@ fn run(
     ensures { λ _. ⌜ drop (widthOf f * n) (now (two .exit)) ≡ drop (widthOf f * n) (now (two .entry)) ⌝ }
 {
     level(f, n, signal, one, out);
-    let half = (n + 1) / 2;
+    let half = approx_length(n);
     let cut = cut_of(f, n);
     down(f, levels - 1, half, one, two, &mut out[..cut]);
 }
 
 // An input too short for one level: the integer filters say 1, the float filters 4, as in the Rust.
-fn short_of(f: Filter, n: usize) -> Refusal
-    ensures { λ r. ⌜ r ≡ short f n ⌝ }
+fn too_short(f: Filter, n: usize) -> Refusal
+    ensures { λ r. ⌜ r ≡ tooShort f n ⌝ }
 {
     match f {
         Filter::Cdf53I8 => Refusal::MinFilterSize(n, 3),
@@ -104,15 +104,15 @@ fn short_of(f: Filter, n: usize) -> Refusal
 }
 
 // The levels asked for of n samples.
-pub fn check_levels(f: Filter, levels: usize, n: usize) -> Refusal
-    ensures { λ r. ⌜ r ≡ firstOf (levelsChecks f levels n) (Refusal.Done 0 0) ⌝ }
+pub fn check_depth(f: Filter, levels: usize, n: usize) -> Refusal
+    ensures { λ r. ⌜ r ≡ firstOf (depthChecks f levels n) (Refusal.Done 0 0) ⌝ }
 {
     if MOST_SAMPLES < n {
         return Refusal::TooLong;
     }
     if depth(wavelet(f), n) < at_least_one(levels) {
         if levels <= 1 {
-            return short_of(f, n);
+            return too_short(f, n);
         }
         return Refusal::BufferWasTooSmallForLevel;
     }
@@ -133,7 +133,7 @@ pub fn check_room(n: usize, m: usize, u: usize, v: usize) -> Refusal
 fn multi_lengths(f: Filter, levels: usize, n: usize, m: usize, u: usize, v: usize) -> Refusal
     ensures { λ r. ⌜ r ≡ firstOf (multiChecks f levels n m u v) (Refusal.Done 0 0) ⌝ }
 {
-    let said = check_levels(f, levels, n);
+    let said = check_depth(f, levels, n);
     if is_done(said) {
         return check_room(n, m, u, v);
     }

@@ -10,7 +10,7 @@ use lib.IntN.{ℤ, pos}
 use lib.ListN.{length, getD, length-map}
 use Rattle.sizes.specs.declared.Wavelet.{Wavelet}
 use Rattle.sizes.specs.declared.Wavelet.the-variants.{Cdf53}
-use Rattle.sizes.specs.Levels.{Runs, depthOf}
+use Rattle.sizes.specs.Levels.{afterLevels, thereAndBack, Runs, depthOf}
 use Rattle.sizes.proofs.Depths.{depth-runs}
 use Rattle.samples.specs.Floats.{width, decodeFloats}
 use Rattle.samples.proofs.FloatLaws.{length-decodeFloats}
@@ -21,8 +21,8 @@ use Rattle.dwt.specs.Filters as filter
 use Rattle.dwt.specs.Filters.{widthOf, waveletOf, lowOf, highOf}
 use Rattle.dwt.specs.Pyramids.{approxAt, roundTrip}
 use Rattle.trips.proofs.Lengths.{length-trip}
-use Rattle.exact.specs.Exact.{Are, Room, Inputs, number, details2, approximations8}
-use Rattle.exact.specs.Levels.{filter53, most, after, backAfter, after8, times, Exact, samplesIn, numbersIn, ExactLevel, SameNumbers}
+use Rattle.exact.specs.Exact.{Are, FormatHolds, Inputs, number, details2, approximations8}
+use Rattle.exact.specs.Levels.{filter53, most, floatsAt, floatsBack, numbersAt, times, Exact, sampleCount, numbersIn, ExactLevel, SameNumbers}
 use Rattle.exact.proofs.Whole.{is-eq}
 use Rattle.exact.proofs.Level.{details-exact, approximations-exact, inverse-exact}
 use Rattle.exact.proofs.Inputs.{inputs-exact}
@@ -66,18 +66,18 @@ back-53 binary64 a d = refl
 
 module _ (f : Format) where
   -- the approximations after l levels
-  pub decode-approx : (l : ℕ) (s : List ℕ) → decodeFloats f (approxAt (filter53 f) l s) ≡ after f l (decodeFloats f s)
-  unfolding approxAt after
+  pub decode-approx : (l : ℕ) (s : List ℕ) → decodeFloats f (approxAt (filter53 f) l s) ≡ floatsAt f l (decodeFloats f s)
+  unfolding afterLevels
   decode-approx zero s = refl
   decode-approx (suc l) s = rw (decode-approx l (lowOf (filter53 f) s), low-53 f s, decode-low f Cdf53 s)
 
   -- their details
-  pub decode-details : (l : ℕ) (s : List ℕ) → decodeFloats f (highOf (filter53 f) (approxAt (filter53 f) l s)) ≡ details f Cdf53 (after f l (decodeFloats f s))
+  pub decode-details : (l : ℕ) (s : List ℕ) → decodeFloats f (highOf (filter53 f) (approxAt (filter53 f) l s)) ≡ details f Cdf53 (floatsAt f l (decodeFloats f s))
   decode-details l s = rw (high-53 f (approxAt (filter53 f) l s), decode-high f Cdf53 (approxAt (filter53 f) l s), decode-approx l s)
 
   -- l levels and back
-  pub decode-trip : (l : ℕ) (s : List ℕ) → decodeFloats f (roundTrip (filter53 f) l s) ≡ backAfter f l (decodeFloats f s)
-  unfolding roundTrip backAfter
+  pub decode-trip : (l : ℕ) (s : List ℕ) → decodeFloats f (roundTrip (filter53 f) l s) ≡ floatsBack f l (decodeFloats f s)
+  unfolding thereAndBack
   decode-trip zero s = refl
   decode-trip (suc l) s =
       let a = roundTrip (filter53 f) l (lowOf (filter53 f) s) in
@@ -87,7 +87,7 @@ module _ (f : Format) where
 
 -- ---- the exact case of one level, of bytes s whose floats are the whole numbers z over 2 ^ k
 
-module _ (f : Format) (k b : ℕ) (room : Room f k b) (s : List ℕ) (z : List ℤ) (r : Are k b (decodeFloats f s) z) where
+module _ (f : Format) (k b : ℕ) (room : FormatHolds f k b) (s : List ℕ) (z : List ℤ) (r : Are k b (decodeFloats f s) z) where
   pub high-exact : Are (k + 1) (4 * b) (decodeFloats f (high f Cdf53 s)) (details2 z)
   high-exact = rw (decode-high f Cdf53 s) (details-exact f k b room (decodeFloats f s) z r)
 
@@ -104,10 +104,10 @@ module _ (f : Format) (k b : ℕ) (room : Room f k b) (s : List ℕ) (z : List �
 -- ---- and of many levels
 
 module _ (f : Format) (levels : ℕ) (s : List ℕ) (z : List ℤ) (e : Exact f levels (decodeFloats f s) z) where
-  pub lows-are : (l : ℕ) → l < levels → Are (3 * suc l) (2 ^ prec f) (decodeFloats f (approxAt (filter53 f) (suc l) s)) (after8 (suc l) z)
+  pub lows-are : (l : ℕ) → l < levels → Are (3 * suc l) (2 ^ prec f) (decodeFloats f (approxAt (filter53 f) (suc l) s)) (numbersAt (suc l) z)
   lows-are l h = rw (decode-approx f (suc l) s) (e .approximations-are l h)
 
-  pub highs-are : (l : ℕ) → l < levels → Are (3 * suc l) (2 ^ prec f) (decodeFloats f (highOf (filter53 f) (approxAt (filter53 f) l s))) (times 4 (details2 (after8 l z)))
+  pub highs-are : (l : ℕ) → l < levels → Are (3 * suc l) (2 ^ prec f) (decodeFloats f (highOf (filter53 f) (approxAt (filter53 f) l s))) (times 4 (details2 (numbersAt l z)))
   highs-are l h = rw (decode-details f l s) (e .details-are l h)
 
   pub bytes-equal : (i : ℕ) → i < length z → T (eq (getD (decodeFloats f (roundTrip (filter53 f) levels s)) i nan) (getD (decodeFloats f s) i nan))
@@ -124,14 +124,14 @@ wavelet-53 binary32 = refl
 wavelet-53 binary64 = refl
 
 -- how many floats the bytes of samples are
-floats-in : (f : Format) (s : List ℕ) → length (decodeFloats f s) ≡ samplesIn f s
+floats-in : (f : Format) (s : List ℕ) → length (decodeFloats f s) ≡ sampleCount f s
 floats-in f s = length-decodeFloats f s ∙ ap (λ (k : ℕ). length s / k) (sym (width-53 f))
 
 -- inputs that are whole and small enough are the exact case
-pub samples-exact : (f : Format) (levels : ℕ) (x : List ℕ) → levels ≤ depthOf (waveletOf (filter53 f)) (samplesIn f x) → 4 * levels ≤ prec f → Inputs (most f levels) (decodeFloats f x)
+pub samples-exact : (f : Format) (levels : ℕ) (x : List ℕ) → levels ≤ depthOf (waveletOf (filter53 f)) (sampleCount f x) → 4 * levels ≤ prec f → Inputs (most f levels) (decodeFloats f x)
     → Exact f levels (decodeFloats f x) (numbersIn f x)
 samples-exact f levels x deep few inputs =
-    let runs : Runs 3 levels (length (decodeFloats f x)) = rw (floats-in f x) (depth-runs 3 (omega arith) levels (samplesIn f x) (rw (wavelet-53 f) at deep)) in
+    let runs : Runs 3 levels (length (decodeFloats f x)) = rw (floats-in f x) (depth-runs 3 (omega arith) levels (sampleCount f x) (rw (wavelet-53 f) at deep)) in
     inputs-exact f levels few (decodeFloats f x) runs inputs
 
 module _ (f : Format) (levels : ℕ) (x : List ℕ) (e : Exact f levels (decodeFloats f x) (numbersIn f x)) where
@@ -143,8 +143,8 @@ module _ (f : Format) (levels : ℕ) (x : List ℕ) (e : Exact f levels (decodeF
       record { approximations-are = lows-are f levels x (numbersIn f x) e l g; details-are = rw below (highs-are f levels x (numbersIn f x) e l g) }
 
   -- all levels forward and back
-  pub trip-same : length x ≡ widthOf (filter53 f) * samplesIn f x → SameNumbers f x (roundTrip (filter53 f) levels x)
+  pub trip-same : length x ≡ widthOf (filter53 f) * sampleCount f x → SameNumbers f x (roundTrip (filter53 f) levels x)
   trip-same whole = record {
     inputs-back = λ i h. bytes-equal f levels x (numbersIn f x) e i (rw (length-map (decodeFloats f x) number, floats-in f x) h);
-    lengths-back = length-trip (filter53 f) levels x (samplesIn f x) whole;
+    lengths-back = length-trip (filter53 f) levels x (sampleCount f x) whole;
   }

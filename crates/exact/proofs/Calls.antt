@@ -18,10 +18,10 @@ use Rattle.dwt.specs.Pyramids.{roundTrip}
 use Rattle.dwt.specs.Calls.{sayMulti, Multi, sayDwt, Dwt}
 use Rattle.dwt.specs.Backward.{MultiBack, Area, LengthsIn}
 use Rattle.dwt.proofs.Multi.{levels-pos}
-use Rattle.dwt.proofs.Lasts.{dwt-ready, dwt-gives}
+use Rattle.dwt.proofs.LastLevel.{dwt-ready, dwt-gives}
 use Rattle.trips.proofs.ThereAndBack.{call-depth, call-approx, call-level, trip-call}
 use Rattle.exact.specs.Exact.{Are, Inputs, details2}
-use Rattle.exact.specs.Levels.{filter53, most, after8, times, Exact, samplesIn, numbersIn, deepest, allDetails, ExactLevel, SameNumbers, ExactBytes}
+use Rattle.exact.specs.Levels.{filter53, most, numbersAt, times, Exact, sampleCount, numbersIn, deepest, allDetails, ExactLevel, SameNumbers, ExactBytes}
 use Rattle.exact.proofs.Bytes.{highs-are, samples-exact, level-exact, trip-same}
 
 -- `dwt` is done with x
@@ -40,7 +40,7 @@ module _ (f : Format) (j : ℕ) (x : List ℕ) {a d u v : List ℕ} {r : Answer}
 -- `multi_dwt` is done with inputs that are whole and small enough, and `multi_idwt` is called on what it gave
 module _ (f : Format) (l : ℕ) (x : List ℕ) {o u v : List ℕ} {r : Answer} {o′ u′ v′ : List ℕ} (call : Multi (filter53 f) l x o u v r o′ u′ v′)
     (isDone : done (sayMulti (filter53 f) l (length x) (length o) (length u) (length v)) ≡ true) {ls p s t : List ℕ} {q : Answer} {p′ s′ t′ : List ℕ}
-    (lengths : LengthsIn (levelsOf l) (samplesIn f x) ls) (output : length p ≡ length x) (first : Area (widthOf (filter53 f)) (length x) s) (second : Area (widthOf (filter53 f)) (length x) t)
+    (lengths : LengthsIn (levelsOf l) (sampleCount f x) ls) (output : length p ≡ length x) (first : Area (widthOf (filter53 f)) (length x) s) (second : Area (widthOf (filter53 f)) (length x) t)
     (back : MultiBack (filter53 f) (deepest f (levelsOf l) x o′) (allDetails f (levelsOf l) x o′) ls p s t q p′ s′ t′)
   where
     -- it is done, and each of the two gives what the exact case promises
@@ -51,13 +51,13 @@ module _ (f : Format) (l : ℕ) (x : List ℕ) {o u v : List ℕ} {r : Answer} {
         levels-are = λ j h m z. dwt-level f j x m z (levelsOf l) isExact h;
         deepest-are = rw (call-approx (filter53 f) l x call isDone) (level-exact f (levelsOf l) x isExact (levelsOf l) (levels-pos l) (omega arith) .approximations-are);
         details-are = λ i h.
-            subst (λ (s : List ℕ). Are (3 * suc i) (2 ^ prec f) (decodeFloats f s) (times 4 (details2 (after8 i (numbersIn f x))))) (sym (call-level (filter53 f) l x call isDone i h))
+            subst (λ (s : List ℕ). Are (3 * suc i) (2 ^ prec f) (decodeFloats f s) (times 4 (details2 (numbersAt i (numbersIn f x))))) (sym (call-level (filter53 f) l x call isDone i h))
             (highs-are f (levelsOf l) x (numbersIn f x) isExact i h);
         back = subst (SameNumbers f x) (sym (trip .1)) (trip-same f (levelsOf l) x isExact (deep .1));
       },
     )
       where
-        deep : (levelsOf l ≤ depthOf (waveletOf (filter53 f)) (samplesIn f x)) × (length x ≡ widthOf (filter53 f) * samplesIn f x)
+        deep : (levelsOf l ≤ depthOf (waveletOf (filter53 f)) (sampleCount f x)) × (length x ≡ widthOf (filter53 f) * sampleCount f x)
         deep = call-depth (filter53 f) l x call isDone
 
         isExact : Exact f (levelsOf l) (decodeFloats f x) (numbersIn f x)

@@ -20,7 +20,7 @@ use Rattle.samples.proofs.Halves.{length-even, length-odd, at-even, at-odd}
 use Rattle.floats.specs.Steps.{oddAt, evenAt, odds, evens, lift}
 use Rattle.floats.specs.Filters.{decimal, steps53, back53}
 use Rattle.floats.specs.Bands.{approxs, details, restored}
-use Rattle.exact.specs.Exact.{Whole, Are, Room, detail, approx, details2, approximations8}
+use Rattle.exact.specs.Exact.{Whole, Are, FormatHolds, detail, approx, details2, approximations8}
 use Rattle.exact.proofs.Scalar.{detail-exact, approx-exact, even-back, odd-back, minus-half, quarter, minus-quarter, half}
 
 -- ---- how long the bands are
@@ -103,7 +103,7 @@ small-odd b z small i l = let q : i < length z / 2 = rw (length-odd (pos 0) z) a
 
 -- ---- one level is exact, and its inverse gives the inputs back
 
-module _ (f : Format) (k b : ℕ) (room : Room f k b) where
+module _ (f : Format) (k b : ℕ) (room : FormatHolds f k b) where
   pub details-exact : (x : List Float) (z : List ℤ) → Are k b x z → Are (k + 1) (4 * b) (details f Cdf53 x) (details2 z)
   unfolding details steps53 details2
   details-exact x z r =

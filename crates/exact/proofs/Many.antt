@@ -9,12 +9,12 @@ use lib.IntN.{ℤ, pos, _*ℤ_}
 use lib.ListN.{length, getD}
 use lib.Pow.{pow-add, pow-mono}
 use Rattle.sizes.specs.declared.Wavelet.the-variants.{Cdf53}
-use Rattle.sizes.specs.Levels.{Runs}
+use Rattle.sizes.specs.Levels.{afterLevels, thereAndBack, Runs}
 use Rattle.sizes.proofs.Depths.{depth-runs, runs-depth}
 use Rattle.samples.proofs.Words.{length-tabulate, getD-tabulate}
 use Rattle.floats.specs.Bands.{approxs, details}
-use Rattle.exact.specs.Exact.{Are, Room, details2, approximations8}
-use Rattle.exact.specs.Levels.{most, after, backAfter, after8, times, Exact}
+use Rattle.exact.specs.Exact.{Are, FormatHolds, details2, approximations8}
+use Rattle.exact.specs.Levels.{most, floatsAt, floatsBack, numbersAt, times, Exact}
 use Rattle.exact.proofs.Whole.{is-scaled, is-eq, abs-mul}
 use Rattle.exact.proofs.Level.{details-exact, approximations-exact, inverse-exact, length-approximations8}
 
@@ -48,7 +48,7 @@ sixteen zero = omega arith
 sixteen (suc l) = omega (arith, pow-succ' 16 l, sixteen l)
 
 -- for the first of them, and for the others
-first : {f : Format} {l k b : ℕ} → Rooms f (suc l) k b → Room f k b
+first : {f : Format} {l k b : ℕ} → Rooms f (suc l) k b → FormatHolds f k b
 first {f} {l} {k} {b} r = record { fine = omega arith; wide = omega (arith, ap (λ (x : ℕ). b * x) (pow-succ' 16 l), mul-le-mul-left (16 * b) (sixteen l)) }
 
 others : {f : Format} {l k b : ℕ} → Rooms f (suc l) k b → Rooms f l (k + 3) (16 * b)
@@ -61,21 +61,21 @@ step : (f : Format) (l k b : ℕ) (x : List Float) (z : List ℤ) → Rooms f (s
 unfolding Runs
 step f l k b x z q d r = (approximations-exact f k b (first q) x z (omega (arith, d .0)) r, rw (length-approximations8 z) (d .1))
 
-after-exact : (f : Format) (l k b : ℕ) (x : List Float) (z : List ℤ) → Rooms f l k b → Runs 3 l (length z) → Are k b x z → Are (k + 3 * l) (b * 16 ^ l) (after f l x) (after8 l z)
-unfolding after after8
+after-exact : (f : Format) (l k b : ℕ) (x : List Float) (z : List ℤ) → Rooms f l k b → Runs 3 l (length z) → Are k b x z → Are (k + 3 * l) (b * 16 ^ l) (floatsAt f l x) (numbersAt l z)
+unfolding afterLevels
 after-exact f zero k b x z q d r = moved (omega arith) (omega (arith, mul-one b)) r
 after-exact f (suc l) k b x z q d r =
     let s = step f l k b x z q d r in
     moved (omega arith) (omega (arith, ap (λ (x : ℕ). b * x) (pow-succ' 16 l)))
     (after-exact f l (k + 3) (16 * b) (approxs f Cdf53 x) (approximations8 z) (others q) (s .1) (s .0))
 
-backAfter-exact : (f : Format) (l k b : ℕ) (x : List Float) (z : List ℤ) → Rooms f l k b → Runs 3 l (length z) → Are k b x z → Are k b (backAfter f l x) z
-unfolding backAfter Runs
-backAfter-exact f zero k b x z q d r = r
-backAfter-exact f (suc l) k b x z q d r =
+floatsBack-exact : (f : Format) (l k b : ℕ) (x : List Float) (z : List ℤ) → Rooms f l k b → Runs 3 l (length z) → Are k b x z → Are k b (floatsBack f l x) z
+unfolding thereAndBack Runs
+floatsBack-exact f zero k b x z q d r = r
+floatsBack-exact f (suc l) k b x z q d r =
     let s = step f l k b x z q d r in
     inverse-exact f k b (first q) _ (details f Cdf53 x) z (omega (arith, d .0)) (λ i h. r .each i h .size)
-    (backAfter-exact f l (k + 3) (16 * b) (approxs f Cdf53 x) (approximations8 z) (others q) (s .1) (s .0)) (details-exact f k b (first q) x z r)
+    (floatsBack-exact f l (k + 3) (16 * b) (approxs f Cdf53 x) (approximations8 z) (others q) (s .1) (s .0)) (details-exact f k b (first q) x z r)
 
 -- ---- the exact case
 
@@ -105,13 +105,13 @@ exact f n h x z d r = record {
       let b = most f n * 16 ^ l in
       let q : Rooms f (suc l) 0 (most f n) = rooms f n (suc l) h g in
       let w : 16 * b ≤ 2 ^ prec f = omega (arith, ap (λ (m : ℕ). most f n * m) (pow-succ' 16 l)) in
-      let a : Are (0 + 3 * l) b (after f l x) (after8 l z) = after-exact f l 0 (most f n) x z (rooms f n l h (omega arith)) (fewer n l (length z) (omega arith) d) r in
+      let a : Are (0 + 3 * l) b (floatsAt f l x) (numbersAt l z) = after-exact f l 0 (most f n) x z (rooms f n l h (omega arith)) (fewer n l (length z) (omega arith) d) r in
       moved (omega arith) (omega arith)
-      (are-scaled (0 + 3 * l + 1) (4 * b) 2 (details f Cdf53 (after f l x)) (details2 (after8 l z))
-      (details-exact f (0 + 3 * l) b (record { fine = omega arith; wide = w }) (after f l x) (after8 l z) a));
+      (are-scaled (0 + 3 * l + 1) (4 * b) 2 (details f Cdf53 (floatsAt f l x)) (details2 (numbersAt l z))
+      (details-exact f (0 + 3 * l) b (record { fine = omega arith; wide = w }) (floatsAt f l x) (numbersAt l z) a));
   inputs-back = λ i l. is-eq _ _ (getD z i (pos 0)) 0 (again .each i l .is) (r .each i l .is);
   lengths-back = again .same ∙ sym (r .same);
 }
   where
-    again : Are 0 (most f n) (backAfter f n x) z
-    again = backAfter-exact f n 0 (most f n) x z (rooms f n n h (le-refl n)) d r
+    again : Are 0 (most f n) (floatsBack f n x) z
+    again = floatsBack-exact f n 0 (most f n) x z (rooms f n n h (le-refl n)) d r

@@ -10,7 +10,7 @@ use lib.ListN.{length}
 use Rattle.answers.specs.declared.err.Answer.{Answer}
 use Rattle.answers.specs.Answers.{answerOf, done}
 use Rattle.sizes.specs.declared.Wavelet.the-variants.{Cdf53}
-use Rattle.sizes.specs.Levels.{Runs}
+use Rattle.sizes.specs.Levels.{afterLevels, thereAndBack, Runs}
 use Rattle.sizes.specs.Calls.{sayForward, Level}
 use Rattle.sizes.proofs.Depths.{two-below, runs-depth}
 use Rattle.sizes.proofs.OneLevel.{forward-ready, forward-ran, inverse-fits, inverse-ran}
@@ -22,7 +22,7 @@ use Rattle.dwt.specs.Calls.{LevelOf, OneForward}
 use Rattle.dwt.proofs.Cuts.{width-pos}
 use Rattle.trips.proofs.Lengths.{length-low, length-high}
 use Rattle.exact.specs.Exact.{Inputs}
-use Rattle.exact.specs.Levels.{filter53, most, Exact, samplesIn, numbersIn, ExactOne}
+use Rattle.exact.specs.Levels.{filter53, most, Exact, sampleCount, numbersIn, ExactOne}
 use Rattle.exact.proofs.Bytes.{samples-exact, level-exact, trip-same}
 
 -- either format has room for one level
@@ -38,10 +38,10 @@ module _ (f : Format) (x : List ℕ) {a d : List ℕ} {r : Answer} {a′ d′ : 
 
   isExact : Exact f 1 (decodeFloats f x) (numbersIn f x)
   unfolding Runs
-  isExact = samples-exact f 1 x (runs-depth _ (two-below (waveletOf (filter53 f))) 1 (samplesIn f x) (level .long, tt)) (one-fits f) inputs
+  isExact = samples-exact f 1 x (runs-depth _ (two-below (waveletOf (filter53 f))) 1 (sampleCount f x) (level .long, tt)) (one-fits f) inputs
 
   given : (a′ ≡ lowOf (filter53 f) x) × (d′ ≡ highOf (filter53 f) x)
-  given = forward-ran (waveletOf (filter53 f)) (widthOf (filter53 f)) (lowOf (filter53 f)) (highOf (filter53 f)) x a d (samplesIn f x) r a′ d′ (width-pos (filter53 f)) level call
+  given = forward-ran (waveletOf (filter53 f)) (widthOf (filter53 f)) (lowOf (filter53 f)) (highOf (filter53 f)) x a d (sampleCount f x) r a′ d′ (width-pos (filter53 f)) level call
 
   -- the bands that it gave have the lengths of a level
   bands : LevelOf (filter53 f) (length x) (length a′) (length d′)
@@ -49,17 +49,17 @@ module _ (f : Format) (x : List ℕ) {a d : List ℕ} {r : Answer} {a′ d′ : 
     long = level .long;
     short = level .short;
     samples = level .samples;
-    approx = ap length (given .0) ∙ length-low (filter53 f) x (samplesIn f x) (level .samples);
-    details = ap length (given .1) ∙ length-high (filter53 f) x (samplesIn f x) (level .samples);
+    approx = ap length (given .0) ∙ length-low (filter53 f) x (sampleCount f x) (level .samples);
+    details = ap length (given .1) ∙ length-high (filter53 f) x (sampleCount f x) (level .samples);
   }
 
   -- both bands are the whole numbers, and the inverse gives the inputs back
   pub exact-one : ExactOne f x a′ d′
-  unfolding approxAt roundTrip
+  unfolding afterLevels thereAndBack
   exact-one =
       let w = waveletOf (filter53 f) in
       let k = widthOf (filter53 f) in
-      let n = samplesIn f x in
+      let n = sampleCount f x in
       let some = width-pos (filter53 f) in
       record {
         bands-are = rw (given .0, given .1) (level-exact f 1 x isExact 1 (omega arith) (omega arith));

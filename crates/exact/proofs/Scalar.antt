@@ -8,7 +8,7 @@ use lib.Ieee.{Float, Format, binary32, binary64, prec, low, add, mul, round}
 use lib.IntN.{ℤ, pos, negℤ, natAbs, _+ℤ_, _-ℤ_, _*ℤ_, +ℤ-comm, +ℤ-negℤ-cancel, -ℤ-+ℤ-cancel}
 use Rattle.floats.specs.Steps.{lift}
 use Rattle.floats.specs.Filters.{decimal}
-use Rattle.exact.specs.Exact.{Worth, Is, Whole, Room, detail, approx}
+use Rattle.exact.specs.Exact.{Worth, Is, Whole, FormatHolds, detail, approx}
 use Rattle.exact.proofs.Whole.{is-add, is-shrunk, is-turned, is-scaled, is-unscaled, abs-add, abs-neg, abs-mul}
 
 -- (l + r) * c + x for a factor c that is 2 ^ -j or -2 ^ -j, where m is k + j
@@ -27,7 +27,7 @@ module _ (f : Format) (k j m : ℕ) (e : k + j ≡ m) (K : m ≤ low f) (c l r x
   lift-takes : Worth c 0 1 j → natAbs (y -ℤ (z +ℤ w)) ≤ 2 ^ prec f → Is (lift f c l r x) (y -ℤ (z +ℤ w)) m
   lift-takes g b = lift-is (negℤ (z +ℤ w)) (is-turned f (add f l r) c (z +ℤ w) k j (omega arith) sum-is g s) b
 
-module _ (f : Format) (k b : ℕ) (room : Room f k b) (c l r x : Float) (z w y : ℤ) where
+module _ (f : Format) (k b : ℕ) (room : FormatHolds f k b) (c l r x : Float) (z w y : ℤ) where
   pub detail-exact : Worth c 0 1 1 → Whole k b l z → Whole k b r w → Whole k b x y → Whole (k + 1) (4 * b) (lift f c l r x) (detail z w y)
   detail-exact g hl hr hx =
       let n : natAbs (detail z w y) ≤ 4 * b = omega (arith, abs-add (y *ℤ pos 2) (negℤ (z +ℤ w)), abs-mul y 2, abs-neg (z +ℤ w), abs-add z w) in

@@ -81,6 +81,6 @@ approximations8 z = evens approx (pos 0) (evenOf (pos 0) z) (details2 z)
 
 -- a level whose inputs are whole numbers over 2 ^ k of size at most b has room: its coefficients are over 2 ^ (k + 3) and of size at most 16 b, and the format
 -- has each such number
-pub record Room (f : Format) (k b : ℕ) : Type 0 where
+pub record FormatHolds (f : Format) (k b : ℕ) : Type 0 where
   pub fine : k + 3 ≤ low f
   pub wide : 16 * b ≤ 2 ^ prec f

@@ -11,9 +11,9 @@ use Rattle.answers.specs.declared.err.Refusal.the-variants.{Done}
 use Rattle.answers.specs.Answers.{answerOf}
 use Rattle.sizes.specs.declared.Wavelet.{Wavelet}
 use Rattle.sizes.specs.declared.Wavelet.the-variants.{Cdf53, Cdf97}
-use Rattle.sizes.specs.Bands.{smallestOf}
+use Rattle.sizes.specs.Lengths.{smallestOf}
 use Rattle.sizes.specs.Calls.{Level}
-use Rattle.sizes.specs.Levels.{places, depthWithin, depthFrom, depthOf}
+use Rattle.sizes.specs.Levels.{afterLevels, countAt, depthWithin, depthFrom, depthOf}
 use Rattle.sizes.proofs.OneLevel.{forward-fits, inverse-fits}
 use Rattle.samples.specs.Le.{Bytes, leAt}
 use Rattle.samples.specs.Words.{tabulate, wordAt, wordsOf}
@@ -55,7 +55,7 @@ module _ (f : Filter) where
   ready x u v ex eu ev = record { some = omega arith; deep = omega (arith, deep (waveletOf f)); short = omega arith; whole = ex; first = omega (arith, eu); second = omega (arith, ev) }
 
   rising : (d u v o : ℕ) → d ≡ k * 6 → u ≡ k * 8 → v ≡ k * 8 → o ≡ k * 8 → Rising f 2 (wordsOf 4 twoFour) d u v o
-  unfolding places lengthsOf total leAt tabulate wordAt wordsOf
+  unfolding afterLevels lengthsOf total leAt tabulate wordAt wordsOf
   rising d u v o ed eu ev eo =
       record {
         fits = lengths-fit (waveletOf f) 2 8 (omega (arith, deep (waveletOf f)));
@@ -73,7 +73,7 @@ module _ (f : Filter) where
   whole o e = rw e (mul-mod-right k 8)
 
   pub each-done : EachDone f
-  unfolding places
+  unfolding afterLevels
   each-done =
       record {
         forward = λ {x} {a} {d} ex ea ed m. number-of (m .answer) (forward-fits (waveletOf f) k 8 (length x) (length a) (length d) (width-pos f) (level (length x) (length a) (length d) ex ea ed));

@@ -7,7 +7,7 @@ use native.Mathlib.Omega.{arith}
 use borrow.Author.Tests.{le-leb, lt-leb}
 use lib.ListN.{getD, take}
 use Rattle.answers.specs.declared.err.Refusal.the-variants.{CutShort}
-use Rattle.sizes.specs.Levels.{places, depthWithin, depthFrom}
+use Rattle.sizes.specs.Levels.{afterLevels, countAt, depthWithin, depthFrom}
 use Rattle.samples.specs.Le.{leAt, leBytes}
 use Rattle.samples.specs.Words.{tabulate, wordAt, wordsOf, bytesOf}
 use Rattle.samples.specs.Integers.{val, residue, wrap, decode, encode}
@@ -48,23 +48,23 @@ room c h = record { output = omega arith; first = omega arith; second = omega ar
 
 -- no section of details is whole, and one is
 none : (b : ℕ) → b ≤ 24 → wholeOf headSize 1 2 5 b ≡ 0
-unfolding places lengthsOf firstWhole
+unfolding afterLevels lengthsOf firstWhole
 none b h = rw (lt-leb 5 (b - 20) (omega arith))
 
 one : (b : ℕ) → 25 ≤ b → b ≤ 30 → wholeOf headSize 1 2 5 b ≡ 1
-unfolding places lengthsOf firstWhole
+unfolding afterLevels lengthsOf firstWhole
 one b h g = rw (le-leb 5 (b - 20) (omega arith), lt-leb 6 (b - 20 - 5) (omega arith))
 
 -- what so many whole sections give
-given : (b m : ℕ) → 20 ≤ b → b ≤ 31 → wholeOf headSize 1 2 5 b ≡ m → places (2 - m) 5 ≤ 5 → OpensTo (take b (fileOf Cdf53I8 2 14 five)) 1 14 5 5 5 (2 - m) (places (2 - m) 5) (approxAt Cdf53I8 (2 - m) five)
-unfolding places
+given : (b m : ℕ) → 20 ≤ b → b ≤ 31 → wholeOf headSize 1 2 5 b ≡ m → countAt (2 - m) 5 ≤ 5 → OpensTo (take b (fileOf Cdf53I8 2 14 five)) 1 14 5 5 5 (2 - m) (countAt (2 - m) 5) (approxAt Cdf53I8 (2 - m) five)
+unfolding afterLevels
 given b m c e q h =
-    subst (λ (i : ℕ). OpensTo (take b (fileOf Cdf53I8 2 14 five)) 1 14 5 5 5 (2 - i) (places (2 - i) 5) (approxAt Cdf53I8 (2 - i) five)) q
-    (survives (filed recording) sampled b c e (subst (λ (i : ℕ). Roomy 1 (places (2 - i) 5) 5 5 5) (sym q) (room (places (2 - m) 5) h)))
+    subst (λ (i : ℕ). OpensTo (take b (fileOf Cdf53I8 2 14 five)) 1 14 5 5 5 (2 - i) (countAt (2 - i) 5) (approxAt Cdf53I8 (2 - i) five)) q
+    (survives (filed recording) sampled b c e (subst (λ (i : ℕ). Roomy 1 (countAt (2 - i) 5) 5 5 5) (sym q) (room (countAt (2 - m) 5) h)))
 
 -- they hold
 pub p6-to-p10 : File
-unfolding places approxAt leAt leBytes tabulate wordAt wordsOf bytesOf val residue wrap decode encode detail details approx approxs low high
+unfolding afterLevels leAt leBytes tabulate wordAt wordsOf bytesOf val residue wrap decode encode detail details approx approxs low high
 p6-to-p10 =
     record {
       p6 = file;

@@ -10,7 +10,7 @@ use Rattle.answers.specs.Answers.{answerOf}
 use Rattle.answers.specs.Checks.{left}
 use Rattle.sizes.specs.declared.Wavelet.the-variants.{Cdf53}
 use Rattle.sizes.specs.Calls.{sayForward, sayInverse}
-use Rattle.sizes.specs.Levels.{places, depthWithin, depthFrom}
+use Rattle.sizes.specs.Levels.{afterLevels, countAt, depthWithin, depthFrom}
 use Rattle.notes.specs.Notes.{spanOf, sayColumn, saySpan}
 use Rattle.notes.specs.Windows.{sayWindow}
 use Rattle.samples.specs.Le.{leAt, leBytes}
@@ -47,7 +47,7 @@ unfolding sayInverse
 says-inverse = refl
 
 says-last : sayDwt Cdf53I8 2 5 2 1 5 5 ≡ Done 0 0
-unfolding sayDwt places depthFrom depthWithin
+unfolding sayDwt afterLevels depthFrom depthWithin
 says-last = refl
 
 says-down : sayMulti Cdf53I8 2 5 5 5 5 ≡ Done 0 0
@@ -63,7 +63,7 @@ unfolding sayColumn depthFrom depthWithin
 says-column = refl
 
 says-span : saySpan 5 1 1 ≡ Done 2 3
-unfolding saySpan spanOf places depthFrom depthWithin
+unfolding saySpan spanOf afterLevels depthFrom depthWithin
 says-span = refl
 
 says-window : sayWindow 1 2 1 0 1 1 ≡ Done 1 1
@@ -71,15 +71,15 @@ unfolding sayWindow
 says-window = refl
 
 says-section : saySection thirtyOne 1 14 2 ≡ Done 24 1
-unfolding saySection walkOf oneOf leAt places depthFrom depthWithin
+unfolding saySection walkOf oneOf leAt afterLevels depthFrom depthWithin
 says-section = refl
 
 says-cut : saySection (take 25 thirtyOne) 1 14 2 ≡ Done 24 1
-unfolding saySection walkOf oneOf leAt places depthFrom depthWithin
+unfolding saySection walkOf oneOf leAt afterLevels depthFrom depthWithin
 says-cut = refl
 
 section-two : sectionIn thirtyOne 1 14 2 ≡ 248 ∷ []
-unfolding sectionIn walkOf oneOf leAt places
+unfolding sectionIn walkOf oneOf leAt afterLevels
 section-two = rw says-section refl
 
 says-short : (sayMulti Cdf53I8 1 2 2 2 2 ≡ MinFilterSize 2 3) × (sayMulti Cdf53F32 1 8 8 8 8 ≡ BufferWasTooSmallForLevel)
@@ -97,7 +97,7 @@ unfolding leAt leBytes tabulate wordAt wordsOf bytesOf val residue wrap decode e
 wrapped m = m .approx ∙ ap (λ s. left s (low 1 (127 ∷ 128 ∷ 127 ∷ [])) two0) says-forward
 
 last-level : {r : Answer} {a d u v : List ℕ} → Dwt Cdf53I8 2 five two0 one0 five0 five0 r a d u v → a ≡ 255 ∷ 3 ∷ []
-unfolding leAt leBytes tabulate wordAt wordsOf bytesOf val residue wrap decode encode detail details approx approxs low high approxAt
+unfolding leAt leBytes tabulate wordAt wordsOf bytesOf val residue wrap decode encode detail details approx approxs low high afterLevels
 last-level m = m .approx ∙ ap (λ s. left s (low 1 (approxAt Cdf53I8 1 five)) two0) says-last
 
 restores : {r : Answer} {o : List ℕ} → OneInverse Cdf53I8 (3 ∷ 4 ∷ []) (4 ∷ []) three0 r o → o ≡ three
@@ -132,7 +132,7 @@ not-all-refused : NotAllRefused
 not-all-refused = record { calls = each-done; depth = λ w. ap (λ l. Done l 0) (deep w); section = says-section; column = says-column; span = says-span; window = says-window }
 
 pub shut-out : ShutOut
-unfolding leAt leBytes tabulate wordAt wordsOf bytesOf val residue wrap decode encode detail details approx approxs low high approxAt evenOf oddOf splitOnly restSplit detailsUp
+unfolding leAt leBytes tabulate wordAt wordsOf bytesOf val residue wrap decode encode detail details approx approxs low high afterLevels evenOf oddOf splitOnly restSplit detailsUp
 shut-out =
     record {
       not-all-refused = not-all-refused;

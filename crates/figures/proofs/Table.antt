@@ -1,4 +1,5 @@
 -- The table holds: each figure is computed from the definitions.
+use Rattle.sizes.specs.Levels.{afterLevels}
 use mathlib.Core.Path.{refl}
 use Rattle.samples.specs.Le.{leAt, leBytes}
 use Rattle.samples.specs.Words.{tabulate, wordAt, wordsOf, bytesOf}
@@ -11,7 +12,7 @@ use Rattle.figures.specs.Worked.{Worked}
 use Rattle.figures.proofs.Files.{p6-to-p10}
 
 pub worked : Worked
-unfolding leAt leBytes tabulate wordAt wordsOf bytesOf val residue wrap decode encode detail details approx approxs even odd sample restored low high back approxAt pyramid samplesOf t800.pse t800.extended t800.high
+unfolding leAt leBytes tabulate wordAt wordsOf bytesOf val residue wrap decode encode detail details approx approxs even odd sample restored low high back afterLevels pyramid samplesOf t800.pse t800.extended t800.high
 worked =
     record {
       p1 = record { low = refl; high = refl; back = refl };

@@ -6,11 +6,11 @@ use native.Mathlib.Nat.{mul-add}
 use lib.Ieee.{Float, nan, Format}
 use lib.ListN.{length}
 use Rattle.sizes.specs.declared.Wavelet.{Wavelet}
-use Rattle.sizes.specs.Bands.{ups, downs}
+use Rattle.sizes.specs.Lengths.{approxLength, detailsLength}
 use Rattle.samples.specs.Floats.{width, decodeFloats}
 use Rattle.samples.proofs.Halves.{length-even, length-odd, length-joined}
 use Rattle.samples.proofs.FloatLaws.{length-decodeFloats, length-encodeFloats}
-use Rattle.floats.specs.Filters.{stepsOf, backOf}
+use Rattle.floats.specs.Filters.{stepsOf, backSteps}
 use Rattle.floats.specs.Bands.{approxs, details, restored, low, high, back}
 use Rattle.floats.proofs.Runs.{length-runA, length-runD}
 
@@ -18,31 +18,31 @@ module _ (f : Format) (w : Wavelet) where
   -- ---- of floats
 
   -- the approximations
-  pub length-approxs : (x : List Float) → length (approxs f w x) ≡ ups (length x)
+  pub length-approxs : (x : List Float) → length (approxs f w x) ≡ approxLength (length x)
   unfolding approxs
   length-approxs x = length-runA f (stepsOf f w) _ _ ∙ length-even nan x
 
   -- the details
-  pub length-details : (x : List Float) → length (details f w x) ≡ downs (length x)
+  pub length-details : (x : List Float) → length (details f w x) ≡ detailsLength (length x)
   unfolding details
   length-details x = length-runD f (stepsOf f w) _ _ ∙ length-odd nan x
 
   -- the samples of two bands
   pub length-restored : (a d : List Float) → length (restored f w a d) ≡ length a + length d
   unfolding restored
-  length-restored a d = length-joined nan _ _ ∙ rw (length-runA f (backOf f w) a d, length-runD f (backOf f w) a d)
+  length-restored a d = length-joined nan _ _ ∙ rw (length-runA f (backSteps f w) a d, length-runD f (backSteps f w) a d)
 
   -- ---- of bytes
 
   -- the approximations of a list of bytes
-  pub length-low : (x : List ℕ) → length (low f w x) ≡ width f * ups (length x / width f)
+  pub length-low : (x : List ℕ) → length (low f w x) ≡ width f * approxLength (length x / width f)
   unfolding low
-  length-low x = length-encodeFloats f _ ∙ ap (λ n. width f * n) (length-approxs (decodeFloats f x) ∙ ap ups (length-decodeFloats f x))
+  length-low x = length-encodeFloats f _ ∙ ap (λ n. width f * n) (length-approxs (decodeFloats f x) ∙ ap approxLength (length-decodeFloats f x))
 
   -- its details
-  pub length-high : (x : List ℕ) → length (high f w x) ≡ width f * downs (length x / width f)
+  pub length-high : (x : List ℕ) → length (high f w x) ≡ width f * detailsLength (length x / width f)
   unfolding high
-  length-high x = length-encodeFloats f _ ∙ ap (λ n. width f * n) (length-details (decodeFloats f x) ∙ ap downs (length-decodeFloats f x))
+  length-high x = length-encodeFloats f _ ∙ ap (λ n. width f * n) (length-details (decodeFloats f x) ∙ ap detailsLength (length-decodeFloats f x))
 
   -- the samples of two bands
   pub length-back : (a d : List ℕ) → length (back f w a d) ≡ width f * (length a / width f) + width f * (length d / width f)

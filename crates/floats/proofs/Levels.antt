@@ -7,7 +7,7 @@ use lib.Ieee.{nan, Format}
 use lib.ListN.{length}
 use Rattle.sizes.specs.declared.Wavelet.{Wavelet}
 use Rattle.sizes.specs.declared.Wavelet.the-variants.{Cdf53, Cdf97}
-use Rattle.sizes.specs.Bands.{ups, downs, smallestOf}
+use Rattle.sizes.specs.Lengths.{approxLength, detailsLength, smallestOf}
 use Rattle.sizes.specs.Calls.{Level}
 use Rattle.samples.specs.Halves.{evenOf, oddOf, joined}
 use Rattle.samples.specs.Floats.{width, decodeFloats, encodeFloats}
@@ -15,9 +15,9 @@ use Rattle.samples.proofs.Words.{holds}
 use Rattle.samples.proofs.Halves.{length-even, length-odd, length-joined, even-joined, odd-joined}
 use Rattle.samples.proofs.FloatLaws.{width-pos, length-decodeFloats}
 use Rattle.floats.specs.Steps.{Step}
-use Rattle.floats.specs.Filters.{stepsOf, backOf}
+use Rattle.floats.specs.Filters.{stepsOf, backSteps}
 use Rattle.floats.specs.Bands.{approxs, details, restored, low, high, back}
-use Rattle.floats.specs.Loops.{LentLow, Lent, Bands, Ran}
+use Rattle.floats.specs.Loops.{LentLow, Lent, StoredBands, Ran}
 use Rattle.floats.specs.Lanes.{runOn, Lanes, RanOn}
 use Rattle.floats.proofs.Fits.{Fit, stored-encode, fit-decode, fit-even, fit-odd, fit-joined}
 use Rattle.floats.proofs.Splits.{Split}
@@ -35,10 +35,10 @@ ready w f {d = d} l = let p = ready-low w f l in record { long = p .long; sample
 
 module _ {f : Format} (x : List ℕ) {a d : List ℕ} (e : Split f x a d) where
   -- the evens and the odds of three samples or more are bands
-  pub split-bands : 3 ≤ length x / width f → Bands f a d
+  pub split-bands : 3 ≤ length x / width f → StoredBands f a d
   split-bands long =
-      let sa = stored-encode f (ups (length x / width f)) _ a (e .0) (length-even nan _ ∙ rw (length-decodeFloats f x)) (fit-even f x) in
-      let sd = stored-encode f (downs (length x / width f)) _ d (e .1) (length-odd nan _ ∙ rw (length-decodeFloats f x)) (fit-odd f x) in
+      let sa = stored-encode f (approxLength (length x / width f)) _ a (e .0) (length-even nan _ ∙ rw (length-decodeFloats f x)) (fit-even f x) in
+      let sd = stored-encode f (detailsLength (length x / width f)) _ d (e .1) (length-odd nan _ ∙ rw (length-decodeFloats f x)) (fit-odd f x) in
       let na = sa .holds .count in
       let nd = sd .holds .count in
       record { approx = rw na sa; details = rw nd sd; some = omega arith; fewer = omega arith; near = omega arith }
@@ -65,10 +65,10 @@ module _ {f : Format} {o a d : List ℕ} (l : Lent f o a d) {x : List ℕ} (e : 
       record { stored = rw n s; long = omega (arith, l .long) }
 
   -- and a filter's schedule of the inverse makes the samples of them
-  pub run-back : (w : Wavelet) {ss : List Step} {x′ : List ℕ} → ss ≡ backOf f w → RanOn f ss x x′ → x′ ≡ back f w a d
+  pub run-back : (w : Wavelet) {ss : List Step} {x′ : List ℕ} → ss ≡ backSteps f w → RanOn f ss x x′ → x′ ≡ back f w a d
   unfolding back restored runOn
   run-back w es r =
       let xs : decodeFloats f x ≡ joined nan (decodeFloats f a) (decodeFloats f d) = rw e fit in
-      let na : length (decodeFloats f a) ≡ ups (length o / width f) = length-decodeFloats f a ∙ l .approx .count in
-      let nd : length (decodeFloats f d) ≡ downs (length o / width f) = length-decodeFloats f d ∙ l .details .count in
+      let na : length (decodeFloats f a) ≡ approxLength (length o / width f) = length-decodeFloats f a ∙ l .approx .count in
+      let nd : length (decodeFloats f d) ≡ detailsLength (length o / width f) = length-decodeFloats f d ∙ l .details .count in
       r .output ∙ rw (es, xs, even-joined nan (decodeFloats f a) (decodeFloats f d) (omega arith) (omega arith), odd-joined nan (decodeFloats f a) (decodeFloats f d) (omega arith) (omega arith))

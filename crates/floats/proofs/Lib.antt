@@ -1,6 +1,6 @@
 pub mod Fits
 pub mod Midway
-pub mod Turns
+pub mod BandTurns
 pub mod Runs
 pub mod Splits
 pub mod Levels

@@ -11,7 +11,7 @@ use Rattle.samples.specs.Floats.{width, decodeFloats, encodeFloats}
 use Rattle.samples.proofs.Words.{length-tabulate, holds}
 use Rattle.samples.proofs.FloatLaws.{length-decodeFloats}
 use Rattle.floats.specs.Steps.{lift, odds, evens, scaled, Step, oddly, evenly, scaling, stepA, stepD, runA, runD}
-use Rattle.floats.specs.Loops.{Stored, Bands, Ran}
+use Rattle.floats.specs.Loops.{Stored, StoredBands, Ran}
 use Rattle.floats.proofs.Fits.{stored-encode, fit-decode, fit-runA, fit-runD}
 
 module _ (f : Format) where
@@ -47,7 +47,7 @@ module _ (f : Format) where
 pub ran-scaled : {f : Format} {p q : Float} {a d a′ d′ : List ℕ} → a′ ≡ encodeFloats f (scaled f p (decodeFloats f a)) → d′ ≡ encodeFloats f (scaled f q (decodeFloats f d)) → Ran f (scaling p q ∷ []) a d a′ d′
 ran-scaled ea ed = record { approx = ea; details = ed }
 
-module _ {f : Format} {a d : List ℕ} (b : Bands f a d) where
+module _ {f : Format} {a d : List ℕ} (b : StoredBands f a d) where
   ran-none : Ran f [] a d a d
   ran-none = record { approx = sym (b .approx .plain); details = sym (b .details .plain) }
 
@@ -66,7 +66,7 @@ module _ {f : Format} {a d : List ℕ} (b : Bands f a d) where
     storedD : Stored f (length d / width f) d′
     storedD = stored-encode f _ (runD f ss (decodeFloats f a) (decodeFloats f d)) d′ (r .details) (length-runD f ss _ _ ∙ length-decodeFloats f d) (fit-runD f ss _ _ (fit-decode f a) (fit-decode f d))
 
-    ran-bands : Bands f a′ d′
+    ran-bands : StoredBands f a′ d′
     ran-bands =
         let na = storedA .holds .count in
         let nd = storedD .holds .count in
@@ -96,16 +96,16 @@ front-step kind s z i h = rw add-one (take-suc (map kind s) i (kind z) (rw (leng
 
 -- the loop over a schedule of k steps: the bands are what the first i of them leave
 pub record RanTo (f : Format) {S : Type 0} (kind : S → Step) (s : List S) (k : ℕ) (a d : List ℕ) (i : ℕ) (a₁ d₁ : List ℕ) : Type 0 where
-  pub bands : Bands f a d
+  pub bands : StoredBands f a d
   pub count : length s ≡ k
   pub ran : Ran f (take i (map kind s)) a d a₁ d₁
 
 module _ {f : Format} {S : Type 0} {kind : S → Step} {s : List S} {k : ℕ} {a d : List ℕ} where
-  pub ranTo-none : Bands f a d → length s ≡ k → RanTo f kind s k a d 0 a d
+  pub ranTo-none : StoredBands f a d → length s ≡ k → RanTo f kind s k a d 0 a d
   ranTo-none b n = record { bands = b; count = n; ran = ran-none b }
 
   module _ {i : ℕ} {a₁ d₁ : List ℕ} (r : RanTo f kind s k a d i a₁ d₁) where
-    pub ranTo-bands : Bands f a₁ d₁
+    pub ranTo-bands : StoredBands f a₁ d₁
     ranTo-bands = ran-bands (r .bands) (r .ran)
 
     pub ranTo-lengthA : length a₁ ≡ length a

@@ -8,7 +8,7 @@ use borrow.Author.Tests.{eq-eqb, ne-eqb}
 use lib.Dec.{eqb}
 use lib.Ieee.{Float, nan, Format, toBits}
 use lib.ListN.{length, getD}
-use Rattle.sizes.specs.Bands.{ups, downs}
+use Rattle.sizes.specs.Lengths.{approxLength, detailsLength}
 use Rattle.samples.specs.Words.{tabulate, Front}
 use Rattle.samples.specs.Halves.{evenOf, oddOf, joined}
 use Rattle.samples.specs.Floats.{width, floatAt, putFloat, decodeFloats, encodeFloats}
@@ -31,10 +31,10 @@ module _ (f : Format) (n : ℕ) (g : ℕ → Float) where
 module _ (f : Format) (x : List ℕ) where
   -- the first i evens of the samples in x are in a, the first i odds in d
   abbrev pub Evens : ℕ → List ℕ → Type 0
-  Evens = FloatFront f (ups (length x / width f)) (λ i. getD (decodeFloats f x) (2 * i) nan)
+  Evens = FloatFront f (approxLength (length x / width f)) (λ i. getD (decodeFloats f x) (2 * i) nan)
 
   abbrev pub Odds : ℕ → List ℕ → Type 0
-  Odds = FloatFront f (downs (length x / width f)) (λ i. getD (decodeFloats f x) (2 * i + 1) nan)
+  Odds = FloatFront f (detailsLength (length x / width f)) (λ i. getD (decodeFloats f x) (2 * i + 1) nan)
 
   evens-more : {i j : ℕ} {s t : List ℕ} → Evens i s → j ≡ i → 2 * i < length x / width f → t ≡ putFloat f s j (floatAt f x (2 * j)) → Evens (i + 1) t
   evens-more {j = j} h ej hi put = floats-more f _ _ h ej (omega arith) (sym (at-decodeFloats f x (2 * j) (omega arith))) put
@@ -42,11 +42,11 @@ module _ (f : Format) (x : List ℕ) where
   pub odds-more : {i : ℕ} {s t : List ℕ} {v : Float} → Odds i s → 2 * i + 1 < length x / width f → v ≡ floatAt f x (2 * i + 1) → t ≡ putFloat f s i v → Odds (i + 1) t
   odds-more {i} h hi e put = floats-more f _ _ h refl (omega arith) (e ∙ sym (at-decodeFloats f x (2 * i + 1) (omega arith))) put
 
-  evens-done : {i : ℕ} {s : List ℕ} → Evens i s → i ≡ ups (length x / width f) → s ≡ encodeFloats f (evenOf nan (decodeFloats f x))
+  evens-done : {i : ℕ} {s : List ℕ} → Evens i s → i ≡ approxLength (length x / width f) → s ≡ encodeFloats f (evenOf nan (decodeFloats f x))
   unfolding evenOf
   evens-done h e = rw (length-decodeFloats f x) (floats-all f _ _ h e)
 
-  pub odds-done : {i : ℕ} {s : List ℕ} → Odds i s → i ≡ downs (length x / width f) → s ≡ encodeFloats f (oddOf nan (decodeFloats f x))
+  pub odds-done : {i : ℕ} {s : List ℕ} → Odds i s → i ≡ detailsLength (length x / width f) → s ≡ encodeFloats f (oddOf nan (decodeFloats f x))
   unfolding oddOf
   odds-done h e = rw (length-decodeFloats f x) (floats-all f _ _ h e)
 

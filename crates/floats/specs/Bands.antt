@@ -6,7 +6,7 @@ use Rattle.sizes.specs.declared.Wavelet.{Wavelet}
 use Rattle.samples.specs.Halves.{evenOf, oddOf, joined}
 use Rattle.samples.specs.Floats.{decodeFloats, encodeFloats}
 use Rattle.floats.specs.Steps.{runA, runD}
-use Rattle.floats.specs.Filters.{stepsOf, backOf}
+use Rattle.floats.specs.Filters.{stepsOf, backSteps}
 
 -- the approximations and the details of floats x
 unfoldable pub approxs : Format → Wavelet → List Float → List Float
@@ -17,7 +17,7 @@ details f w x = runD f (stepsOf f w) (evenOf nan x) (oddOf nan x)
 
 -- the floats whose bands are a and d
 unfoldable pub restored : Format → Wavelet → List Float → List Float → List Float
-restored f w a d = joined nan (runA f (backOf f w) a d) (runD f (backOf f w) a d)
+restored f w a d = joined nan (runA f (backSteps f w) a d) (runD f (backSteps f w) a d)
 
 -- the same on bytes
 unfoldable pub low : Format → Wavelet → List ℕ → List ℕ

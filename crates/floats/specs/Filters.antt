@@ -10,7 +10,7 @@ use Rattle.floats.specs.Steps.{Step, oddly, evenly, scaling}
 
 -- digits / 10 ^ places, below zero where s says so, rounded once
 unfoldable pub decimal : Format → Bool → ℕ → ℕ → Float
-decimal f s digits places = round f s digits (10 ^ places)
+decimal f s digits countAt = round f s digits (10 ^ countAt)
 
 -- a float rounded once to the format f
 unfoldable pub rounded : Format → Float → Float
@@ -75,6 +75,6 @@ abbrev pub stepsOf : Format → Wavelet → List Step
 stepsOf f Cdf53 = steps53 f
 stepsOf f Cdf97 = steps97 (factorsOf f)
 
-abbrev pub backOf : Format → Wavelet → List Step
-backOf f Cdf53 = back53 f
-backOf f Cdf97 = back97 (turned (factorsOf f))
+abbrev pub backSteps : Format → Wavelet → List Step
+backSteps f Cdf53 = back53 f
+backSteps f Cdf97 = back97 (turned (factorsOf f))

@@ -4,7 +4,7 @@ use mathlib.Core.Path.{_≡_}
 use Prim.Native.Nat.{ℕ, _+_, _/_, _≤_, _<_}
 use lib.Ieee.{Format}
 use lib.ListN.{length}
-use Rattle.sizes.specs.Bands.{ups, downs}
+use Rattle.sizes.specs.Lengths.{approxLength, detailsLength}
 use Rattle.samples.specs.Words.{Holds}
 use Rattle.samples.specs.Floats.{width, decodeFloats, encodeFloats}
 use Rattle.floats.specs.Steps.{Step, runA, runD}
@@ -13,14 +13,14 @@ use Rattle.floats.specs.Steps.{Step, runA, runD}
 pub record LentLow (f : Format) (x a : List ℕ) : Type 0 where
   pub long : 3 ≤ length x / width f
   pub samples : Holds (width f) (length x / width f) x
-  pub approx : Holds (width f) (ups (length x / width f)) a
+  pub approx : Holds (width f) (approxLength (length x / width f)) a
 
 -- and d as many as they have details
 pub record Lent (f : Format) (x a d : List ℕ) : Type 0 where
   pub long : 3 ≤ length x / width f
   pub samples : Holds (width f) (length x / width f) x
-  pub approx : Holds (width f) (ups (length x / width f)) a
-  pub details : Holds (width f) (downs (length x / width f)) d
+  pub approx : Holds (width f) (approxLength (length x / width f)) a
+  pub details : Holds (width f) (detailsLength (length x / width f)) d
 
 -- s is n floats, each by the pattern that it is written by: a NaN by its one pattern
 pub record Stored (f : Format) (n : ℕ) (s : List ℕ) : Type 0 where
@@ -28,7 +28,7 @@ pub record Stored (f : Format) (n : ℕ) (s : List ℕ) : Type 0 where
   pub plain : encodeFloats f (decodeFloats f s) ≡ s
 
 -- the two bands of a level
-pub record Bands (f : Format) (a d : List ℕ) : Type 0 where
+pub record StoredBands (f : Format) (a d : List ℕ) : Type 0 where
   pub approx : Stored f (length a / width f) a
   pub details : Stored f (length d / width f) d
   pub some : 0 < length d / width f

@@ -7,7 +7,7 @@ ghost use lib.Ieee.{binary64, nan, mul};
 ghost use Rattle.samples.specs.Halves.{evenOf, oddOf, joined};
 ghost use Rattle.samples.specs.Floats.{floatAt, putFloat, decodeFloats, encodeFloats, Plain};
 ghost use Rattle.floats.specs.Steps.{odds, evens, lift, scaled};
-ghost use Rattle.floats.specs.Loops.{Lent, Stored, Bands, Ran};
+ghost use Rattle.floats.specs.Loops.{Lent, Stored, StoredBands, Ran};
 ghost use Rattle.floats.specs.Lanes.{lane, scaledLanes, Lanes, RanOn};
 ghost use Rattle.floats.specs.Kinds.{kind64};
 use crate::mla::fmla_f64;
@@ -53,7 +53,7 @@ fn lift_at_f64(s: &mut [u8], i: usize, left: f64, right: f64, c: f64)
 
 // "Odds c": each detail from the approximations on either side. The mirrored end stays out of the loop, so that LLVM takes several floats at a time.
 fn dwt97_forward_update_odd_f64(a: &[u8], d: &mut [u8], c: f64)
-    requires { ⌜ Bands binary64 (now a) (now d) ⌝ }
+    requires { ⌜ StoredBands binary64 (now a) (now d) ⌝ }
     ensures { λ _. ⌜ now (d .exit) ≡ encodeFloats binary64 (odds (lift binary64 c) nan (decodeFloats binary64 (now (a .entry))) (decodeFloats binary64 (now (d .entry)))) ⌝ }
 {
     let na = a.len() / 8;
@@ -72,7 +72,7 @@ fn dwt97_forward_update_odd_f64(a: &[u8], d: &mut [u8], c: f64)
 
 // "Evens c": each approximation from the details on either side. The right neighbour is the next left one, so that the first place needs no turn of its own.
 fn dwt97_forward_update_even_f64(a: &mut [u8], d: &[u8], c: f64)
-    requires { ⌜ Bands binary64 (now a) (now d) ⌝ }
+    requires { ⌜ StoredBands binary64 (now a) (now d) ⌝ }
     ensures { λ _. ⌜ now (a .exit) ≡ encodeFloats binary64 (evens (lift binary64 c) nan (decodeFloats binary64 (now (a .entry))) (decodeFloats binary64 (now (d .entry)))) ⌝ }
 {
     let na = a.len() / 8;
@@ -115,7 +115,7 @@ fn dwt97_scale_f64(s: &mut [u8], k: f64)
 
 // One step on the two bands.
 fn apply_f64(step: Step64, a: &mut [u8], d: &mut [u8])
-    requires { ⌜ Bands binary64 (now a) (now d) ⌝ }
+    requires { ⌜ StoredBands binary64 (now a) (now d) ⌝ }
     ensures { λ _. ⌜ Ran binary64 (kind64 step ∷ []) (now (a .entry)) (now (d .entry)) (now (a .exit)) (now (d .exit)) ⌝ }
 {
     match step {
@@ -130,7 +130,7 @@ fn apply_f64(step: Step64, a: &mut [u8], d: &mut [u8])
 
 // The schedules of 5/3, of two steps, on the two bands.
 pub fn run2_f64(schedule: [Step64; 2], a: &mut [u8], d: &mut [u8])
-    requires { ⌜ Bands binary64 (now a) (now d) ⌝ }
+    requires { ⌜ StoredBands binary64 (now a) (now d) ⌝ }
     ensures { λ _. ⌜ Ran binary64 (map kind64 schedule) (now (a .entry)) (now (d .entry)) (now (a .exit)) (now (d .exit)) ⌝ }
 {
     let mut i = 0;
@@ -143,7 +143,7 @@ pub fn run2_f64(schedule: [Step64; 2], a: &mut [u8], d: &mut [u8])
 
 // The schedules of 9/7, of five.
 pub fn run5_f64(schedule: [Step64; 5], a: &mut [u8], d: &mut [u8])
-    requires { ⌜ Bands binary64 (now a) (now d) ⌝ }
+    requires { ⌜ StoredBands binary64 (now a) (now d) ⌝ }
     ensures { λ _. ⌜ Ran binary64 (map kind64 schedule) (now (a .entry)) (now (d .entry)) (now (a .exit)) (now (d .exit)) ⌝ }
 {
     let mut i = 0;

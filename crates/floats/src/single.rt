@@ -7,7 +7,7 @@ ghost use lib.Ieee.{binary32, nan, mul};
 ghost use Rattle.samples.specs.Halves.{evenOf, oddOf, joined};
 ghost use Rattle.samples.specs.Floats.{floatAt, putFloat, decodeFloats, encodeFloats, Plain};
 ghost use Rattle.floats.specs.Steps.{odds, evens, lift, scaled};
-ghost use Rattle.floats.specs.Loops.{Lent, Stored, Bands, Ran};
+ghost use Rattle.floats.specs.Loops.{Lent, Stored, StoredBands, Ran};
 ghost use Rattle.floats.specs.Lanes.{lane, scaledLanes, Lanes, RanOn};
 ghost use Rattle.floats.specs.Kinds.{kind32};
 use crate::mla::fmla_f32;
@@ -53,7 +53,7 @@ fn lift_at_f32(s: &mut [u8], i: usize, left: f32, right: f32, c: f32)
 
 // "Odds c": each detail from the approximations on either side. The mirrored end stays out of the loop, so that LLVM takes several floats at a time.
 fn dwt97_forward_update_odd_f32(a: &[u8], d: &mut [u8], c: f32)
-    requires { ⌜ Bands binary32 (now a) (now d) ⌝ }
+    requires { ⌜ StoredBands binary32 (now a) (now d) ⌝ }
     ensures { λ _. ⌜ now (d .exit) ≡ encodeFloats binary32 (odds (lift binary32 c) nan (decodeFloats binary32 (now (a .entry))) (decodeFloats binary32 (now (d .entry)))) ⌝ }
 {
     let na = a.len() / 4;
@@ -72,7 +72,7 @@ fn dwt97_forward_update_odd_f32(a: &[u8], d: &mut [u8], c: f32)
 
 // "Evens c": each approximation from the details on either side. The right neighbour is the next left one, so that the first place needs no turn of its own.
 fn dwt97_forward_update_even_f32(a: &mut [u8], d: &[u8], c: f32)
-    requires { ⌜ Bands binary32 (now a) (now d) ⌝ }
+    requires { ⌜ StoredBands binary32 (now a) (now d) ⌝ }
     ensures { λ _. ⌜ now (a .exit) ≡ encodeFloats binary32 (evens (lift binary32 c) nan (decodeFloats binary32 (now (a .entry))) (decodeFloats binary32 (now (d .entry)))) ⌝ }
 {
     let na = a.len() / 4;
@@ -115,7 +115,7 @@ fn dwt97_scale_f32(s: &mut [u8], k: f32)
 
 // One step on the two bands.
 fn apply_f32(step: Step32, a: &mut [u8], d: &mut [u8])
-    requires { ⌜ Bands binary32 (now a) (now d) ⌝ }
+    requires { ⌜ StoredBands binary32 (now a) (now d) ⌝ }
     ensures { λ _. ⌜ Ran binary32 (kind32 step ∷ []) (now (a .entry)) (now (d .entry)) (now (a .exit)) (now (d .exit)) ⌝ }
 {
     match step {
@@ -130,7 +130,7 @@ fn apply_f32(step: Step32, a: &mut [u8], d: &mut [u8])
 
 // The schedules of 5/3, of two steps, on the two bands.
 pub fn run2_f32(schedule: [Step32; 2], a: &mut [u8], d: &mut [u8])
-    requires { ⌜ Bands binary32 (now a) (now d) ⌝ }
+    requires { ⌜ StoredBands binary32 (now a) (now d) ⌝ }
     ensures { λ _. ⌜ Ran binary32 (map kind32 schedule) (now (a .entry)) (now (d .entry)) (now (a .exit)) (now (d .exit)) ⌝ }
 {
     let mut i = 0;
@@ -143,7 +143,7 @@ pub fn run2_f32(schedule: [Step32; 2], a: &mut [u8], d: &mut [u8])
 
 // The schedules of 9/7, of five.
 pub fn run5_f32(schedule: [Step32; 5], a: &mut [u8], d: &mut [u8])
-    requires { ⌜ Bands binary32 (now a) (now d) ⌝ }
+    requires { ⌜ StoredBands binary32 (now a) (now d) ⌝ }
     ensures { λ _. ⌜ Ran binary32 (map kind32 schedule) (now (a .entry)) (now (d .entry)) (now (a .exit)) (now (d .exit)) ⌝ }
 {
     let mut i = 0;

@@ -8,7 +8,7 @@ use lib.Dec.{T}
 use lib.Ieee.{Float, nan, Format, binary32, binary64, add, mul, isNan, round}
 use lib.ListN.{length, getD}
 use Rattle.sizes.specs.declared.Wavelet.the-variants.{Cdf53}
-use Rattle.sizes.specs.Bands.{ups, downs}
+use Rattle.sizes.specs.Lengths.{approxLength, detailsLength}
 use Rattle.samples.specs.Words.{Holds, Front}
 use Rattle.samples.specs.Floats.{width, floatAt, encodeFloats}
 use Rattle.floats.specs.Filters.{decimal, steps53}
@@ -38,7 +38,7 @@ module _ {both : Bool} {f : Format} {c g : Float} {x a d : List ℕ} (v : Ahead 
     read-if p l h = sizes.part-if _ _ w l (omega arith)
 
   -- other lists of as many entries are bands of x too
-  pub ahead-on : (s t : List ℕ) → Holds (width f) (ups (length x / width f)) s → (both ≡ true → Holds (width f) (downs (length x / width f)) t) → Ahead both f c g x s t
+  pub ahead-on : (s t : List ℕ) → Holds (width f) (approxLength (length x / width f)) s → (both ≡ true → Holds (width f) (detailsLength (length x / width f)) t) → Ahead both f c g x s t
   ahead-on s t hs ht = record { lent = record { long = v .lent .long; samples = v .lent .samples; approx = hs }; details = ht; odd = v .odd; even = v .even }
 
   -- the last approximation, which has no detail of its own
@@ -46,8 +46,8 @@ module _ {both : Bool} {f : Format} {c g : Float} {x a d : List ℕ} (v : Ahead 
   top-made k ek h ez et = even-made f x (v .lent .long) c g k (k - 1) (k - 1) (2 * k) h refl (omega arith) refl ez ez et
 
   -- all of the bands
-  pub split-all : {y z : List ℕ} {i : ℕ} → Front (width f) (ups (length x / width f)) i (patternOf f (evensTo f c g x)) y → i ≡ ups (length x / width f)
-      → (both ≡ true → Front (width f) (downs (length x / width f)) (downs (length x / width f)) (patternOf f (oddsTo f c x)) z) → Split both f c g x y z
+  pub split-all : {y z : List ℕ} {i : ℕ} → Front (width f) (approxLength (length x / width f)) i (patternOf f (evensTo f c g x)) y → i ≡ approxLength (length x / width f)
+      → (both ≡ true → Front (width f) (detailsLength (length x / width f)) (detailsLength (length x / width f)) (patternOf f (oddsTo f c x)) z) → Split both f c g x y z
   split-all h e k = record {
     approx = lifts.stored-all f (evensTo f c g x) h e (sym (length-evensTo f x (v .lent .long) c g));
     details = λ w. lifts.stored-all f (oddsTo f c x) (k w) refl (sym (length-oddsTo f x (v .lent .long) c));
@@ -77,6 +77,6 @@ by-quarter binary32 = omega arith
 by-quarter binary64 = omega arith
 
 -- what the loop is given by those factors
-pub given-53 : {both : Bool} {f : Format} {c g : Float} {x a d : List ℕ} → LentLow f x a → (both ≡ true → Holds (width f) (downs (length x / width f)) d)
+pub given-53 : {both : Bool} {f : Format} {c g : Float} {x a d : List ℕ} → LentLow f x a → (both ≡ true → Holds (width f) (detailsLength (length x / width f)) d)
     → c ≡ decimal f true 5 1 → g ≡ decimal f false 25 2 → Ahead both f c g x a d
 given-53 {f = f} l h ec eg = record { lent = l; details = h; odd = subst Factor (sym ec) (by-half f); even = subst Factor (sym eg) (by-quarter f) }

@@ -1,2 +1,2 @@
 pub mod Ahead
-pub mod Turns
+pub mod RestoreTurns

@@ -10,7 +10,7 @@ use lib.Ieee.{Float, nan, Format, binary32, binary64, add, mul, isNan}
 use lib.ListN.{length, getD}
 use Rattle.order.proofs.Order.{lt-or-le}
 use Rattle.sizes.specs.declared.Wavelet.the-variants.{Cdf97}
-use Rattle.sizes.specs.Bands.{ups, downs}
+use Rattle.sizes.specs.Lengths.{approxLength, detailsLength}
 use Rattle.samples.specs.Words.{Front}
 use Rattle.samples.specs.Floats.{width, encodeFloats}
 use Rattle.floats.specs.Filters.{Set, factorsOf, steps97}
@@ -18,7 +18,7 @@ use Rattle.floats.specs.Steps.{lift}
 use Rattle.floats.specs.Bands.{approxs, details, low, high}
 use Rattle.small.specs.Small.{Small, SmallFrom, SmallIf}
 use Rattle.small.specs.Lists.{evenIn, oddIn, oddsTo, evensTo, patternOf}
-use Rattle.small.proofs.Sizes.{reach, ceiling, small-le, small-part}
+use Rattle.small.proofs.Sizes.{sizeRead, ceiling, small-le, small-part}
 use Rattle.small.specs.Pieces.{Piece, Stepped}
 use Rattle.small.proofs.Pieces.{stepped-piece}
 use Rattle.small.proofs.Factors.{Factors, factors}
@@ -28,7 +28,7 @@ use Rattle.lift97.specs.Ahead.{oddsOne, evensTwo, oddsThree, evensFour, 
 
 -- ---- four steps and a scaling stay far below the largest float
 
-far : (f : Format) → reach f + 9 + 9 + 9 + 9 + 3 < ceiling f
+far : (f : Format) → sizeRead f + 9 + 9 + 9 + 9 + 3 < ceiling f
 far binary32 = omega arith
 far binary64 = omega arith
 
@@ -109,46 +109,46 @@ module _ {f : Format} {t : Set} {x : List ℕ} (v : Samples f t x) where
   -- ---- small samples leave no NaN: entry i of the bands is made of those from 2 i - 4 to 2 i + 4
 
   -- each step reaches a sample further on either side
-  one-small : (i : ℕ) → i < length x / width f / 2 → SmallFrom f x (2 * i) (2 * i + 3) → Small f (reach f + 9 + 9) (getD (oddsOne f t x) i nan)
-  one-small i h w = small-le f (getD (oddsOne f t x) i nan) (reach f + 9) (reach f + 9 + 9) (firsts.odd-small f x long (t .alpha) i h (given .alpha) w) (omega arith)
+  one-small : (i : ℕ) → i < length x / width f / 2 → SmallFrom f x (2 * i) (2 * i + 3) → Small f (sizeRead f + 9 + 9) (getD (oddsOne f t x) i nan)
+  one-small i h w = small-le f (getD (oddsOne f t x) i nan) (sizeRead f + 9) (sizeRead f + 9 + 9) (firsts.odd-small f x long (t .alpha) i h (given .alpha) w) (omega arith)
 
-  two-small : (i : ℕ) → i < (length x / width f + 1) / 2 → SmallFrom f x (2 * i - 2) (2 * i + 3) → Small f (reach f + 9 + 9) (getD (evensTwo f t x) i nan)
+  two-small : (i : ℕ) → i < (length x / width f + 1) / 2 → SmallFrom f x (2 * i - 2) (2 * i + 3) → Small f (sizeRead f + 9 + 9) (getD (evensTwo f t x) i nan)
   two-small i h w = firsts.even-small f x long (t .alpha) (t .beta) i h (given .alpha) (given .beta) w
 
-  three-small : (i : ℕ) → i < length x / width f / 2 → SmallFrom f x (2 * i - 2) (2 * i + 5) → Small f (reach f + 9 + 9 + 9) (getD (oddsThree f t x) i nan)
+  three-small : (i : ℕ) → i < length x / width f / 2 → SmallFrom f x (2 * i - 2) (2 * i + 5) → Small f (sizeRead f + 9 + 9 + 9) (getD (oddsThree f t x) i nan)
   unfolding oddsThree
   three-small i h w =
       let r = min (i + 1) ((length x / width f + 1) / 2 - 1) in
-      lifts.odd-small f (t .gamma) (evensTwo f t x) (oddsOne f t x) (reach f + 9 + 9) (given .gamma) (omega (arith, far f)) i r (rw length-one h) (rw length-two refl)
+      lifts.odd-small f (t .gamma) (evensTwo f t x) (oddsOne f t x) (sizeRead f + 9 + 9) (given .gamma) (omega (arith, far f)) i r (rw length-one h) (rw length-two refl)
       (two-small i (omega arith) (small-part _ _ w (omega arith) (omega arith)))
       (two-small r (omega arith) (small-part _ _ w (omega arith) (omega arith)))
       (one-small i h (small-part _ _ w (omega arith) (omega arith)))
 
-  four-small : (i : ℕ) → i < (length x / width f + 1) / 2 → SmallFrom f x (2 * i - 4) (2 * i + 5) → Small f (reach f + 9 + 9 + 9 + 9) (getD (evensFour f t x) i nan)
+  four-small : (i : ℕ) → i < (length x / width f + 1) / 2 → SmallFrom f x (2 * i - 4) (2 * i + 5) → Small f (sizeRead f + 9 + 9 + 9 + 9) (getD (evensFour f t x) i nan)
   unfolding evensFour
   four-small i h w =
       let r = min i (length x / width f / 2 - 1) in
-      lifts.even-small f (t .delta) (evensTwo f t x) (oddsThree f t x) (reach f + 9 + 9 + 9) (given .delta) (omega (arith, far f)) i (i - 1) r (rw length-two h) refl (rw length-three refl)
+      lifts.even-small f (t .delta) (evensTwo f t x) (oddsThree f t x) (sizeRead f + 9 + 9 + 9) (given .delta) (omega (arith, far f)) i (i - 1) r (rw length-two h) refl (rw length-three refl)
       (three-small (i - 1) (omega (arith, long)) (small-part _ _ w (omega arith) (omega arith)))
       (three-small r (omega (arith, long)) (small-part _ _ w (omega arith) (omega arith)))
-      (small-le f (getD (evensTwo f t x) i nan) (reach f + 9 + 9) (reach f + 9 + 9 + 9) (two-small i h (small-part _ _ w (omega arith) (omega arith))) (omega arith))
+      (small-le f (getD (evensTwo f t x) i nan) (sizeRead f + 9 + 9) (sizeRead f + 9 + 9 + 9) (two-small i h (small-part _ _ w (omega arith) (omega arith))) (omega arith))
 
   module _ {b : Bool} {e : Float} (i : ℕ) (w : SmallIf b f x (2 * i - 4) (2 * i + 5)) where
     pub high-no-nan : i < length x / width f / 2 → e ≡ getD (scaledOdds f t x) i nan → b ≡ true → T (not (isNan e))
     unfolding scaledOdds
     high-no-nan h q s =
-        lifts.no-nan-is f (reach f + 9 + 9 + 9 + 3) (getD (scaledOdds f t x) i nan)
-        (lifts.scaled-small f (t .invk) (oddsThree f t x) (reach f + 9 + 9 + 9) i (given .invk) (omega (arith, far f)) (rw length-three h) (three-small i h (small-part _ _ (w s) (omega arith) (omega arith)))) q
+        lifts.no-nan-is f (sizeRead f + 9 + 9 + 9 + 3) (getD (scaledOdds f t x) i nan)
+        (lifts.scaled-small f (t .invk) (oddsThree f t x) (sizeRead f + 9 + 9 + 9) i (given .invk) (omega (arith, far f)) (rw length-three h) (three-small i h (small-part _ _ (w s) (omega arith) (omega arith)))) q
 
     pub low-no-nan : i < (length x / width f + 1) / 2 → e ≡ getD (scaledEvens f t x) i nan → b ≡ true → T (not (isNan e))
     unfolding scaledEvens
     low-no-nan h q s =
-        lifts.no-nan-is f (reach f + 9 + 9 + 9 + 9 + 3) (getD (scaledEvens f t x) i nan)
-        (lifts.scaled-small f (t .k) (evensFour f t x) (reach f + 9 + 9 + 9 + 9) i (given .k) (far f) (rw length-four h) (four-small i h (w s))) q
+        lifts.no-nan-is f (sizeRead f + 9 + 9 + 9 + 9 + 3) (getD (scaledEvens f t x) i nan)
+        (lifts.scaled-small f (t .k) (evensFour f t x) (sizeRead f + 9 + 9 + 9 + 9) i (given .k) (far f) (rw length-four h) (four-small i h (w s))) q
 
   -- all of the bands
-  pub split-all : {both : Bool} {y z : List ℕ} {i : ℕ} → Front (width f) (ups (length x / width f)) i (patternOf f (scaledEvens f t x)) y → i ≡ ups (length x / width f)
-      → (both ≡ true → Front (width f) (downs (length x / width f)) (downs (length x / width f)) (patternOf f (scaledOdds f t x)) z) → Split both f t x y z
+  pub split-all : {both : Bool} {y z : List ℕ} {i : ℕ} → Front (width f) (approxLength (length x / width f)) i (patternOf f (scaledEvens f t x)) y → i ≡ approxLength (length x / width f)
+      → (both ≡ true → Front (width f) (detailsLength (length x / width f)) (detailsLength (length x / width f)) (patternOf f (scaledOdds f t x)) z) → Split both f t x y z
   split-all h e k = record { approx = lifts.stored-all f (scaledEvens f t x) h e (sym length-evens-scaled); details = λ w. lifts.stored-all f (scaledOdds f t x) (k w) refl (sym length-odds-scaled) }
 
 -- ---- what a block hands on

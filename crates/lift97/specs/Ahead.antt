@@ -5,7 +5,7 @@ use mathlib.Core.Path.{_≡_}
 use Prim.Native.Nat.{ℕ, _+_, _-_, _/_, _≤_}
 use lib.Ieee.{Float, nan, Format}
 use lib.ListN.{length, getD}
-use Rattle.sizes.specs.Bands.{ups, downs}
+use Rattle.sizes.specs.Lengths.{approxLength, detailsLength}
 use Rattle.samples.specs.Words.{Holds, Front}
 use Rattle.samples.specs.Floats.{width, encodeFloats}
 use Rattle.floats.specs.Steps.{lift, evens, odds, scaled}
@@ -43,8 +43,8 @@ pub record Samples (f : Format) (t : Set) (x : List ℕ) : Type 0 where
 -- and a has room for the approximations and, where both are wanted, d for the details
 pub record Ahead (both : Bool) (f : Format) (t : Set) (x a d : List ℕ) : Type 0 where
   pub samples : Samples f t x
-  pub approx : Holds (width f) (ups (length x / width f)) a
-  pub details : both ≡ true → Holds (width f) (downs (length x / width f)) d
+  pub approx : Holds (width f) (approxLength (length x / width f)) a
+  pub details : both ≡ true → Holds (width f) (detailsLength (length x / width f)) d
 
 -- what a turn hands to the next: odd entry i after the first step, even entry i after the second, and odd entry i - 1 after the third, or entry 0 where i is 0
 pub record Carried (f : Format) (t : Set) (x : List ℕ) (i : ℕ) (p q r : Float) : Type 0 where
@@ -60,8 +60,8 @@ pub record Handed (f : Format) (t : Set) (x : List ℕ) (i n : ℕ) (u v w : Lis
 
 -- the first i entries of the bands that are wanted are stored
 pub record Splitting (both : Bool) (f : Format) (t : Set) (x a d : List ℕ) (i : ℕ) : Type 0 where
-  pub approx : Front (width f) (ups (length x / width f)) i (patternOf f (scaledEvens f t x)) a
-  pub details : both ≡ true → Front (width f) (downs (length x / width f)) i (patternOf f (scaledOdds f t x)) d
+  pub approx : Front (width f) (approxLength (length x / width f)) i (patternOf f (scaledEvens f t x)) a
+  pub details : both ≡ true → Front (width f) (detailsLength (length x / width f)) i (patternOf f (scaledOdds f t x)) d
 
 -- all of them are
 pub record Split (both : Bool) (f : Format) (t : Set) (x a d : List ℕ) : Type 0 where

@@ -18,9 +18,9 @@ use Rattle.answers.proofs.Passed.{Passing, passing, both-pass, pass-both, throu
 use Rattle.answers.proofs.Chain.{by, stop}
 use Rattle.answers.proofs.Endings.{is-done}
 use Rattle.sizes.specs.declared.Wavelet.the-variants.{Cdf53}
-use Rattle.sizes.specs.Bands.{mostSamples}
-use Rattle.sizes.specs.Levels.{places, depthOf}
-use Rattle.sizes.proofs.Counts.{places-le}
+use Rattle.sizes.specs.Lengths.{mostSamples}
+use Rattle.sizes.specs.Levels.{countAt, depthOf}
+use Rattle.sizes.proofs.Counts.{count-at-le}
 use Rattle.sizes.proofs.Depths.{long-enough}
 use Rattle.notes.specs.Notes.{columnOf, spanOf, levelChecks, placeChecks, noteChecks, sayColumn, saySpan, Drawn}
 use Rattle.notes.proofs.Spans.{next, starts, holds, column-below, first-starts, next-starts, last-ends}
@@ -29,7 +29,7 @@ use Rattle.notes.proofs.Spans.{next, starts, holds, column-below, first
 pub within-depth : (n l : ℕ) → 1 ≤ l → l ≤ depthOf Cdf53 n → 2 ^ l < n
 within-depth n zero p h = absurd (omega arith)
 within-depth n (suc l) p h =
-    let two : 3 ≤ places l n = long-enough 3 (omega arith) (suc l) l n h (omega arith) in
+    let two : 3 ≤ countAt l n = long-enough 3 (omega arith) (suc l) l n h (omega arith) in
     omega (arith, starts n l 2 two, pow-succ' 2 l)
 
 -- what the checks of a level leave
@@ -64,7 +64,7 @@ pub fits : (n l : ℕ) → Drawn n l → l < 64
 fits n l d = ⊎-elim (λ h. omega arith) (λ h. absurd (omega (arith, pow-mono h, d .few, d .wide))) (lt-or-le l 24)
 
 -- what is left for the numbers of a span, w samples to a place
-pub record Room (n p w : ℕ) : Type 0 where
+pub record Spanned (n p w : ℕ) : Type 0 where
   pub place : p < n
   pub some : 0 < w
   pub wide : w < n
@@ -72,8 +72,8 @@ pub record Room (n p w : ℕ) : Type 0 where
   pub first : p * w < n
   pub after : (p + 1) * w ≡ p * w + w
 
-pub room : (n l p w : ℕ) → w ≡ 2 ^ l → Drawn n l → p < places l n → Room n p w
-room n l p w e d h = rw e (record { place = omega (arith, places-le l n); some = pow-pos l; wide = d .wide; few = d .few; first = starts n l p h; after = next p (2 ^ l) })
+pub spanned : (n l p w : ℕ) → w ≡ 2 ^ l → Drawn n l → p < countAt l n → Spanned n p w
+spanned n l p w e d h = rw e (record { place = omega (arith, count-at-le l n); some = pow-pos l; wide = d .wide; few = d .few; first = starts n l p h; after = next p (2 ^ l) })
 
 -- ---- about the calls: what they say of a level and a place that are there, and that a done call was asked for such
 
@@ -95,9 +95,9 @@ module _ (n l place limit : ℕ) (z : Refusal) where
 
 module _ (n l : ℕ) where
   -- `note_span` is done with each place of each level
-  pub span-done : n ≤ 16777216 → 1 ≤ l → l ≤ depthOf Cdf53 n → (p : ℕ) → p < places l n → saySpan n l p ≡ Done (spanOf n l p .0) (spanOf n l p .1)
+  pub span-done : n ≤ 16777216 → 1 ≤ l → l ≤ depthOf Cdf53 n → (p : ℕ) → p < countAt l n → saySpan n l p ≡ Done (spanOf n l p .0) (spanOf n l p .1)
   unfolding saySpan
-  span-done few some deep p h = note-says n l p (places l n) (Done (spanOf n l p .0) (spanOf n l p .1)) (level-passes n l few some deep) h
+  span-done few some deep p h = note-says n l p (countAt l n) (Done (spanOf n l p .0) (spanOf n l p .1)) (level-passes n l few some deep) h
 
   -- `note_column` with each sample
   pub column-done : n ≤ 16777216 → 1 ≤ l → l ≤ depthOf Cdf53 n → (s : ℕ) → s < n → sayColumn n l s ≡ Done (columnOf l s) 0
@@ -111,12 +111,12 @@ module _ (n l : ℕ) where
 
   -- q is a done answer of `note_span` for approximation p
   span-told : (p : ℕ) (q : Answer) → q ≡ answerOf (saySpan n l p) → q .number ≡ 0
-      → Passing (levelChecks n l) × (p < places l n) × (q ≡ answerOf (Done (spanOf n l p .0) (spanOf n l p .1)))
+      → Passing (levelChecks n l) × (p < countAt l n) × (q ≡ answerOf (Done (spanOf n l p .0) (spanOf n l p .1)))
   unfolding saySpan
-  span-told p q = note-told n l p (places l n) (Done (spanOf n l p .0) (spanOf n l p .1)) q
+  span-told p q = note-told n l p (countAt l n) (Done (spanOf n l p .0) (spanOf n l p .1)) q
 
   -- the column of a note is one of the places
-  pub column-in : (s : ℕ) (q : Answer) → q ≡ answerOf (sayColumn n l s) → q .number ≡ 0 → q .first < places l n
+  pub column-in : (s : ℕ) (q : Answer) → q ≡ answerOf (sayColumn n l s) → q .number ≡ 0 → q .first < countAt l n
   column-in s q e z =
       let (level, below, c) = column-told s q e z in
       omega (arith, ap (λ (x : Answer). x .first) c, column-below n l s below)
@@ -128,7 +128,7 @@ module _ (n l : ℕ) where
       let (level, below, c) = column-told s q e z in
       let p = columnOf l s in
       let span = Done (spanOf n l p .0) (spanOf n l p .1) in
-      let t : saySpan n l p ≡ span = note-says n l p (places l n) span level (column-below n l s below) in
+      let t : saySpan n l p ≡ span = note-says n l p (countAt l n) span level (column-below n l s below) in
       let a : r ≡ answerOf span = f ∙ ap (λ (x : Answer). answerOf (saySpan n l (x .first))) c ∙ ap answerOf t in
       let w = holds n l s below in
       (ap (λ (x : Answer). x .number) a, omega (arith, ap (λ (x : Answer). x .first) a), omega (arith, ap (λ (x : Answer). x .second) a))
@@ -147,7 +147,7 @@ module _ (n l : ℕ) where
       ap (λ (x : Answer). x .first) b ∙ next-starts n l p place′ ∙ sym (ap (λ (x : Answer). x .second + 1) a)
 
   -- and the last ends at the last sample
-  pub last-answer : (q : Answer) → q ≡ answerOf (saySpan n l (places l n - 1)) → q .number ≡ 0 → q .second ≡ n - 1
+  pub last-answer : (q : Answer) → q ≡ answerOf (saySpan n l (countAt l n - 1)) → q .number ≡ 0 → q .second ≡ n - 1
   last-answer q e z =
-      let (level, place, a) = span-told (places l n - 1) q e z in
+      let (level, place, a) = span-told (countAt l n - 1) q e z in
       ap (λ (x : Answer). x .second) a ∙ last-ends n l (omega (arith, passes n l level .wide))

@@ -2,7 +2,7 @@
 use mathlib.Core.List.{[], _∷_}
 use mathlib.Core.Path.{_≡_, refl}
 use Rattle.answers.specs.declared.err.Refusal.the-variants.{Done, TooLong, BadCount, NoSuchPlace}
-use Rattle.sizes.specs.Levels.{places, depthWithin, depthFrom}
+use Rattle.sizes.specs.Levels.{afterLevels, countAt, depthWithin, depthFrom}
 use Rattle.notes.specs.Notes.{spanOf, sayColumn, saySpan}
 use Rattle.notes.specs.Windows.{sayWindow, windowIn}
 
@@ -18,7 +18,7 @@ pub record Notes : Type 0 where
   pub too-long : saySpan 16777217 1 0 ≡ TooLong
 
 pub notes : Notes
-unfolding spanOf sayColumn saySpan places depthWithin depthFrom
+unfolding spanOf sayColumn saySpan afterLevels depthWithin depthFrom
 notes =
     record {
       shows = refl;

@@ -7,18 +7,18 @@ use native.Mathlib.Nat.{add-mul, one-mul, pow-succ', div-div-eq-div-mul, le-div-
 use native.Mathlib.Omega.{arith}
 use lib.Pow.{pow-pos}
 use Rattle.order.proofs.Order.{lt-or-le}
-use Rattle.sizes.specs.Bands.{ups}
-use Rattle.sizes.specs.Levels.{places}
+use Rattle.sizes.specs.Lengths.{approxLength}
+use Rattle.sizes.specs.Levels.{afterLevels, countAt}
 use Rattle.notes.specs.Notes.{columnOf, spanOf}
 
 -- how many places there are: ceil(n / 2^l)
-pub places-ceil : (l n : ℕ) → places l n ≡ (n + 2 ^ l - 1) / 2 ^ l
-unfolding places
-places-ceil zero n = omega arith
-places-ceil (suc l) n =
+pub count-at-ceil : (l n : ℕ) → countAt l n ≡ (n + 2 ^ l - 1) / 2 ^ l
+unfolding afterLevels
+count-at-ceil zero n = omega arith
+count-at-ceil (suc l) n =
     let p = pow-pos l in
-    let h : (n + 2 * 2 ^ l - 1) / 2 ≡ ups n + 2 ^ l - 1 = omega arith in
-    places-ceil l (ups n)
+    let h : (n + 2 * 2 ^ l - 1) / 2 ≡ approxLength n + 2 ^ l - 1 = omega arith in
+    count-at-ceil l (approxLength n)
     ∙ ap (λ m. m / 2 ^ l) (sym h)
     ∙ div-div-eq-div-mul (n + 2 * 2 ^ l - 1) 2 (2 ^ l)
     ∙ ap (λ m. (n + m - 1) / m) (sym (pow-succ' 2 l))
@@ -28,15 +28,15 @@ pub next : (p w : ℕ) → (p + 1) * w ≡ p * w + w
 next p w = add-mul p 1 w ∙ ap (λ m. p * w + m) (one-mul w)
 
 -- the places are those that start at a sample
-pub starts : (n l p : ℕ) → p < places l n → p * 2 ^ l < n
+pub starts : (n l p : ℕ) → p < countAt l n → p * 2 ^ l < n
 starts n l p h =
-    let q : p + 1 ≤ (n + 2 ^ l - 1) / 2 ^ l = omega (arith, places-ceil l n) in
+    let q : p + 1 ≤ (n + 2 ^ l - 1) / 2 ^ l = omega (arith, count-at-ceil l n) in
     omega (arith, le-div-iff-mul-le (pow-pos l) .0 q, next p (2 ^ l), pow-pos l)
 
-pub is-place : (n l p : ℕ) → p * 2 ^ l < n → p < places l n
+pub is-place : (n l p : ℕ) → p * 2 ^ l < n → p < countAt l n
 is-place n l p h =
     let q : (p + 1) * 2 ^ l ≤ n + 2 ^ l - 1 = omega (arith, next p (2 ^ l)) in
-    omega (arith, places-ceil l n, le-div-iff-mul-le {x = p + 1} {y = n + 2 ^ l - 1} (pow-pos l) .1 q)
+    omega (arith, count-at-ceil l n, le-div-iff-mul-le {x = p + 1} {y = n + 2 ^ l - 1} (pow-pos l) .1 q)
 
 module _ (n l : ℕ) where
   -- the span of a sample's column holds the sample
@@ -45,7 +45,7 @@ module _ (n l : ℕ) where
   holds s h = (div-mul-le-self s (2 ^ l), omega (arith, next (s / 2 ^ l) (2 ^ l), lt-div-mul-add {a = s} (pow-pos l)))
 
   -- a sample's column is one of the places
-  pub column-below : (s : ℕ) → s < n → columnOf l s < places l n
+  pub column-below : (s : ℕ) → s < n → columnOf l s < countAt l n
   column-below s h = is-place n l (s / 2 ^ l) (omega (arith, div-mul-le-self s (2 ^ l)))
 
   -- a sample in the span of p has column p: no two spans share a sample
@@ -54,7 +54,7 @@ module _ (n l : ℕ) where
   only-column p s h g = div-eq-of-lt-le (2 ^ l) h (omega (arith, next p (2 ^ l), pow-pos l))
 
   -- no span is empty
-  pub not-empty : (p : ℕ) → p < places l n → spanOf n l p .0 ≤ spanOf n l p .1
+  pub not-empty : (p : ℕ) → p < countAt l n → spanOf n l p .0 ≤ spanOf n l p .1
   unfolding spanOf
   not-empty p h = omega (arith, starts n l p h, next p (2 ^ l), pow-pos l)
 
@@ -64,15 +64,15 @@ module _ (n l : ℕ) where
   first-starts = omega arith
 
   -- the next span starts one after this one's end
-  pub next-starts : (p : ℕ) → p + 1 < places l n → spanOf n l (p + 1) .0 ≡ spanOf n l p .1 + 1
+  pub next-starts : (p : ℕ) → p + 1 < countAt l n → spanOf n l (p + 1) .0 ≡ spanOf n l p .1 + 1
   unfolding spanOf
   next-starts p h = omega (arith, starts n l (p + 1) h, next p (2 ^ l), pow-pos l)
 
   -- the last span ends at the last sample
-  pub last-ends : 1 ≤ n → spanOf n l (places l n - 1) .1 ≡ n - 1
+  pub last-ends : 1 ≤ n → spanOf n l (countAt l n - 1) .1 ≡ n - 1
   unfolding spanOf
   last-ends h =
-      let m = places l n in
+      let m = countAt l n in
       let e : m - 1 + 1 ≡ m = omega (arith, is-place n l 0 (omega arith)) in
       let full : n ≤ m * 2 ^ l = ⊎-elim (λ b. absurd (omega (arith, is-place n l m b))) (λ b. b) (lt-or-le (m * 2 ^ l) n) in
       omega (arith, ap (λ (x : ℕ). x * 2 ^ l) e)

@@ -8,8 +8,8 @@ use Rattle.answers.specs.declared.err.Refusal.{Refusal}
 use Rattle.answers.specs.declared.err.Refusal.the-variants.{Done, TooLong, NoSuchPlace}
 use Rattle.answers.specs.Checks.{Check, firstOf}
 use Rattle.sizes.specs.declared.Wavelet.the-variants.{Cdf53}
-use Rattle.sizes.specs.Bands.{mostSamples}
-use Rattle.sizes.specs.Levels.{places, depthOf}
+use Rattle.sizes.specs.Lengths.{mostSamples}
+use Rattle.sizes.specs.Levels.{countAt, depthOf}
 
 -- "sample s shows at approximation floor(s / 2^l)"
 abbrev pub columnOf : ℕ → ℕ → ℕ
@@ -41,7 +41,7 @@ sayColumn n l s = firstOf (noteChecks n l s n) (Done (columnOf l s) 0)
 
 -- "a span is both"; approximation p is one of those after l levels
 unfoldable pub saySpan : ℕ → ℕ → ℕ → Refusal
-saySpan n l p = firstOf (noteChecks n l p (places l n)) (Done (spanOf n l p .0) (spanOf n l p .1))
+saySpan n l p = firstOf (noteChecks n l p (countAt l n)) (Done (spanOf n l p .0) (spanOf n l p .1))
 
 -- what the checks of a level leave: not too many samples, and more of them than one approximation spans
 pub record Drawn (n l : ℕ) : Type 0 where

@@ -10,15 +10,15 @@ use Rattle.answers.specs.declared.err.Refusal.{Refusal}
 use Rattle.answers.specs.declared.err.Refusal.the-variants.{Done, NoSuchPlace}
 use Rattle.answers.specs.Answers.{done}
 use Rattle.answers.specs.Checks.{Check, firstOf, ragged}
-use Rattle.notes.specs.declared.window.Width.{Width}
-use Rattle.notes.specs.declared.window.Width.the-variants.{One, Two, Four, Eight}
+use Rattle.notes.specs.declared.window.SampleWidth.{SampleWidth}
+use Rattle.notes.specs.declared.window.SampleWidth.the-variants.{One, Two, Four, Eight}
 
 -- how many bytes a sample has: integers of 8, 16 and 32 bits, floats of 32 and 64
-abbrev pub bytesOf : Width → ℕ
-bytesOf One = 1
-bytesOf Two = 2
-bytesOf Four = 4
-bytesOf Eight = 8
+abbrev pub bytesEach : SampleWidth → ℕ
+bytesEach One = 1
+bytesEach Two = 2
+bytesEach Four = 4
+bytesEach Eight = 8
 
 -- "whichever band was asked for": 0 is the approximations, any other number the details
 abbrev pub bandOf : {A : Type 0} → ℕ → A → A → A

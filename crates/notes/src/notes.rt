@@ -3,7 +3,7 @@ ghost use mathlib.Core.Path.{_≡_};
 ghost use Prim.Native.Nat.{_^_, _<_, min};
 ghost use Rattle.answers.specs.Answers.{answerOf};
 ghost use Rattle.answers.specs.Checks.{firstOf};
-ghost use Rattle.sizes.specs.Levels.{places};
+ghost use Rattle.sizes.specs.Levels.{countAt};
 ghost use Rattle.notes.specs.Notes.{columnOf, spanOf, levelChecks, sayColumn, saySpan, Drawn};
 use answers::err::Answer;
 use answers::err::Refusal;
@@ -11,8 +11,8 @@ use answers::err::is_done;
 use answers::err::numbers;
 use sizes::MOST_SAMPLES;
 use sizes::Wavelet;
+use sizes::count_at;
 use sizes::depth;
-use sizes::places_of;
 
 // Two kinds of number, which only `column` and `span` turn into each other.
 pub struct SampleNumber(pub usize);
@@ -26,7 +26,7 @@ pub struct SpanEnds {
 }
 
 // How many samples one approximation of a level stands for.
-fn reach(level: usize) -> usize
+fn samples_each(level: usize) -> usize
     requires { ⌜ level < 64 ⌝ }
     ensures { λ r. ⌜ r ≡ 2 ^ level ⌝ }
 {
@@ -50,11 +50,11 @@ pub fn column(level: usize, s: SampleNumber) -> CoefficientNumber
 // The samples that an approximation spans.
 pub fn span(n: usize, level: usize, p: CoefficientNumber) -> SpanEnds
     requires { ⌜ Drawn n level ⌝ }
-    requires { ⌜ p .0 < places level n ⌝ }
+    requires { ⌜ p .0 < countAt level n ⌝ }
     ensures { λ r. ⌜ (r .first .0 ≡ spanOf n level (p .0) .0) × (r .last .0 ≡ spanOf n level (p .0) .1) ⌝ }
 {
     let place = p.0;
-    let wide = reach(level);
+    let wide = samples_each(level);
     SpanEnds {
         first: SampleNumber(place * wide),
         last: SampleNumber(least((place + 1) * wide - 1, n - 1)),
@@ -103,7 +103,7 @@ fn say_span(n: usize, level: usize, p: CoefficientNumber) -> Refusal
         return said;
     }
     let place = p.0;
-    let limit = places_of(level, n);
+    let limit = count_at(level, n);
     if limit <= place {
         return Refusal::NoSuchPlace(place, limit);
     }

@@ -4,27 +4,27 @@ ghost use Prim.Native.Nat.{_*_, _^_, _<_};
 ghost use lib.ListN.{length};
 ghost use Rattle.answers.specs.Answers.{answerOf};
 ghost use Rattle.answers.specs.Checks.{firstOf};
-ghost use Rattle.notes.specs.Windows.{bytesOf, bandOf, stretchChecks, sayWindow, windowIn, windowAt};
+ghost use Rattle.notes.specs.Windows.{bytesEach, bandOf, stretchChecks, sayWindow, windowIn, windowAt};
 use answers::err::Answer;
 use answers::err::Refusal;
 use answers::err::numbers;
 
 // How many bytes a sample has. An enum, so that no caller can ask for a width of 0.
-pub enum Width {
+pub enum SampleWidth {
     One,
     Two,
     Four,
     Eight,
 }
 
-fn bytes_of(w: Width) -> usize
-    ensures { λ r. ⌜ (r ≡ bytesOf w) × (0 < r) ⌝ }
+fn bytes_each(w: SampleWidth) -> usize
+    ensures { λ r. ⌜ (r ≡ bytesEach w) × (0 < r) ⌝ }
 {
     match w {
-        Width::One => 1,
-        Width::Two => 2,
-        Width::Four => 4,
-        Width::Eight => 8,
+        SampleWidth::One => 1,
+        SampleWidth::Two => 2,
+        SampleWidth::Four => 4,
+        SampleWidth::Eight => 8,
     }
 }
 
@@ -74,29 +74,36 @@ fn say_window(k: usize, a: usize, d: usize, band: u32, start: usize, count: usiz
 
 // Where the window starts in its band, and how long it is, in bytes.
 pub fn band_window_answer(
-    w: Width,
+    w: SampleWidth,
     approx: &[u8],
     details: &[u8],
     band: u32,
     start: usize,
     count: usize,
 ) -> Answer
-    ensures { λ r. ⌜ r ≡ answerOf (sayWindow (bytesOf w) (length (now (approx .entry))) (length (now (details .entry))) band start count) ⌝ }
+    ensures { λ r. ⌜ r ≡ answerOf (sayWindow (bytesEach w) (length (now (approx .entry))) (length (now (details .entry))) band start count) ⌝ }
 {
-    numbers(say_window(bytes_of(w), approx.len(), details.len(), band, start, count))
+    numbers(say_window(
+        bytes_each(w),
+        approx.len(),
+        details.len(),
+        band,
+        start,
+        count,
+    ))
 }
 
 // The window itself: a part of the band that was asked for, or an empty part.
 pub fn band_window<'a>(
-    w: Width,
+    w: SampleWidth,
     approx: &'a [u8],
     details: &'a [u8],
     band: u32,
     start: usize,
     count: usize,
 ) -> &'a [u8]
-    ensures { λ r. ⌜ now r ≡ windowIn (bytesOf w) (now (approx .entry)) (now (details .entry)) band start count ⌝ }
-    ensures { λ r. ⌜ r .ptr ≡ windowAt (bytesOf w) (approx .entry) (details .entry) band start count ⌝ }
+    ensures { λ r. ⌜ now r ≡ windowIn (bytesEach w) (now (approx .entry)) (now (details .entry)) band start count ⌝ }
+    ensures { λ r. ⌜ r .ptr ≡ windowAt (bytesEach w) (approx .entry) (details .entry) band start count ⌝ }
 {
     let r = band_window_answer(w, approx, details, band, start, count);
     let s = asked(band, approx, details);

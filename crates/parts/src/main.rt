@@ -4,7 +4,7 @@ ghost use Rattle.notes.specs.Windows.{windowIn};
 ghost use Rattle.pyramid.specs.Opens.{sectionIn};
 use libc::STDIN_FILENO;
 use libc::STDOUT_FILENO;
-use notes::window::Width;
+use notes::window::SampleWidth;
 use notes::window::band_window;
 use pyramid::section::section;
 
@@ -48,7 +48,7 @@ fn window(s: &[u8], band: u32, start: usize, count: usize) -> &[u8]
 {
     let approx = section(s, WIDTH, POINT, 1);
     let details = section(s, WIDTH, POINT, 2);
-    band_window(Width::One, approx, details, band, start, count)
+    band_window(SampleWidth::One, approx, details, band, start, count)
 }
 
 fn print_window(name: &[u8], s: &[u8], band: u32, start: usize, count: usize) {

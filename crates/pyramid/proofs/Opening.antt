@@ -15,9 +15,9 @@ use Rattle.answers.specs.Answers.{done}
 use Rattle.answers.specs.Checks.{ragged, Check, firstOf}
 use Rattle.answers.proofs.Passed.{Refusing, Passing, passing, both-refuse, both-pass, whole, roomy, right, through}
 use Rattle.sizes.specs.declared.Wavelet.the-variants.{Cdf53}
-use Rattle.sizes.specs.Bands.{mostSamples}
-use Rattle.sizes.specs.Levels.{places, depthOf}
-use Rattle.sizes.proofs.Counts.{places-le}
+use Rattle.sizes.specs.Lengths.{mostSamples}
+use Rattle.sizes.specs.Levels.{afterLevels, countAt, depthOf}
+use Rattle.sizes.proofs.Counts.{count-at-le}
 use Rattle.sizes.proofs.Depths.{depth-rest}
 use Rattle.samples.specs.Integers.{isWidth}
 use Rattle.samples.proofs.IntegerLaws.{width-of}
@@ -81,8 +81,8 @@ way-refuses (Short j) b = (refl, tt)
 way-refuses (Wrong j found) b = (refl, tt)
 
 pub way-passes : (s : List ℕ) (k l n at : ℕ) (v : Way) → v ≡ walkOf s k l n at → at ≤ length s → Passing (wayChecks v (length s))
-    → let m = wholeDetails v l in (m ≤ l) × (at + bodySize k m (places (l - m) n) ≤ length s)
-unfolding places
+    → let m = wholeDetails v l in (m ≤ l) × (at + bodySize k m (countAt (l - m) n) ≤ length s)
+unfolding afterLevels
 way-passes s k l n at (Went p) e h q =
     let i = walk-size l s k n at p h (sym e) in
     let z : l - l ≡ 0 = omega arith in
@@ -93,7 +93,7 @@ way-passes s k l n at (Short j) e h q =
     let two : 2 ≤ j = omega (arith, i .some, one) in
     let t = i .before two in
     let a : l + 2 - j ≡ l - (j - 2) = omega (arith, i .most, two) in
-    let z = walk-size (j - 2) s k (places (l + 2 - j) n) at (t .0) h (t .1) in
+    let z = walk-size (j - 2) s k (countAt (l + 2 - j) n) at (t .0) h (t .1) in
     (omega (arith, i .most, two), rw (sym a) (omega (arith, z)))
 way-passes s k l n at (Wrong j found) e h q = absurd (let z : _≡_ {A = ℕ} 0 1 = ap (λ b. cond b 0 1) (q .0) in omega arith)
 
@@ -198,7 +198,7 @@ module _ (s : List ℕ) (w p o u v : ℕ) (h : done (sayOpen s w p o u v) ≡ tr
         head = hd;
         some = wy .0;
         deep = omega (arith, left, dp);
-        short = omega (arith, places-le (l - m) n, hd .short);
+        short = omega (arith, count-at-le (l - m) n, hd .short);
         held = omega (arith, ap (λ (j : ℕ). bodySize j m (countIn s)) (hd .width), wy .1);
         output = omega (arith, lo, ar .0);
         first = omega (arith, lu, ar .1);

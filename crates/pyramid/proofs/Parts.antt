@@ -7,7 +7,7 @@ use native.Mathlib.Omega.{arith}
 use lib.ListN.{length, take, drop, length-drop}
 use lib.Seq.{length-take-le}
 use Rattle.dwt.specs.declared.filter.Filter.{Filter}
-use Rattle.sizes.specs.Bands.{ups, downs}
+use Rattle.sizes.specs.Lengths.{approxLength, detailsLength}
 use Rattle.cdf53i.specs.Bands.{back}
 use Rattle.dwt.specs.Filters.{widthOf, backOf, Integers}
 use Rattle.trips.proofs.Undone.{each-width}
@@ -30,8 +30,8 @@ restore-none k s l n at e = ap (λ (j : ℕ). restoredAt k s j n at) (sym e)
 pub back-is : (f : Filter) → Integers f → backOf f ≡ back (widthOf f)
 back-is = each-width (λ k low high b. b ≡ back k) (λ k w. refl)
 
-pub restore-more : (f : Filter) → Integers f → (s : List ℕ) (l n at place : ℕ) → (l ≡ 0 → ⊥) → place ≡ at + bodySize (widthOf f) (l - 1) (ups n)
-    → backOf f (restoredAt (widthOf f) s (l - 1) (ups n) at) (bytesAt (widthOf f) s (downs n) place) ≡ restoredAt (widthOf f) s l n at
+pub restore-more : (f : Filter) → Integers f → (s : List ℕ) (l n at place : ℕ) → (l ≡ 0 → ⊥) → place ≡ at + bodySize (widthOf f) (l - 1) (approxLength n)
+    → backOf f (restoredAt (widthOf f) s (l - 1) (approxLength n) at) (bytesAt (widthOf f) s (detailsLength n) place) ≡ restoredAt (widthOf f) s l n at
 unfolding restoredAt
 restore-more f i s l n at place h e =
     let q : suc (l - 1) ≡ l = omega arith in

@@ -11,7 +11,7 @@ use denote.Ref.{RefT}
 use Rattle.answers.specs.declared.err.Refusal.the-variants.{Done}
 use Rattle.answers.specs.Answers.{done}
 use Rattle.answers.proofs.Passed.{Refusing, Passing, passing, through, both-refuse, both-pass}
-use Rattle.sizes.specs.Bands.{downs}
+use Rattle.sizes.specs.Lengths.{detailsLength}
 use Rattle.pyramid.specs.declared.head.Head.{Head}
 use Rattle.pyramid.specs.declared.walk.Way.{Way}
 use Rattle.pyramid.specs.declared.walk.Way.the-variants.{Went, Short, Wrong}
@@ -23,7 +23,7 @@ use Rattle.pyramid.proofs.Opening.{head-refuses, head-passes}
 pub last-most : (l n : ℕ) → lastCount l n ≤ n
 last-most l n = pick (eqb l 0)
   where
-    pick : (b : Bool) → cond b n (downs n) ≤ n
+    pick : (b : Bool) → cond b n (detailsLength n) ≤ n
     pick true = omega arith
     pick false = omega arith
 

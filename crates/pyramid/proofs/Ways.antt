@@ -10,8 +10,8 @@ use borrow.Author.Tests.{ltb-false}
 use lib.Dec.{ltb, eqb}
 use lib.ListN.{length}
 use Rattle.samples.specs.Le.{leAt}
-use Rattle.sizes.specs.Bands.{ups, downs}
-use Rattle.sizes.specs.Levels.{places}
+use Rattle.sizes.specs.Lengths.{approxLength, detailsLength}
+use Rattle.sizes.specs.Levels.{afterLevels, countAt}
 use Rattle.dwt.proofs.Cuts.{split-width}
 use Rattle.pyramid.specs.declared.walk.Way.{Way}
 use Rattle.pyramid.specs.declared.walk.Way.the-variants.{Went, Short, Wrong}
@@ -58,9 +58,9 @@ pub walk-size : (l : ℕ) (s : List ℕ) (k n at p : ℕ) → at ≤ length s �
 unfolding walkOf
 walk-size zero s k n at p h e = let i = one-went s k n 1 at p h e in (omega (arith, i .exact), i .within)
 walk-size (suc l) s k n at p h e =
-    let g = go-went (walkOf s k l (ups n) at) (λ q. oneOf s k (downs n) (suc l + 1) q) p e in
-    let i = walk-size l s k (ups n) at (g .0) h (g .1) in
-    let j = one-went s k (downs n) (suc l + 1) (g .0) p (i .1) (g .2) in
+    let g = go-went (walkOf s k l (approxLength n) at) (λ q. oneOf s k (detailsLength n) (suc l + 1) q) p e in
+    let i = walk-size l s k (approxLength n) at (g .0) h (g .1) in
+    let j = one-went s k (detailsLength n) (suc l + 1) (g .0) p (i .1) (g .2) in
     (omega (arith, i .0, j .exact, split-width k n), j .within)
 
 -- a section that is cut is the one that it is
@@ -90,43 +90,43 @@ go-short (Wrong i f) g j e = let z : _≡_ {A = ℕ} 0 1 = cc in absurd (let y :
 pub record Cutting (s : List ℕ) (k l n at j : ℕ) : Type 0 where
   pub some : 1 ≤ j
   pub most : j ≤ l + 1
-  pub before : 2 ≤ j → (q : ℕ) × (walkOf s k (j - 2) (places (l + 2 - j) n) at ≡ Went q)
+  pub before : 2 ≤ j → (q : ℕ) × (walkOf s k (j - 2) (countAt (l + 2 - j) n) at ≡ Went q)
 
 pub walk-short : (l : ℕ) (s : List ℕ) (k n at j : ℕ) → walkOf s k l n at ≡ Short j → Cutting s k l n at j
-unfolding walkOf places
+unfolding walkOf afterLevels
 walk-short zero s k n at j e =
     let i = one-short s k n 1 at j e in
     record { some = omega arith; most = omega arith; before = λ h. absurd (omega arith) }
 walk-short (suc l) s k n at j e =
     ⊎-elim
     (λ g.
-    let i = one-short s k (downs n) (suc l + 1) (g .0) j (g .2) in
+    let i = one-short s k (detailsLength n) (suc l + 1) (g .0) j (g .2) in
     let a : j - 2 ≡ l = omega arith in
     let b : suc l + 2 - j ≡ 1 = omega arith in
     record {
       some = omega arith;
       most = omega arith;
-      before = λ h. (g .0, ap (λ (t : ℕ). walkOf s k t (places (suc l + 2 - j) n) at) a ∙ ap (λ (t : ℕ). walkOf s k l (places t n) at) b ∙ g .1);
+      before = λ h. (g .0, ap (λ (t : ℕ). walkOf s k t (countAt (suc l + 2 - j) n) at) a ∙ ap (λ (t : ℕ). walkOf s k l (countAt t n) at) b ∙ g .1);
     })
     (λ g.
-    let i = walk-short l s k (ups n) at j g in
+    let i = walk-short l s k (approxLength n) at j g in
     let b : suc l + 2 - j ≡ suc (l + 2 - j) = omega (arith, i .most) in
     record {
       some = i .some;
       most = omega (arith, i .most);
-      before = λ h. let t = i .before h in (t .0, ap (λ (r : ℕ). walkOf s k (j - 2) (places r n) at) b ∙ t .1);
+      before = λ h. let t = i .before h in (t .0, ap (λ (r : ℕ). walkOf s k (j - 2) (countAt r n) at) b ∙ t .1);
     })
-    (go-short (walkOf s k l (ups n) at) (λ q. oneOf s k (downs n) (suc l + 1) q) j e)
+    (go-short (walkOf s k l (approxLength n) at) (λ q. oneOf s k (detailsLength n) (suc l + 1) q) j e)
 
 -- the walk of the code
 pub walk-none : (s : List ℕ) (w l n at : ℕ) → l ≡ 0 → oneOf s w n 1 at ≡ walkOf s w l n at
 unfolding walkOf
 walk-none s w l n at e = sym (ap (λ (k : ℕ). walkOf s w k n at) e)
 
-pub walk-more : (s : List ℕ) (w l n at : ℕ) (v : Way) → (l ≡ 0 → ⊥) → v ≡ walkOf s w (l - 1) (ups n) at → goOn v (λ p. oneOf s w (downs n) (l + 1) p) ≡ walkOf s w l n at
+pub walk-more : (s : List ℕ) (w l n at : ℕ) (v : Way) → (l ≡ 0 → ⊥) → v ≡ walkOf s w (l - 1) (approxLength n) at → goOn v (λ p. oneOf s w (detailsLength n) (l + 1) p) ≡ walkOf s w l n at
 unfolding walkOf
 walk-more s w l n at v h e =
     let q : suc (l - 1) ≡ l = omega arith in
-    ap (λ (u : Way). goOn u (λ p. oneOf s w (downs n) (l + 1) p)) e
-    ∙ ap (λ (k : ℕ). goOn (walkOf s w (l - 1) (ups n) at) (λ p. oneOf s w (downs n) (k + 1) p)) (sym q)
+    ap (λ (u : Way). goOn u (λ p. oneOf s w (detailsLength n) (l + 1) p)) e
+    ∙ ap (λ (k : ℕ). goOn (walkOf s w (l - 1) (approxLength n) at) (λ p. oneOf s w (detailsLength n) (k + 1) p)) (sym q)
     ∙ ap (λ (k : ℕ). walkOf s w k n at) q

@@ -19,8 +19,8 @@ use Rattle.samples.specs.Le.{leBytes, stored}
 use Rattle.samples.proofs.Words.{holds}
 use Rattle.samples.proofs.LeLaws.{length-leBytes, length-stored, stored-is}
 use Rattle.sizes.specs.declared.Wavelet.{Wavelet}
-use Rattle.sizes.specs.Bands.{mostSamples, ups, downs}
-use Rattle.sizes.specs.Levels.{places, depthOf, levelsOf}
+use Rattle.sizes.specs.Lengths.{mostSamples, approxLength, detailsLength}
+use Rattle.sizes.specs.Levels.{countAt, depthOf, levelsOf}
 use Rattle.dwt.specs.declared.filter.Filter.{Filter}
 use Rattle.dwt.specs.declared.filter.Filter.the-variants.{Cdf53I8, Cdf53I16, Cdf53I32, Cdf53F32, Cdf53F64, Cdf97F32, Cdf97F64}
 use Rattle.dwt.specs.Filters.{widthOf, waveletOf, lowOf, highOf}
@@ -29,7 +29,7 @@ use Rattle.dwt.specs.Calls.{Ready}
 use Rattle.dwt.proofs.Cuts.{width-pos, split-width}
 use Rattle.dwt.proofs.Multi.{levels-pos, too-short}
 use Rattle.dwt.proofs.Lists.{put-end, later}
-use Rattle.trips.proofs.Lengths.{length-lengths, places-total}
+use Rattle.trips.proofs.Lengths.{length-lengths, count-at-total}
 use Rattle.trips.proofs.Fitting.{lengths-fit, few-lengths}
 use Rattle.pyramid.specs.Files.{sectionOf, headCount, headOf, headSize, bodyOf, bodySize, fileSize, fileOf}
 use Rattle.pyramid.specs.Writes.{writeChecks, sayWrite}
@@ -48,8 +48,8 @@ width-byte Cdf97F64 = omega arith
 -- levels within the depth fit a byte
 pub few-levels : (w : Wavelet) (l n : ℕ) → l ≤ depthOf w n → n ≤ mostSamples → l < 256
 few-levels w l n h s =
-    let t = places-total l n in
-    omega (arith, length-lengths l n, few-lengths w (places l n) (lengthsOf l n) (lengths-fit w l n h) (omega arith))
+    let t = count-at-total l n in
+    omega (arith, length-lengths l n, few-lengths w (countAt l n) (lengthsOf l n) (lengths-fit w l n h) (omega arith))
 
 -- ---- numbers stored one after the other
 
@@ -118,16 +118,16 @@ unfolding bodyOf
 body-none f l n x e = ap (λ (k : ℕ). bodyOf f k n x) e
 
 pub body-more : (f : Filter) (l n : ℕ) (x o t r : List ℕ) (p cut : ℕ) → (l ≡ 0 → ⊥) → p ≤ length o → length (lowOf f x) ≡ cut
-    → r ≡ bodyOf f (l - 1) (ups n) (take cut (lowOf f x ++ t)) → r ++ drop p (take p o ++ sectionOf (downs n) (highOf f x)) ≡ bodyOf f l n x
+    → r ≡ bodyOf f (l - 1) (approxLength n) (take cut (lowOf f x ++ t)) → r ++ drop p (take p o ++ sectionOf (detailsLength n) (highOf f x)) ≡ bodyOf f l n x
 unfolding bodyOf
 body-more f l n x o t r p cut z h e q =
     let s : suc (l - 1) ≡ l = omega arith in
-    ap (λ (k : List ℕ). r ++ k) (drop-at (take p o) (sectionOf (downs n) (highOf f x)) p (length-take-le p o h))
-    ∙ ap (λ (k : List ℕ). k ++ sectionOf (downs n) (highOf f x)) (q ∙ ap (λ (k : List ℕ). bodyOf f (l - 1) (ups n) k) (take-at (lowOf f x) t cut e))
+    ap (λ (k : List ℕ). r ++ k) (drop-at (take p o) (sectionOf (detailsLength n) (highOf f x)) p (length-take-le p o h))
+    ∙ ap (λ (k : List ℕ). k ++ sectionOf (detailsLength n) (highOf f x)) (q ∙ ap (λ (k : List ℕ). bodyOf f (l - 1) (approxLength n) k) (take-at (lowOf f x) t cut e))
     ∙ ap (λ (k : ℕ). bodyOf f k n x) s
 
 -- the bytes of a level more
-pub size-more : (k l n : ℕ) → (l ≡ 0 → ⊥) → bodySize k l n ≡ bodySize k (l - 1) (ups n) + 4 + k * downs n
+pub size-more : (k l n : ℕ) → (l ≡ 0 → ⊥) → bodySize k l n ≡ bodySize k (l - 1) (approxLength n) + 4 + k * detailsLength n
 size-more k l n z = omega (arith, split-width k n)
 
 -- ---- the whole file

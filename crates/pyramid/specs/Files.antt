@@ -3,7 +3,7 @@ use mathlib.Core.List.{List, _++_}
 use Prim.Native.Nat.{ℕ, zero, suc, _+_, _*_, _/_}
 use lib.ListN.{length}
 use Rattle.samples.specs.Le.{leBytes}
-use Rattle.sizes.specs.Bands.{ups, downs}
+use Rattle.sizes.specs.Lengths.{approxLength, detailsLength}
 use Rattle.dwt.specs.declared.filter.Filter.{Filter}
 use Rattle.dwt.specs.Filters.{widthOf, lowOf, highOf}
 
@@ -29,7 +29,7 @@ headSize = 4 + headCount
 -- "Section 1: number of deepest approximations, then those. Section 2 to L+1: number of details of level L down to 1, then those": of l levels of the n samples in x
 unfoldable pub bodyOf : Filter → ℕ → ℕ → List ℕ → List ℕ
 bodyOf f zero n x = sectionOf n x
-bodyOf f (suc l) n x = bodyOf f l (ups n) (lowOf f x) ++ sectionOf (downs n) (highOf f x)
+bodyOf f (suc l) n x = bodyOf f l (approxLength n) (lowOf f x) ++ sectionOf (detailsLength n) (highOf f x)
 
 -- how many bytes these sections are, at k bytes a sample
 abbrev pub bodySize : ℕ → ℕ → ℕ → ℕ

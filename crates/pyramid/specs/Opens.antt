@@ -11,8 +11,8 @@ use Rattle.answers.specs.declared.err.Refusal.the-variants.{Done, MinFilterSize
 use Rattle.answers.specs.Answers.{done}
 use Rattle.answers.specs.Checks.{Check, firstOf, ragged, tight, twoAreas, Call}
 use Rattle.sizes.specs.declared.Wavelet.the-variants.{Cdf53}
-use Rattle.sizes.specs.Bands.{mostSamples}
-use Rattle.sizes.specs.Levels.{places, depthOf}
+use Rattle.sizes.specs.Lengths.{mostSamples}
+use Rattle.sizes.specs.Levels.{countAt, depthOf}
 use Rattle.samples.specs.Le.{leAt}
 use Rattle.samples.specs.Integers.{isWidth}
 use Rattle.dwt.specs.declared.filter.Filter.{Filter}
@@ -86,7 +86,7 @@ abbrev pub levelIn : List ℕ → ℕ
 levelIn s = let h = headIn s in h .levels - wholeDetails (wayIn s h) (h .levels)
 
 abbrev pub countIn : List ℕ → ℕ
-countIn s = places (levelIn s) (headIn s .samples)
+countIn s = countAt (levelIn s) (headIn s .samples)
 
 -- "it returns level and count": what is said of the file alone
 unfoldable pub sayFile : List ℕ → ℕ → ℕ → Refusal
@@ -123,7 +123,7 @@ ownPoint s = cond (ltb (length s) headSize) 0 (headIn s .point)
 
 -- how many samples the sections up to section j restore: as many as level L + 1 - j has approximations
 abbrev pub samplesTo : Head → ℕ → ℕ
-samplesTo h j = places (h .levels + 1 - j) (h .samples)
+samplesTo h j = countAt (h .levels + 1 - j) (h .samples)
 
 -- the walk through section j, which is one of j - 1 levels of those samples
 abbrev pub wayTo : List ℕ → Head → ℕ → Way

@@ -5,7 +5,7 @@ use Prim.Native.Nat.{ℕ, zero, suc, _+_, _-_, _*_}
 use lib.Dec.{ltb, eqb}
 use lib.ListN.{length, take, drop}
 use Rattle.samples.specs.Le.{leAt}
-use Rattle.sizes.specs.Bands.{ups, downs}
+use Rattle.sizes.specs.Lengths.{approxLength, detailsLength}
 use Rattle.cdf53i.specs.Bands.{back}
 use Rattle.pyramid.specs.declared.walk.Way.{Way}
 use Rattle.pyramid.specs.declared.walk.Way.the-variants.{Went, Short, Wrong}
@@ -28,11 +28,11 @@ goOn (Wrong j found) g = Wrong j found
 -- the sections of l levels of n samples, deepest first: number 1 has the approximations, number l + 1 the details of the first level
 unfoldable pub walkOf : List ℕ → ℕ → ℕ → ℕ → ℕ → Way
 walkOf s k zero n p = oneOf s k n 1 p
-walkOf s k (suc l) n p = goOn (walkOf s k l (ups n) p) (λ q. oneOf s k (downs n) (suc l + 1) q)
+walkOf s k (suc l) n p = goOn (walkOf s k l (approxLength n) p) (λ q. oneOf s k (detailsLength n) (suc l + 1) q)
 
 -- how many samples the last of these sections has
 abbrev pub lastCount : ℕ → ℕ → ℕ
-lastCount l n = cond (eqb l 0) n (downs n)
+lastCount l n = cond (eqb l 0) n (detailsLength n)
 
 -- the bytes of a section of c samples that stands at p
 abbrev pub bytesAt : ℕ → List ℕ → ℕ → ℕ → List ℕ
@@ -41,4 +41,4 @@ bytesAt k s c p = take (k * c) (drop (p + 4) s)
 -- the n samples of k bytes that l levels of sections from p on restore
 unfoldable pub restoredAt : ℕ → List ℕ → ℕ → ℕ → ℕ → List ℕ
 restoredAt k s zero n p = bytesAt k s n p
-restoredAt k s (suc l) n p = back k (restoredAt k s l (ups n) p) (bytesAt k s (downs n) (p + bodySize k l (ups n)))
+restoredAt k s (suc l) n p = back k (restoredAt k s l (approxLength n) p) (bytesAt k s (detailsLength n) (p + bodySize k l (approxLength n)))

@@ -10,12 +10,12 @@ use Rattle.answers.specs.Checks.{Check, firstOf, ragged, tight, twoAreas, Call}
 use Rattle.sizes.specs.Levels.{levelsOf}
 use Rattle.dwt.specs.declared.filter.Filter.{Filter}
 use Rattle.dwt.specs.Filters.{widthOf}
-use Rattle.dwt.specs.Calls.{levelsChecks}
+use Rattle.dwt.specs.Calls.{depthChecks}
 use Rattle.pyramid.specs.Files.{headSize, fileSize, fileOf}
 
 -- by samples: n of the signal, u and v of the work areas; b bytes of the file area
 abbrev pub writeChecks : Filter → ℕ → ℕ → ℕ → ℕ → ℕ → List Check
-writeChecks f l n b u v = levelsChecks f l n ++ (tight b (fileSize headSize (widthOf f) (levelsOf l) n) ∷ twoAreas u v n)
+writeChecks f l n b u v = depthChecks f l n ++ (tight b (fileSize headSize (widthOf f) (levelsOf l) n) ∷ twoAreas u v n)
 
 -- by byte lengths: the file area may have any
 unfoldable pub sayWrite : Filter → ℕ → ℕ → ℕ → ℕ → ℕ → Refusal

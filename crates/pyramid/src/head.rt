@@ -3,7 +3,7 @@ ghost use mathlib.Core.List.{_++_};
 ghost use mathlib.Core.Path.{_≡_};
 ghost use Prim.Native.Nat.{_≤_, _<_};
 ghost use lib.ListN.{length, drop};
-ghost use Rattle.sizes.specs.Bands.{mostSamples};
+ghost use Rattle.sizes.specs.Lengths.{mostSamples};
 ghost use Rattle.pyramid.specs.Files.{headOf, headSize};
 ghost use Rattle.pyramid.specs.Opens.{headIn, Read};
 use samples::le::read_u32;

@@ -23,8 +23,8 @@ use sizes::MOST_SAMPLES;
 use sizes::Wavelet;
 use sizes::checks::check_whole;
 use sizes::checks::two_areas;
+use sizes::count_at;
 use sizes::depth;
-use sizes::places_of;
 
 // A file's own width and point: 1 and 0 where it has no section 0.
 pub fn own_width(s: &[u8]) -> usize
@@ -208,7 +208,7 @@ pub fn check_file(s: &[u8], w: usize, p: usize) -> Refusal
         return cut;
     }
     let level = h.levels - whole_details(way, h.levels);
-    Refusal::Done(level, places_of(level, h.samples))
+    Refusal::Done(level, count_at(level, h.samples))
 }
 
 // What opening says.

@@ -3,7 +3,7 @@ ghost use mathlib.Core.List.{_++_};
 ghost use mathlib.Core.Path.{_≡_};
 ghost use Prim.Native.Nat.{_+_, _*_, _≤_};
 ghost use lib.ListN.{length, take, drop};
-ghost use Rattle.sizes.specs.Bands.{mostSamples, ups, downs, smallestOf};
+ghost use Rattle.sizes.specs.Lengths.{mostSamples, approxLength, detailsLength, smallestOf};
 ghost use Rattle.dwt.specs.Filters.{Integers, widthOf, waveletOf, backOf};
 ghost use Rattle.dwt.specs.Calls.{Room};
 ghost use Rattle.pyramid.specs.Files.{bodySize};
@@ -29,11 +29,11 @@ fn fetch(f: Filter, n: usize, s: &[u8], at: usize, to: &mut [u8])
 fn build(f: Filter, n: usize, s: &[u8], at: usize, other: &[u8], to: &mut [u8])
     requires { ⌜ smallestOf (waveletOf f) ≤ n ⌝ }
     requires { ⌜ n ≤ mostSamples ⌝ }
-    requires { ⌜ at + (4 + widthOf f * downs n) ≤ length (now s) ⌝ }
-    requires { ⌜ widthOf f * ups n ≤ length (now other) ⌝ }
+    requires { ⌜ at + (4 + widthOf f * detailsLength n) ≤ length (now s) ⌝ }
+    requires { ⌜ widthOf f * approxLength n ≤ length (now other) ⌝ }
     requires { ⌜ widthOf f * n ≤ length (now to) ⌝ }
-    ensures { λ _. ⌜ now (to .exit) ≡ backOf f (take (widthOf f * ups n) (now (other .entry))) (bytesAt (widthOf f) (now (s .entry)) (downs n) at) ++ drop (widthOf f * n) (now (to .entry)) ⌝ }
-    ensures { λ _. ⌜ length (backOf f (take (widthOf f * ups n) (now (other .entry))) (bytesAt (widthOf f) (now (s .entry)) (downs n) at)) ≡ widthOf f * n ⌝ }
+    ensures { λ _. ⌜ now (to .exit) ≡ backOf f (take (widthOf f * approxLength n) (now (other .entry))) (bytesAt (widthOf f) (now (s .entry)) (detailsLength n) at) ++ drop (widthOf f * n) (now (to .entry)) ⌝ }
+    ensures { λ _. ⌜ length (backOf f (take (widthOf f * approxLength n) (now (other .entry))) (bytesAt (widthOf f) (now (s .entry)) (detailsLength n) at)) ≡ widthOf f * n ⌝ }
 {
     let all = bytes_of(f, n);
     let cut = cut_of(f, n);

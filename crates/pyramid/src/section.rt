@@ -15,7 +15,7 @@ use answers::err::Answer;
 use answers::err::Refusal;
 use answers::err::is_done;
 use answers::err::numbers;
-use sizes::places_of;
+use sizes::count_at;
 
 // A section's number, of l levels.
 fn check_number(j: usize, l: usize) -> Refusal
@@ -36,7 +36,7 @@ fn samples_to(h: Head, j: usize) -> usize
     requires { ⌜ (j ≤ h .levels + 1) × (h .levels < 256) ⌝ }
     ensures { λ r. ⌜ (r ≡ samplesTo h j) × (r ≤ h .samples) ⌝ }
 {
-    places_of(h.levels + 1 - j, h.samples)
+    count_at(h.levels + 1 - j, h.samples)
 }
 
 // The walk through section j.

@@ -4,7 +4,7 @@ ghost use mathlib.Core.Path.{_≡_};
 ghost use Prim.Native.Nat.{_+_, _*_, _<_, _≤_};
 ghost use lib.ListN.{length, take, drop};
 ghost use Rattle.answers.specs.Checks.{firstOf};
-ghost use Rattle.sizes.specs.Bands.{mostSamples, ups, downs, smallestOf};
+ghost use Rattle.sizes.specs.Lengths.{mostSamples, approxLength, detailsLength, smallestOf};
 ghost use Rattle.dwt.specs.Filters.{Integers, widthOf, waveletOf, lowOf, highOf};
 ghost use Rattle.dwt.specs.Calls.{Room, Ready};
 ghost use Rattle.pyramid.specs.Files.{sectionOf, headSize, bodyOf, bodySize, fileSize, fileOf};
@@ -19,7 +19,7 @@ use dwt::filter::Filter;
 use dwt::filter::bytes_of;
 use dwt::filter::execute_forward;
 use dwt::filter::width;
-use dwt::levels::check_levels;
+use dwt::levels::check_depth;
 use dwt::levels::cut_of;
 use samples::le::write_u32;
 use sizes::at_least_one;
@@ -50,10 +50,10 @@ fn lay_level(f: Filter, n: usize, at: usize, x: &[u8], to: &mut [u8], out: &mut 
     requires { ⌜ n ≤ mostSamples ⌝ }
     requires { ⌜ length (now x) ≡ widthOf f * n ⌝ }
     requires { ⌜ widthOf f * n ≤ length (now to) ⌝ }
-    requires { ⌜ length (now out) ≡ at + 4 + widthOf f * downs n ⌝ }
-    ensures { λ _. ⌜ now (to .exit) ≡ lowOf f (now (x .entry)) ++ drop (widthOf f * ups n) (now (to .entry)) ⌝ }
-    ensures { λ _. ⌜ now (out .exit) ≡ take at (now (out .entry)) ++ sectionOf (downs n) (highOf f (now (x .entry))) ⌝ }
-    ensures { λ _. ⌜ length (lowOf f (now (x .entry))) ≡ widthOf f * ups n ⌝ }
+    requires { ⌜ length (now out) ≡ at + 4 + widthOf f * detailsLength n ⌝ }
+    ensures { λ _. ⌜ now (to .exit) ≡ lowOf f (now (x .entry)) ++ drop (widthOf f * approxLength n) (now (to .entry)) ⌝ }
+    ensures { λ _. ⌜ now (out .exit) ≡ take at (now (out .entry)) ++ sectionOf (detailsLength n) (highOf f (now (x .entry))) ⌝ }
+    ensures { λ _. ⌜ length (lowOf f (now (x .entry))) ≡ widthOf f * approxLength n ⌝ }
 {
     write_u32(out, at, (n / 2) as u32);
     let cut = cut_of(f, n);
@@ -108,7 +108,7 @@ fn lay_file(
 fn write_lengths(f: Filter, levels: usize, n: usize, b: usize, u: usize, v: usize) -> Refusal
     ensures { λ r. ⌜ r ≡ firstOf (writeChecks f levels n b u v) (Refusal.Done 0 0) ⌝ }
 {
-    let said = check_levels(f, levels, n);
+    let said = check_depth(f, levels, n);
     if !is_done(said) {
         return said;
     }

@@ -9,8 +9,8 @@ use lib.Pow.{pow-pos}
 use Rattle.order.proofs.Order.{lt-or-le}
 use Rattle.sizes.specs.declared.Wavelet.{Wavelet}
 use Rattle.sizes.specs.declared.Wavelet.the-variants.{Cdf53, Cdf97}
-use Rattle.sizes.specs.Bands.{smallestOf, ups}
-use Rattle.sizes.specs.Levels.{places, Runs, depthWithin, depthFrom, depthOf}
+use Rattle.sizes.specs.Lengths.{smallestOf, approxLength}
+use Rattle.sizes.specs.Levels.{afterLevels, countAt, Runs, depthWithin, depthFrom, depthOf}
 
 -- an input that is too short has no level
 none-within : (k m n : ℕ) → n < m → depthWithin k m n ≡ 0
@@ -26,21 +26,21 @@ enough (suc k) zero m n h p q = none-within (suc k) m n (omega arith)
 enough (suc k) (suc j) m n h p q =
     ⊎-elim
     (λ l. simp (lt-ltb n m l))
-    (λ l. simp (le-ltb n m l) (ap suc (enough k j m (ups n) h (omega arith) (omega arith))))
+    (λ l. simp (le-ltb n m l) (ap suc (enough k j m (approxLength n) h (omega arith) (omega arith))))
     (lt-or-le n m)
 
 -- one level more
-more-within : (k m n : ℕ) → n ≡ k → 2 ≤ m → m ≤ n → depthWithin k m n ≡ suc (depthWithin (ups n) m (ups n))
+more-within : (k m n : ℕ) → n ≡ k → 2 ≤ m → m ≤ n → depthWithin k m n ≡ suc (depthWithin (approxLength n) m (approxLength n))
 unfolding depthWithin
 more-within zero m n e t h = absurd (let z : 1 ≤ 0 = omega arith in omega arith)
-more-within (suc k) m n e t h = simp (le-ltb n m h) (ap suc (enough k (ups n) m (ups n) t (omega arith) (omega arith)))
+more-within (suc k) m n e t h = simp (le-ltb n m h) (ap suc (enough k (approxLength n) m (approxLength n) t (omega arith) (omega arith)))
 
 -- each input of levels that run is long enough
-runs-places : (m l j n : ℕ) → Runs m l n → j < l → m ≤ places j n
-unfolding Runs places
+runs-places : (m l j n : ℕ) → Runs m l n → j < l → m ≤ countAt j n
+unfolding Runs afterLevels
 runs-places m zero j n r h = absurd (omega arith)
 runs-places m (suc l) zero n r h = r .0
-runs-places m (suc l) (suc j) n r h = runs-places m l j (ups n) (r .1) (omega arith)
+runs-places m (suc l) (suc j) n r h = runs-places m l j (approxLength n) (r .1) (omega arith)
 
 module _ (m : ℕ) (t : 2 ≤ m) where
   -- an input that is too short has no level
@@ -49,12 +49,12 @@ module _ (m : ℕ) (t : 2 ≤ m) where
   too-short n h = none-within n m n h
 
   -- one level, and then those of its approximations
-  pub one-more : (n : ℕ) → m ≤ n → depthFrom m n ≡ suc (depthFrom m (ups n))
+  pub one-more : (n : ℕ) → m ≤ n → depthFrom m n ≡ suc (depthFrom m (approxLength n))
   unfolding depthFrom
   one-more n h = more-within n m n refl t h
 
   -- one level within the depth: its input is long enough, and its approximations have the rest
-  pub step : (l n : ℕ) → suc l ≤ depthFrom m n → (m ≤ n) × (l ≤ depthFrom m (ups n))
+  pub step : (l n : ℕ) → suc l ≤ depthFrom m n → (m ≤ n) × (l ≤ depthFrom m (approxLength n))
   step l n h =
       ⊎-elim
       (λ b. absurd (omega (arith, too-short n b)))
@@ -65,22 +65,20 @@ module _ (m : ℕ) (t : 2 ≤ m) where
   pub depth-runs : (l n : ℕ) → l ≤ depthFrom m n → Runs m l n
   unfolding Runs
   depth-runs zero n h = tt
-  depth-runs (suc l) n h = let s = step l n h in (s .0, depth-runs l (ups n) (s .1))
+  depth-runs (suc l) n h = let s = step l n h in (s .0, depth-runs l (approxLength n) (s .1))
 
   pub runs-depth : (l n : ℕ) → Runs m l n → l ≤ depthFrom m n
   unfolding Runs
   runs-depth zero n r = omega arith
-  runs-depth (suc l) n r = omega (arith, one-more n (r .0), runs-depth l (ups n) (r .1))
+  runs-depth (suc l) n r = omega (arith, one-more n (r .0), runs-depth l (approxLength n) (r .1))
 
   -- at each level within the depth the input is long enough
-  pub long-enough : (l j n : ℕ) → l ≤ depthFrom m n → j < l → m ≤ places j n
+  pub long-enough : (l j n : ℕ) → l ≤ depthFrom m n → j < l → m ≤ countAt j n
   long-enough l j n h k = runs-places m l j n (depth-runs l n h) k
 
   -- one turn of the loop that counts: what is left has one level less
-  pub depth-turn : (n left levels : ℕ) → levels + depthFrom m left ≡ depthFrom m n → m ≤ left → levels + 1 + depthFrom m (left - left / 2) ≡ depthFrom m n
-  depth-turn n left levels e h =
-      let u : left - left / 2 ≡ ups left = omega arith in
-      omega (arith, one-more left h, ap (depthFrom m) u)
+  pub depth-turn : (n left levels : ℕ) → levels + depthFrom m left ≡ depthFrom m n → m ≤ left → levels + 1 + depthFrom m (approxLength left) ≡ depthFrom m n
+  depth-turn n left levels e h = omega (arith, one-more left h)
 
   -- and its end
   pub depth-end : (n left levels : ℕ) → levels + depthFrom m left ≡ depthFrom m n → left < m → levels ≡ depthFrom m n
@@ -96,7 +94,7 @@ depth-power zero = too-short 3 (omega arith) 2 (omega arith)
 depth-power (suc k) =
     let e : 2 ^ suc (suc k) ≡ 2 * 2 ^ suc k = pow-succ' 2 (suc k) in
     let p : 2 ≤ 2 ^ suc k = omega (arith, pow-succ' 2 k, pow-pos k) in
-    let h : ups (2 ^ suc (suc k)) ≡ 2 ^ suc k = omega arith in
+    let h : approxLength (2 ^ suc (suc k)) ≡ 2 ^ suc k = omega arith in
     one-more 3 (omega arith) (2 ^ suc (suc k)) (omega arith) ∙ ap (λ n. suc (depthFrom 3 n)) h ∙ ap suc (depth-power k)
 
 -- no number of samples has more levels than the power of two above it
@@ -106,15 +104,15 @@ depth-at-most (suc k) n h =
     let e : 2 ^ suc (suc k) ≡ 2 * 2 ^ suc k = pow-succ' 2 (suc k) in
     ⊎-elim
     (λ (g : n < 3). omega (arith, too-short 3 (omega arith) n g))
-    (λ (g : 3 ≤ n). omega (arith, one-more 3 (omega arith) n g, depth-at-most k (ups n) (omega arith)))
+    (λ (g : 3 ≤ n). omega (arith, one-more 3 (omega arith) n g, depth-at-most k (approxLength n) (omega arith)))
     (lt-or-le n 3)
 
 -- levels within the depth: those that are left after i of them are within the depth of what is left
-pub depth-rest : (w : Wavelet) (i l n : ℕ) → i ≤ l → l ≤ depthOf w n → l - i ≤ depthOf w (places i n)
-unfolding places
+pub depth-rest : (w : Wavelet) (i l n : ℕ) → i ≤ l → l ≤ depthOf w n → l - i ≤ depthOf w (countAt i n)
+unfolding afterLevels
 depth-rest w zero l n h d = omega arith
 depth-rest w (suc i) l n h d =
     let e : suc (l - 1) ≤ depthOf w n = omega arith in
     let s = step (smallestOf w) (two-below w) (l - 1) n e in
-    let r = depth-rest w i (l - 1) (ups n) (omega arith) (s .1) in
+    let r = depth-rest w i (l - 1) (approxLength n) (omega arith) (s .1) in
     omega (arith, r)

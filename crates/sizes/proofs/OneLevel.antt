@@ -19,11 +19,11 @@ use Rattle.answers.proofs.Chain.{same}
 use Rattle.answers.proofs.Endings.{left-done, left-refused}
 use Rattle.sizes.specs.declared.Wavelet.{Wavelet}
 use Rattle.sizes.specs.declared.Wavelet.the-variants.{Cdf53, Cdf97}
-use Rattle.sizes.specs.Bands.{mostSamples, ups, downs, smallestOf, expectedApprox, expectedDetails}
+use Rattle.sizes.specs.Lengths.{mostSamples, approxLength, detailsLength, smallestOf, expectedApprox, expectedDetails}
 use Rattle.sizes.specs.Calls.{forwardChecks, sayForward, inverseChecks, sayInverse, Level, Forward, Inverse}
 
 -- lengths that an inverse expects are those of a level
-pub expected : (w : Wavelet) (a d n : ℕ) → n ≡ a + d → a ≡ expectedApprox n → d ≡ expectedDetails w n → (smallestOf w ≤ n) × (a ≡ ups n) × (d ≡ downs n)
+pub expected : (w : Wavelet) (a d n : ℕ) → n ≡ a + d → a ≡ expectedApprox n → d ≡ expectedDetails w n → (smallestOf w ≤ n) × (a ≡ approxLength n) × (d ≡ detailsLength n)
 expected Cdf53 a d n e p q = (omega arith, omega arith, omega arith)
 expected Cdf97 a d n e p q = (omega arith, omega arith, omega arith)
 
@@ -36,8 +36,8 @@ forward-ready w k x a d h =
       long = roomy (x / k) (smallestOf w) (q .1 .0);
       short = roomy mostSamples (x / k) (q .0);
       samples = whole k x (p .0);
-      approx = whole k a (p .1 .0) ∙ ap (λ n. k * n) (right (a / k) (ups (x / k)) (q .1 .1 .0));
-      details = whole k d (p .1 .1 .0) ∙ ap (λ n. k * n) (right (d / k) (downs (x / k)) (q .1 .1 .1 .0));
+      approx = whole k a (p .1 .0) ∙ ap (λ n. k * n) (right (a / k) (approxLength (x / k)) (q .1 .1 .0));
+      details = whole k d (p .1 .1 .0) ∙ ap (λ n. k * n) (right (d / k) (detailsLength (x / k)) (q .1 .1 .1 .0));
     }
 
 pub inverse-ready : (w : Wavelet) (k a d o : ℕ) → done (sayInverse w k a d o) ≡ true → Level w k (o / k) o a d
@@ -67,19 +67,19 @@ pub forward-fits : (w : Wavelet) (k n x a d : ℕ) → 0 < k → Level w k n x a
 unfolding sayForward
 forward-fits w k n x a d p l =
     through (ragged k x ∷ ragged k a ∷ ragged k d ∷ forwardChecks w (x / k) (a / k) (d / k)) (Done 0 0)
-    (rw (count-is k n x p (l .samples), count-is k (ups n) a p (l .approx), count-is k (downs n) d p (l .details)) (
+    (rw (count-is k n x p (l .samples), count-is k (approxLength n) a p (l .approx), count-is k (detailsLength n) d p (l .details)) (
       whole-passes k n x (l .samples),
       (
-        whole-passes k (ups n) a (l .approx),
+        whole-passes k (approxLength n) a (l .approx),
         (
-          whole-passes k (downs n) d (l .details),
-          (le-ltb mostSamples n (l .short), (le-ltb n (smallestOf w) (l .long), (same (ups n) (ups n) refl, (same (downs n) (downs n) refl, tt)))),
+          whole-passes k (detailsLength n) d (l .details),
+          (le-ltb mostSamples n (l .short), (le-ltb n (smallestOf w) (l .long), (same (approxLength n) (approxLength n) refl, (same (detailsLength n) (detailsLength n) refl, tt)))),
         ),
       ),
     ))
 
 -- and the other way
-pub expects : (w : Wavelet) (n : ℕ) → smallestOf w ≤ n → (n ≡ ups n + downs n) × (ups n ≡ expectedApprox n) × (downs n ≡ expectedDetails w n)
+pub expects : (w : Wavelet) (n : ℕ) → smallestOf w ≤ n → (n ≡ approxLength n + detailsLength n) × (approxLength n ≡ expectedApprox n) × (detailsLength n ≡ expectedDetails w n)
 expects Cdf53 n h = (omega arith, omega arith, omega arith)
 expects Cdf97 n h = (omega arith, omega arith, omega arith)
 
@@ -88,19 +88,19 @@ unfolding sayInverse
 inverse-fits w k n x a d p l =
     let e = expects w n (l .long) in
     through (ragged k a ∷ ragged k d ∷ ragged k x ∷ inverseChecks w (a / k) (d / k) (x / k)) (Done 0 0)
-    (rw (count-is k n x p (l .samples), count-is k (ups n) a p (l .approx), count-is k (downs n) d p (l .details)) (
-      whole-passes k (ups n) a (l .approx),
+    (rw (count-is k n x p (l .samples), count-is k (approxLength n) a p (l .approx), count-is k (detailsLength n) d p (l .details)) (
+      whole-passes k (approxLength n) a (l .approx),
       (
-        whole-passes k (downs n) d (l .details),
+        whole-passes k (detailsLength n) d (l .details),
         (
           whole-passes k n x (l .samples),
           (
-            le-ltb mostSamples (ups n) (omega (arith, l .short)),
+            le-ltb mostSamples (approxLength n) (omega (arith, l .short)),
             (
-              le-ltb mostSamples (downs n) (omega (arith, l .short)),
+              le-ltb mostSamples (detailsLength n) (omega (arith, l .short)),
               (
                 le-ltb mostSamples n (l .short),
-                (same n (ups n + downs n) (e .0), (same (ups n) (expectedApprox n) (e .1), (same (downs n) (expectedDetails w n) (e .2), tt))),
+                (same n (approxLength n + detailsLength n) (e .0), (same (approxLength n) (expectedApprox n) (e .1), (same (detailsLength n) (expectedDetails w n) (e .2), tt))),
               ),
             ),
           ),

@@ -12,11 +12,11 @@ use Rattle.answers.specs.declared.err.Refusal.the-variants.{Done, MinFilterSize
 use Rattle.answers.specs.Answers.{answerOf}
 use Rattle.answers.specs.Checks.{Check, firstOf, ragged, left}
 use Rattle.sizes.specs.declared.Wavelet.{Wavelet}
-use Rattle.sizes.specs.Bands.{mostSamples, ups, downs, smallestOf, expectedApprox, expectedDetails}
+use Rattle.sizes.specs.Lengths.{mostSamples, approxLength, detailsLength, smallestOf, expectedApprox, expectedDetails}
 
 -- "2 approximations (got, n), 2 details (got, n)", also of `dwt`, "as forward with the last level's input length"
 abbrev pub forwardBands : ℕ → ℕ → ℕ → List Check
-forwardBands n a d = (not (eqb a (ups n)), ApproxSizeNotMatches a n) ∷ (not (eqb d (downs n)), ApproxSizeNotMatches d n) ∷ []
+forwardBands n a d = (not (eqb a (approxLength n)), ApproxSizeNotMatches a n) ∷ (not (eqb d (detailsLength n)), ApproxSizeNotMatches d n) ∷ []
 
 -- "Forward: 6 (n over 16,777,216), 1, 2 approximations (got, n), 2 details (got, n)", by samples
 abbrev pub forwardChecks : Wavelet → ℕ → ℕ → ℕ → List Check
@@ -53,8 +53,8 @@ pub record Level (w : Wavelet) (k n x a d : ℕ) : Type 0 where
   pub long : smallestOf w ≤ n
   pub short : n ≤ mostSamples
   pub samples : x ≡ k * n
-  pub approx : a ≡ k * ups n
-  pub details : d ≡ k * downs n
+  pub approx : a ≡ k * approxLength n
+  pub details : d ≡ k * detailsLength n
 
 -- the answer r and the bands a′ and d′ that a forward call leaves, for the samples x and the lent bands a and d
 pub record Forward (w : Wavelet) (k : ℕ) (low high : List ℕ → List ℕ) (x a d : List ℕ) (r : Answer) (a′ d′ : List ℕ) : Type 0 where

@@ -7,22 +7,31 @@ use Rattle.answers.specs.declared.err.Refusal.{Refusal}
 use Rattle.answers.specs.declared.err.Refusal.the-variants.{Done, TooLong}
 use Rattle.answers.specs.Checks.{firstOf}
 use Rattle.sizes.specs.declared.Wavelet.{Wavelet}
-use Rattle.sizes.specs.Bands.{mostSamples, ups, smallestOf}
+use Rattle.sizes.specs.Lengths.{mostSamples, approxLength, smallestOf}
+
+-- what stands after l levels, where one level makes `level a` of a: of counts, bytes, floats or whole numbers
+unfoldable pub afterLevels : {A : Type 0} → (A → A) → ℕ → A → A
+afterLevels level zero a = a
+afterLevels level (suc l) a = afterLevels level l (level a)
+
+-- l levels forward and back again, where one level makes `low a` and `high a` of a, and `back` makes one of two
+unfoldable pub thereAndBack : {A : Type 0} → (A → A) → (A → A) → (A → A → A) → ℕ → A → A
+thereAndBack low high back zero a = a
+thereAndBack low high back (suc l) a = back (thereAndBack low high back l (low a)) (high a)
 
 -- how many approximations n samples have after l levels
-unfoldable pub places : ℕ → ℕ → ℕ
-places zero n = n
-places (suc l) n = places l (ups n)
+abbrev pub countAt : ℕ → ℕ → ℕ
+countAt = afterLevels approxLength
 
 -- l levels run on n samples: each level's input has m samples or more
 unfoldable pub Runs : ℕ → ℕ → ℕ → Type 0
 Runs m zero n = Unit {0}
-Runs m (suc l) n = (m ≤ n) × Runs m l (ups n)
+Runs m (suc l) n = (m ≤ n) × Runs m l (approxLength n)
 
 -- how many levels run before an input has fewer than m samples, counted up to k
 unfoldable pub depthWithin : ℕ → ℕ → ℕ → ℕ
 depthWithin zero m n = 0
-depthWithin (suc k) m n = cond (ltb n m) 0 (suc (depthWithin k m (ups n)))
+depthWithin (suc k) m n = cond (ltb n m) 0 (suc (depthWithin k m (approxLength n)))
 
 -- the same with nothing to count up to: n samples never have more than n levels
 unfoldable pub depthFrom : ℕ → ℕ → ℕ

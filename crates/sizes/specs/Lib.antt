@@ -1,3 +1,3 @@
-pub mod Bands
+pub mod Lengths
 pub mod Levels
 pub mod Calls

@@ -4,8 +4,8 @@ pub mod checks;
 ghost use mathlib.Core.Path.{_≡_};
 ghost use Prim.Native.Nat.{max, min};
 ghost use Rattle.answers.specs.Answers.{answerOf};
-ghost use Rattle.sizes.specs.Bands.{ups, downs, smallestOf, leastDetails, expectedApprox, expectedDetails};
-ghost use Rattle.sizes.specs.Levels.{places, depthOf, sayDepth, levelsOf};
+ghost use Rattle.sizes.specs.Lengths.{approxLength, detailsLength, smallestOf, leastDetails, expectedApprox, expectedDetails};
+ghost use Rattle.sizes.specs.Levels.{countAt, depthOf, sayDepth, levelsOf};
 use answers::err::Answer;
 use answers::err::Refusal;
 use answers::err::numbers;
@@ -27,14 +27,14 @@ pub struct DwtSize {
 
 // How many approximations n samples have.
 pub fn approx_length(n: usize) -> usize
-    ensures { λ r. ⌜ r ≡ ups n ⌝ }
+    ensures { λ r. ⌜ r ≡ approxLength n ⌝ }
 {
     n - n / 2
 }
 
 // How many details n samples have.
 pub fn details_length(n: usize) -> usize
-    ensures { λ r. ⌜ r ≡ downs n ⌝ }
+    ensures { λ r. ⌜ r ≡ detailsLength n ⌝ }
 {
     n / 2
 }
@@ -75,8 +75,8 @@ pub fn dwt_size(w: Wavelet, n: usize) -> DwtSize
     ensures { λ r. ⌜ (r .approx ≡ expectedApprox n) × (r .details ≡ expectedDetails w n) ⌝ }
 {
     DwtSize {
-        approx: at_least(2, n - n / 2),
-        details: at_least(least_details(w), n / 2),
+        approx: at_least(2, approx_length(n)),
+        details: at_least(least_details(w), details_length(n)),
     }
 }
 
@@ -88,13 +88,13 @@ pub fn at_least_one(levels: usize) -> usize
 }
 
 // How many approximations n samples have after so many levels.
-pub fn places_of(levels: usize, n: usize) -> usize
-    ensures { λ r. ⌜ r ≡ places levels n ⌝ }
+pub fn count_at(levels: usize, n: usize) -> usize
+    ensures { λ r. ⌜ r ≡ countAt levels n ⌝ }
 {
     let mut count = n;
     let mut i = 0;
     while i < levels {
-        count = count - count / 2;
+        count = approx_length(count);
         i += 1;
     }
     count
@@ -108,7 +108,7 @@ pub fn depth(w: Wavelet, n: usize) -> usize
     let mut left = n;
     let mut levels: usize = 0;
     while m <= left {
-        left = left - left / 2;
+        left = approx_length(left);
         levels += 1;
     }
     levels

@@ -12,7 +12,7 @@ use Rattle.small.proofs.Sizes as sizes
 use Rattle.small.proofs.Lifts as lifts
 use Rattle.small.proofs.Lifts.{length-evenIn, length-oddIn, even-in, odd-in}
 
-pub far : (f : Format) → sizes.reach f + 9 + 9 < sizes.ceiling f
+pub far : (f : Format) → sizes.sizeRead f + 9 + 9 < sizes.ceiling f
 far binary32 = omega arith
 far binary64 = omega arith
 
@@ -31,11 +31,11 @@ module _ (f : Format) (x : List ℕ) (long : 3 ≤ length x / width f) where
         (ey ∙ even-in f x i l el (omega arith)) (ez ∙ even-in f x j r er (omega arith)) (et ∙ odd-in f x i m em (omega arith))
 
     -- small samples around leave it small: those from 2 i on, to 2 i + 2
-    pub odd-small : (i : ℕ) → i < length x / width f / 2 → Factor c → SmallFrom f x (2 * i) (2 * i + 3) → Small f (sizes.reach f + 9) (getD (oddsTo f c x) i nan)
+    pub odd-small : (i : ℕ) → i < length x / width f / 2 → Factor c → SmallFrom f x (2 * i) (2 * i + 3) → Small f (sizes.sizeRead f + 9) (getD (oddsTo f c x) i nan)
     unfolding oddsTo
     odd-small i h k w =
         let j = min (i + 1) ((length x / width f + 1) / 2 - 1) in
-        lifts.odd-small f c (evenIn f x) (oddIn f x) (sizes.reach f) k (omega (arith, far f)) i j (rw (length-oddIn f x) h) (rw (length-evenIn f x) refl)
+        lifts.odd-small f c (evenIn f x) (oddIn f x) (sizes.sizeRead f) k (omega (arith, far f)) i j (rw (length-oddIn f x) h) (rw (length-evenIn f x) refl)
         (lifts.even-in-small w i (omega arith) (omega arith) (omega arith)) (lifts.even-in-small w j (omega arith) (omega arith) (omega arith)) (lifts.odd-in-small w i (omega arith) (omega arith) (omega arith))
 
     module _ (g : Float) where
@@ -50,11 +50,11 @@ module _ (f : Format) (x : List ℕ) (long : 3 ≤ length x / width f) where
           lifts.even-made f g (evenIn f x) (oddsTo f c x) i l r (rw (length-evenIn f x) h) el (rw length-oddsTo er) ey ez (et ∙ even-in f x i k ek (omega arith))
 
       -- those from 2 i - 2 on, to 2 i + 2
-      pub even-small : (i : ℕ) → i < (length x / width f + 1) / 2 → Factor c → Factor g → SmallFrom f x (2 * i - 2) (2 * i + 3) → Small f (sizes.reach f + 9 + 9) (getD (evensTo f c g x) i nan)
+      pub even-small : (i : ℕ) → i < (length x / width f + 1) / 2 → Factor c → Factor g → SmallFrom f x (2 * i - 2) (2 * i + 3) → Small f (sizes.sizeRead f + 9 + 9) (getD (evensTo f c g x) i nan)
       unfolding evensTo
       even-small i h kc kg w =
           let r = min i (length x / width f / 2 - 1) in
-          lifts.even-small f g (evenIn f x) (oddsTo f c x) (sizes.reach f + 9) kg (far f) i (i - 1) r (rw (length-evenIn f x) h) refl (rw length-oddsTo refl)
+          lifts.even-small f g (evenIn f x) (oddsTo f c x) (sizes.sizeRead f + 9) kg (far f) i (i - 1) r (rw (length-evenIn f x) h) refl (rw length-oddsTo refl)
           (odd-small (i - 1) (omega arith) kc (sizes.small-part _ _ w (omega arith) (omega arith)))
           (odd-small r (omega arith) kc (sizes.small-part _ _ w (omega arith) (omega arith)))
-          (sizes.small-le f (getD (evenIn f x) i nan) (sizes.reach f) (sizes.reach f + 9) (lifts.even-in-small w i (omega arith) (omega arith) (omega arith)) (omega arith))
+          (sizes.small-le f (getD (evenIn f x) i nan) (sizes.sizeRead f) (sizes.sizeRead f + 9) (lifts.even-in-small w i (omega arith) (omega arith) (omega arith)) (omega arith))

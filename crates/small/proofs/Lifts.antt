@@ -18,7 +18,7 @@ use Rattle.samples.proofs.FloatLaws.{length-decodeFloats, at-decodeFloats, enco
 use Rattle.floats.specs.Steps.{lift, oddAt, evenAt, odds, evens, scaled}
 use Rattle.small.specs.Small.{Small, Factor, SmallFrom}
 use Rattle.small.specs.Lists.{evenIn, oddIn, patternOf, inTurn}
-use Rattle.small.proofs.Sizes.{ceiling, reach, lift-small, mul-small, small-no-nan, float-small}
+use Rattle.small.proofs.Sizes.{ceiling, sizeRead, lift-small, mul-small, small-no-nan, float-small}
 
 -- ---- the floats in a slice
 
@@ -97,13 +97,13 @@ module _ (f : Format) (k : Float) (l : List Float) where
 
 -- the floats of a slice, where it has small ones
 module _ {f : Format} {x : List ℕ} {lo hi : ℕ} (w : SmallFrom f x lo hi) (i : ℕ) where
-  pub small-in : lo ≤ i → i < hi → i < length x / width f → Small f (reach f) (getD (decodeFloats f x) i nan)
+  pub small-in : lo ≤ i → i < hi → i < length x / width f → Small f (sizeRead f) (getD (decodeFloats f x) i nan)
   small-in a b h = rw (at-decodeFloats f x i h) (float-small w i a b h)
 
-  pub even-in-small : lo ≤ 2 * i → 2 * i < hi → 2 * i < length x / width f → Small f (reach f) (getD (evenIn f x) i nan)
+  pub even-in-small : lo ≤ 2 * i → 2 * i < hi → 2 * i < length x / width f → Small f (sizeRead f) (getD (evenIn f x) i nan)
   even-in-small a b h = rw (← even-in f x i (2 * i) refl h) (float-small w (2 * i) a b h)
 
-  pub odd-in-small : lo ≤ 2 * i + 1 → 2 * i + 1 < hi → 2 * i + 1 < length x / width f → Small f (reach f) (getD (oddIn f x) i nan)
+  pub odd-in-small : lo ≤ 2 * i + 1 → 2 * i + 1 < hi → 2 * i + 1 < length x / width f → Small f (sizeRead f) (getD (oddIn f x) i nan)
   odd-in-small a b h = rw (← odd-in f x i (2 * i + 1) refl h) (float-small w (2 * i + 1) a b h)
 
 -- a finite float is no NaN

@@ -171,8 +171,8 @@ abbrev field : Format → ℕ
 field binary32 = 191
 field binary64 = 1791
 
-abbrev pub reach : Format → ℕ
-reach f = prec f + field f
+abbrev pub sizeRead : Format → ℕ
+sizeRead f = prec f + field f
 
 field-lt : (f : Format) → field f < ones f
 field-lt binary32 = omega arith
@@ -182,7 +182,7 @@ field-le : (f : Format) (n : ℕ) → n % top f < edge f → n % top f / hid f �
 field-le binary32 n h = omega arith
 field-le binary64 n h = omega arith
 
-bits-small : (f : Format) (n : ℕ) → n % top f < edge f → Small f (reach f) (ofBits f n)
+bits-small : (f : Format) (n : ℕ) → n % top f < edge f → Small f (sizeRead f) (ofBits f n)
 unfolding ofBits
 bits-small f n h = fields-small f (leb (top f) n) (n % top f / hid f) (n % hid f) (field f) (field-le f n h) (field-lt f) (mod-lt n (hid-pos f))
 
@@ -191,7 +191,7 @@ below-nan binary32 n h = omega arith
 below-nan binary64 n h = omega arith
 
 module _ {f : Format} {s : List ℕ} {i j : ℕ} (h : SmallFrom f s i j) (p : ℕ) (ip : i ≤ p) (pj : p < j) (l : p < length s / width f) where
-  pub float-small : Small f (reach f) (floatAt f s p)
+  pub float-small : Small f (sizeRead f) (floatAt f s p)
   unfolding floatAt
   float-small = bits-small f _ (h .each p ip pj l)
 

@@ -17,8 +17,8 @@ use Rattle.answers.proofs.Chain.{same}
 use Rattle.answers.proofs.Passed.{Passing, pass-both, through}
 use Rattle.sizes.specs.declared.Wavelet.{Wavelet}
 use Rattle.sizes.specs.declared.Wavelet.the-variants.{Cdf53, Cdf97}
-use Rattle.sizes.specs.Bands.{mostSamples, ups, downs, smallestOf, expectedApprox, expectedDetails}
-use Rattle.sizes.specs.Levels.{places, depthOf, levelsOf}
+use Rattle.sizes.specs.Lengths.{mostSamples, approxLength, detailsLength, smallestOf, expectedApprox, expectedDetails}
+use Rattle.sizes.specs.Levels.{afterLevels, countAt, depthOf, levelsOf}
 use Rattle.sizes.proofs.Depths.{step, one-more, two-below}
 use Rattle.sizes.proofs.OneLevel.{expects, whole-passes, count-is}
 use Rattle.samples.specs.Words.{wordsOf}
@@ -29,7 +29,7 @@ use Rattle.dwt.specs.Pyramids.{lengthsOf}
 use Rattle.dwt.specs.Calls.{roomChecks, multiChecks, sayMulti, dwtChecks, sayDwt, Ready}
 use Rattle.dwt.specs.Backward.{total, bandChecks, wholeChecks, backChecks, sayBack, mostLevels, Fits, Rising}
 use Rattle.dwt.proofs.Cuts.{width-pos}
-use Rattle.trips.proofs.Lengths.{places-total}
+use Rattle.trips.proofs.Lengths.{count-at-total}
 
 three-below : (w : Wavelet) → 3 ≤ smallestOf w
 three-below Cdf53 = omega arith
@@ -38,7 +38,7 @@ three-below Cdf97 = omega arith
 -- ---- lengths that fit
 
 -- a level more, at the end
-fits-more : (w : Wavelet) (a : ℕ) (ms : List ℕ) (m : ℕ) → Fits w a ms → smallestOf w ≤ a + total ms + m → a + total ms ≡ ups (a + total ms + m) → m ≡ downs (a + total ms + m)
+fits-more : (w : Wavelet) (a : ℕ) (ms : List ℕ) (m : ℕ) → Fits w a ms → smallestOf w ≤ a + total ms + m → a + total ms ≡ approxLength (a + total ms + m) → m ≡ detailsLength (a + total ms + m)
     → Fits w a (ms ++ (m ∷ []))
 unfolding Fits total
 fits-more w a [] m h p q r = (omega arith, omega arith, omega arith, tt)
@@ -47,14 +47,14 @@ fits-more w a (j ∷ ms) m h p q r =
     (h .0, h .1, h .2, fits-more w (a + j) ms m (h .3) (rw s at p) (rw s at q) (rw s at r))
 
 -- the lengths of levels within the depth fit
-pub lengths-fit : (w : Wavelet) (l n : ℕ) → l ≤ depthOf w n → Fits w (places l n) (lengthsOf l n)
-unfolding Fits places lengthsOf
+pub lengths-fit : (w : Wavelet) (l n : ℕ) → l ≤ depthOf w n → Fits w (countAt l n) (lengthsOf l n)
+unfolding Fits afterLevels lengthsOf
 lengths-fit w zero n h = tt
 lengths-fit w (suc l) n h =
     let s = step (smallestOf w) (two-below w) l n h in
-    let t = places-total l (ups n) in
+    let t = count-at-total l (approxLength n) in
     let g = s .0 in
-    fits-more w (places l (ups n)) (lengthsOf l (ups n)) (downs n) (lengths-fit w l (ups n) (s .1)) (omega arith) (omega arith) (omega arith)
+    fits-more w (countAt l (approxLength n)) (lengthsOf l (approxLength n)) (detailsLength n) (lengths-fit w l (approxLength n) (s .1)) (omega arith) (omega arith) (omega arith)
 
 -- lengths that fit are levels within the depth
 pub fits-depth : (w : Wavelet) (a : ℕ) (ms : List ℕ) → Fits w a ms → length ms + depthOf w a ≡ depthOf w (a + total ms)
@@ -179,21 +179,21 @@ multi-fits f l n p q x o u v r eo eu ev =
 
 -- `dwt` on samples that have the levels, into bands of the last level's lengths, is done: work areas of p and q samples
 pub dwt-fits : (f : Filter) (l n p q x a d u v : ℕ) → Ready f (levelsOf l) n x u v
-    → a ≡ widthOf f * ups (places (levelsOf l - 1) n) → d ≡ widthOf f * downs (places (levelsOf l - 1) n) → u ≡ widthOf f * p → v ≡ widthOf f * q → sayDwt f l x a d u v ≡ Done 0 0
+    → a ≡ widthOf f * approxLength (countAt (levelsOf l - 1) n) → d ≡ widthOf f * detailsLength (countAt (levelsOf l - 1) n) → u ≡ widthOf f * p → v ≡ widthOf f * q → sayDwt f l x a d u v ≡ Done 0 0
 unfolding sayDwt
 dwt-fits f l n p q x a d u v r ea ed eu ev =
     let k = widthOf f in
     let kp = width-pos f in
-    let m = places (levelsOf l - 1) n in
+    let m = countAt (levelsOf l - 1) n in
     let up : n ≤ p = le-of-mul-le-mul-left (rw eu at (r .first)) kp in
     let vp : n ≤ q = le-of-mul-le-mul-left (rw ev at (r .second)) kp in
     through (ragged k x ∷ ragged k a ∷ ragged k d ∷ ragged k u ∷ ragged k v ∷ dwtChecks f l (x / k) (a / k) (d / k) (u / k) (v / k)) (Done 0 0)
-    (rw (count-is k n x kp (r .whole), count-is k (ups m) a kp ea, count-is k (downs m) d kp ed, count-is k p u kp eu, count-is k q v kp ev) (
+    (rw (count-is k n x kp (r .whole), count-is k (approxLength m) a kp ea, count-is k (detailsLength m) d kp ed, count-is k p u kp eu, count-is k q v kp ev) (
       whole-passes k n x (r .whole),
       (
-        whole-passes k (ups m) a ea,
+        whole-passes k (approxLength m) a ea,
         (
-          whole-passes k (downs m) d ed,
+          whole-passes k (detailsLength m) d ed,
           (
             whole-passes k p u eu,
             (
@@ -202,7 +202,7 @@ dwt-fits f l n p q x a d u v r ea ed eu ev =
                 le-ltb mostSamples n (r .short),
                 (
                   le-ltb (depthOf (waveletOf f) n) (levelsOf l) (r .deep),
-                  (same (ups m) (ups m) refl, (same (downs m) (downs m) refl, (le-ltb p n up, (le-ltb q n vp, tt)))),
+                  (same (approxLength m) (approxLength m) refl, (same (detailsLength m) (detailsLength m) refl, (le-ltb p n up, (le-ltb q n vp, tt)))),
                 ),
               ),
             ),

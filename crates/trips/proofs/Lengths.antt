@@ -7,8 +7,8 @@ use native.Mathlib.Omega.{arith}
 use lib.Ieee.{binary32, binary64}
 use lib.ListN.{length, getD, length-append}
 use Rattle.sizes.specs.declared.Wavelet.the-variants.{Cdf53, Cdf97}
-use Rattle.sizes.specs.Bands.{ups, downs}
-use Rattle.sizes.specs.Levels.{places}
+use Rattle.sizes.specs.Lengths.{approxLength, detailsLength}
+use Rattle.sizes.specs.Levels.{afterLevels, thereAndBack, countAt}
 use Rattle.samples.proofs.Words.{holds}
 use Rattle.cdf53i.proofs.Lengths as integer
 use Rattle.floats.proofs.Lengths as float
@@ -21,7 +21,7 @@ use Rattle.dwt.proofs.Cuts.{width-pos, split-width}
 
 -- ---- one level, by the seven filters
 
-low-size : (f : Filter) (x : List ℕ) → length (lowOf f x) ≡ widthOf f * ups (length x / widthOf f)
+low-size : (f : Filter) (x : List ℕ) → length (lowOf f x) ≡ widthOf f * approxLength (length x / widthOf f)
 low-size Cdf53I8 x = integer.length-low 1 x
 low-size Cdf53I16 x = integer.length-low 2 x
 low-size Cdf53I32 x = integer.length-low 4 x
@@ -30,7 +30,7 @@ low-size Cdf53F64 x = float.length-low binary64 Cdf53 x
 low-size Cdf97F32 x = float.length-low binary32 Cdf97 x
 low-size Cdf97F64 x = float.length-low binary64 Cdf97 x
 
-high-size : (f : Filter) (x : List ℕ) → length (highOf f x) ≡ widthOf f * downs (length x / widthOf f)
+high-size : (f : Filter) (x : List ℕ) → length (highOf f x) ≡ widthOf f * detailsLength (length x / widthOf f)
 high-size Cdf53I8 x = integer.length-high 1 x
 high-size Cdf53I16 x = integer.length-high 2 x
 high-size Cdf53I32 x = integer.length-high 4 x
@@ -54,12 +54,12 @@ counted f s n e = holds (width-pos f) s n e .count
 
 module _ (f : Filter) where
   -- the approximations of n samples
-  pub length-low : (x : List ℕ) (n : ℕ) → length x ≡ widthOf f * n → length (lowOf f x) ≡ widthOf f * ups n
-  length-low x n e = low-size f x ∙ ap (λ m. widthOf f * ups m) (counted f x n e)
+  pub length-low : (x : List ℕ) (n : ℕ) → length x ≡ widthOf f * n → length (lowOf f x) ≡ widthOf f * approxLength n
+  length-low x n e = low-size f x ∙ ap (λ m. widthOf f * approxLength m) (counted f x n e)
 
   -- their details
-  pub length-high : (x : List ℕ) (n : ℕ) → length x ≡ widthOf f * n → length (highOf f x) ≡ widthOf f * downs n
-  length-high x n e = high-size f x ∙ ap (λ m. widthOf f * downs m) (counted f x n e)
+  pub length-high : (x : List ℕ) (n : ℕ) → length x ≡ widthOf f * n → length (highOf f x) ≡ widthOf f * detailsLength n
+  length-high x n e = high-size f x ∙ ap (λ m. widthOf f * detailsLength m) (counted f x n e)
 
   -- the samples of two bands
   pub length-back : (a d : List ℕ) (n m : ℕ) → length a ≡ widthOf f * n → length d ≡ widthOf f * m → length (backOf f a d) ≡ length a + length d
@@ -70,20 +70,20 @@ module _ (f : Filter) where
   -- ---- many levels
 
   -- the approximations after l levels
-  pub length-approx : (l : ℕ) (x : List ℕ) (n : ℕ) → length x ≡ widthOf f * n → length (approxAt f l x) ≡ widthOf f * places l n
-  unfolding approxAt places
+  pub length-approx : (l : ℕ) (x : List ℕ) (n : ℕ) → length x ≡ widthOf f * n → length (approxAt f l x) ≡ widthOf f * countAt l n
+  unfolding afterLevels
   length-approx zero x n e = e
-  length-approx (suc l) x n e = length-approx l (lowOf f x) (ups n) (length-low x n e)
+  length-approx (suc l) x n e = length-approx l (lowOf f x) (approxLength n) (length-low x n e)
 
   -- the samples after l levels and back
   pub length-trip : (l : ℕ) (x : List ℕ) (n : ℕ) → length x ≡ widthOf f * n → length (roundTrip f l x) ≡ length x
-  unfolding roundTrip
+  unfolding thereAndBack
   length-trip zero x n e = refl
   length-trip (suc l) x n e =
       let a = length-low x n e in
       let d = length-high x n e in
-      let t = length-trip l (lowOf f x) (ups n) a in
-      length-back (roundTrip f l (lowOf f x)) (highOf f x) (ups n) (downs n) (t ∙ a) d ∙ omega (arith, t, a, d, split-width (widthOf f) n)
+      let t = length-trip l (lowOf f x) (approxLength n) a in
+      length-back (roundTrip f l (lowOf f x)) (highOf f x) (approxLength n) (detailsLength n) (t ∙ a) d ∙ omega (arith, t, a, d, split-width (widthOf f) n)
 
 -- ---- lengths of levels
 
@@ -104,20 +104,20 @@ at-most-total (m ∷ ms) (suc i) = omega (arith, at-most-total ms i)
 pub length-lengths : (l n : ℕ) → length (lengthsOf l n) ≡ l
 unfolding lengthsOf
 length-lengths zero n = refl
-length-lengths (suc l) n = length-append (lengthsOf l (ups n)) (downs n ∷ []) ∙ omega (arith, length-lengths l (ups n))
+length-lengths (suc l) n = length-append (lengthsOf l (approxLength n)) (detailsLength n ∷ []) ∙ omega (arith, length-lengths l (approxLength n))
 
 -- the details of all levels and the last approximations are as many as the samples
-pub places-total : (l n : ℕ) → places l n + total (lengthsOf l n) ≡ n
-unfolding places lengthsOf total
-places-total zero n = omega arith
-places-total (suc l) n = omega (arith, total-append (lengthsOf l (ups n)) (downs n ∷ []), places-total l (ups n))
+pub count-at-total : (l n : ℕ) → countAt l n + total (lengthsOf l n) ≡ n
+unfolding afterLevels lengthsOf total
+count-at-total zero n = omega arith
+count-at-total (suc l) n = omega (arith, total-append (lengthsOf l (approxLength n)) (detailsLength n ∷ []), count-at-total l (approxLength n))
 
 -- the details of l levels
 pub length-details : (f : Filter) (l : ℕ) (x : List ℕ) (n : ℕ) → length x ≡ widthOf f * n → length (detailsAt f l x) ≡ widthOf f * total (lengthsOf l n)
 unfolding detailsAt lengthsOf total
 length-details f zero x n e = sym (mul-zero (widthOf f))
 length-details f (suc l) x n e =
-    let ms = lengthsOf l (ups n) in
-    let t : total (ms ++ (downs n ∷ [])) ≡ total ms + downs n = total-append ms (downs n ∷ []) ∙ omega arith in
+    let ms = lengthsOf l (approxLength n) in
+    let t : total (ms ++ (detailsLength n ∷ [])) ≡ total ms + detailsLength n = total-append ms (detailsLength n ∷ []) ∙ omega arith in
     length-append (detailsAt f l (lowOf f x)) (highOf f x)
-    ∙ rw (length-details f l (lowOf f x) (ups n) (length-low f x n e), length-high f x n e, t) (sym (mul-add (widthOf f) (total ms) (downs n)))
+    ∙ rw (length-details f l (lowOf f x) (approxLength n) (length-low f x n e), length-high f x n e, t) (sym (mul-add (widthOf f) (total ms) (detailsLength n)))

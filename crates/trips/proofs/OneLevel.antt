@@ -11,7 +11,7 @@ use lib.ListN.{length}
 use Rattle.answers.specs.declared.err.Answer.{Answer}
 use Rattle.answers.specs.declared.err.Refusal.the-variants.{Done}
 use Rattle.answers.specs.Answers.{answerOf, done}
-use Rattle.sizes.specs.Bands.{ups, downs}
+use Rattle.sizes.specs.Lengths.{approxLength, detailsLength}
 use Rattle.sizes.specs.Calls.{sayForward, sayInverse, Level}
 use Rattle.sizes.proofs.Depths.{two-below}
 use Rattle.sizes.proofs.OneLevel.{forward-ready, inverse-ready, forward-fits, inverse-fits, forward-ran, inverse-ran, count-is}
@@ -34,12 +34,12 @@ use Rattle.trips.proofs.Undone.{each-width, undoes}
 pub record Kept (k : ℕ) (low high : List ℕ → List ℕ) (back : List ℕ → List ℕ → List ℕ) : Type 0 where
   pub low-kept : (x : List ℕ) → 2 ≤ length x / k → low x ≡ encode k (lows (wrap k) (decode k x))
   pub high-kept : (x : List ℕ) → 2 ≤ length x / k → high x ≡ encode k (highs (wrap k) (decode k x))
-  pub back-kept : (a d : List ℕ) (n : ℕ) → length a / k ≡ ups n → length d / k ≡ downs n → 2 ≤ n → back a d ≡ encode k (backs (wrap k) (decode k a) (decode k d))
+  pub back-kept : (a d : List ℕ) (n : ℕ) → length a / k ≡ approxLength n → length d / k ≡ detailsLength n → 2 ≤ n → back a d ≡ encode k (backs (wrap k) (decode k a) (decode k d))
   pub low-held : (x : List ℕ) → 2 ≤ length x / k → decode k (low x) ≡ lows (wrap k) (decode k x)
-  pub back-held : (a d : List ℕ) (n : ℕ) → length a / k ≡ ups n → length d / k ≡ downs n → 2 ≤ n → decode k (back a d) ≡ backs (wrap k) (decode k a) (decode k d)
+  pub back-held : (a d : List ℕ) (n : ℕ) → length a / k ≡ approxLength n → length d / k ≡ detailsLength n → 2 ≤ n → decode k (back a d) ≡ backs (wrap k) (decode k a) (decode k d)
   pub low-own : (x : List ℕ) → 2 ≤ length x / k → AllWithin k (highs (λ z. z) (decode k x)) → AllWithin k (lows (λ z. z) (decode k x)) → Holding k (lows (λ z. z) (decode k x)) (low x)
   pub high-own : (x : List ℕ) → 2 ≤ length x / k → AllWithin k (highs (λ z. z) (decode k x)) → Holding k (highs (λ z. z) (decode k x)) (high x)
-  pub back-own : (a d : List ℕ) (n : ℕ) → length a / k ≡ ups n → length d / k ≡ downs n → 2 ≤ n
+  pub back-own : (a d : List ℕ) (n : ℕ) → length a / k ≡ approxLength n → length d / k ≡ detailsLength n → 2 ≤ n
       → AllWithin k (backs (λ z. z) (decode k a) (decode k d)) → Holding k (backs (λ z. z) (decode k a) (decode k d)) (back a d)
   pub same-bytes : (s : List ℕ) (n : ℕ) → Bytes s → length s ≡ k * n → encode k (decode k s) ≡ s
 
@@ -110,11 +110,11 @@ module _ (f : Filter) (i : Integers f) {a d o : List ℕ} {r : Answer} {o′ : L
   givenBack : o′ ≡ backOf f a d
   givenBack = inverse-ran (waveletOf f) (widthOf f) (backOf f) a d o (length o / widthOf f) r o′ (width-pos f) levelBack call
 
-  approxs : length a / widthOf f ≡ ups (length o / widthOf f)
-  approxs = count-is (widthOf f) (ups (length o / widthOf f)) (length a) (width-pos f) (levelBack .approx)
+  approxs : length a / widthOf f ≡ approxLength (length o / widthOf f)
+  approxs = count-is (widthOf f) (approxLength (length o / widthOf f)) (length a) (width-pos f) (levelBack .approx)
 
-  detailed : length d / widthOf f ≡ downs (length o / widthOf f)
-  detailed = count-is (widthOf f) (downs (length o / widthOf f)) (length d) (width-pos f) (levelBack .details)
+  detailed : length d / widthOf f ≡ detailsLength (length o / widthOf f)
+  detailed = count-is (widthOf f) (detailsLength (length o / widthOf f)) (length d) (width-pos f) (levelBack .details)
 
   -- it leaves the samples of T.800's way back, as they are kept
   pub inverse-t800 : o′ ≡ encode (widthOf f) (backs (wrap (widthOf f)) (decode (widthOf f) a) (decode (widthOf f) d))
@@ -134,11 +134,11 @@ module _ (f : Filter) (i : Integers f) {a d o : List ℕ} {r : Answer} {o′ : L
       let n = length o / k in
       let la = levelBack .approx in
       let ld = levelBack .details in
-      let all : ups n + downs n ≡ n = omega arith in
+      let all : approxLength n + detailsLength n ≡ n = omega arith in
       let fits : Level w k n (length o′) (length a₂) (length d₂) = record {
         long = levelBack .long;
         short = levelBack .short;
-        samples = ap length givenBack ∙ length-back f a d (ups n) (downs n) la ld ∙ omega (arith, la, ld, mul-add k (ups n) (downs n), ap (λ (m : ℕ). k * m) all);
+        samples = ap length givenBack ∙ length-back f a d (approxLength n) (detailsLength n) la ld ∙ omega (arith, la, ld, mul-add k (approxLength n) (detailsLength n), ap (λ (m : ℕ). k * m) all);
         approx = ea ∙ la;
         details = ed ∙ ld;
       } in

@@ -8,8 +8,8 @@ use Rattle.answers.specs.declared.err.Answer.{Answer}
 use Rattle.answers.specs.declared.err.Refusal.the-variants.{Done}
 use Rattle.answers.specs.Answers.{say, answerOf, done}
 use Rattle.sizes.specs.declared.Wavelet.the-variants.{Cdf53}
-use Rattle.sizes.specs.Bands.{mostSamples, ups, downs}
-use Rattle.sizes.specs.Levels.{places, depthOf, levelsOf}
+use Rattle.sizes.specs.Lengths.{mostSamples, approxLength, detailsLength}
+use Rattle.sizes.specs.Levels.{countAt, depthOf, levelsOf}
 use Rattle.samples.specs.Integers.{wrap, decode, encode}
 use Rattle.trips.specs.T800Levels.{lowsAt, highsAfter, allHighs, backsAt}
 use Rattle.dwt.specs.declared.filter.Filter.{Filter}
@@ -18,7 +18,7 @@ use Rattle.dwt.specs.Pyramids.{lengthsOf}
 use Rattle.dwt.specs.Calls.{sayMulti, Multi, sayDwt, Dwt, Ready}
 use Rattle.dwt.specs.Backward.{total, sayBack, MultiBack, Area, LengthsIn}
 use Rattle.dwt.proofs.Multi.{levels-pos}
-use Rattle.trips.proofs.Lengths.{places-total}
+use Rattle.trips.proofs.Lengths.{count-at-total}
 use Rattle.trips.proofs.Fitting.{lengths-fit, back-fits, multi-fits, dwt-fits}
 use Rattle.trips.proofs.Undone.{own-depth}
 use Rattle.trips.proofs.T800Levels.{dwt-t800, multi-t800, back-t800}
@@ -37,7 +37,7 @@ module _ (f : Filter) (i : Integers f) (l n : ℕ) (deep : levelsOf l ≤ depthO
   }
 
   -- `dwt` into bands of the last level's lengths
-  pub dwt-gives-t800 : (a d : List ℕ) → length a ≡ widthOf f * ups (places (levelsOf l - 1) n) → length d ≡ widthOf f * downs (places (levelsOf l - 1) n)
+  pub dwt-gives-t800 : (a d : List ℕ) → length a ≡ widthOf f * approxLength (countAt (levelsOf l - 1) n) → length d ≡ widthOf f * detailsLength (countAt (levelsOf l - 1) n)
       → (r : Answer) (a′ d′ u′ v′ : List ℕ) → Dwt f l x a d u v r a′ d′ u′ v′
       → (r ≡ say 0 0 0)
       × (a′ ≡ encode (widthOf f) (lowsAt (wrap (widthOf f)) (levelsOf l) (decode (widthOf f) x)))
@@ -60,16 +60,16 @@ module _ (f : Filter) (i : Integers f) (l n : ℕ) (deep : levelsOf l ≤ depthO
       (call .answer ∙ ap answerOf says, multi-t800 f i l x o u v call (ap done says))
 
 -- `multi_idwt` of bands of the lengths of c levels of n samples
-pub back-gives-t800 : (f : Filter) → Integers f → (c n : ℕ) → 1 ≤ c → c ≤ depthOf Cdf53 n → n ≤ mostSamples → (a d ls o u v : List ℕ) → length a ≡ widthOf f * places c n
+pub back-gives-t800 : (f : Filter) → Integers f → (c n : ℕ) → 1 ≤ c → c ≤ depthOf Cdf53 n → n ≤ mostSamples → (a d ls o u v : List ℕ) → length a ≡ widthOf f * countAt c n
     → length d ≡ widthOf f * total (lengthsOf c n) → LengthsIn c n ls → length o ≡ widthOf f * n → Area (widthOf f) (length o) u → Area (widthOf f) (length o) v
     → (r : Answer) (o′ u′ v′ : List ℕ) → MultiBack f a d ls o u v r o′ u′ v′
     → (r ≡ say 0 0 0) × (o′ ≡ encode (widthOf f) (backsAt (wrap (widthOf f)) (decode (widthOf f) a) (decode (widthOf f) d) (lengthsOf c n)))
 back-gives-t800 f i c n some deep most a d ls o u v ea ed lengths eo first second r o′ u′ v′ call =
     let k = widthOf f in
-    let all = places-total c n in
-    let wide : k * (places c n + total (lengthsOf c n)) ≡ k * n = ap (λ (m : ℕ). k * m) all in
+    let all = count-at-total c n in
+    let wide : k * (countAt c n + total (lengthsOf c n)) ≡ k * n = ap (λ (m : ℕ). k * m) all in
     let says : sayBack f (length a) (length d) ls (length o) (length u) (length v) ≡ Done 0 0 =
-    back-fits f (places c n) c (length u / k) (length v / k) ls (length a) (length d) (length o) (length u) (length v) ea
+    back-fits f (countAt c n) c (length u / k) (length v / k) ls (length a) (length d) (length o) (length u) (length v) ea
     (rw (lengths .lengths) (record {
       fits = lengths-fit (waveletOf f) c n (own-depth f i c n deep);
       short = omega (arith, all);

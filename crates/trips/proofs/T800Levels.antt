@@ -11,8 +11,8 @@ use lib.Seq.{ext-getD, getD-take, getD-drop, length-take-le}
 use Rattle.answers.specs.declared.err.Answer.{Answer}
 use Rattle.answers.specs.Answers.{done}
 use Rattle.answers.proofs.Endings.{left-done}
-use Rattle.sizes.specs.Bands.{ups, downs, smallestOf}
-use Rattle.sizes.specs.Levels.{places, depthOf, levelsOf}
+use Rattle.sizes.specs.Lengths.{approxLength, detailsLength, smallestOf}
+use Rattle.sizes.specs.Levels.{afterLevels, countAt, depthOf, levelsOf}
 use Rattle.sizes.proofs.Depths.{long-enough, two-below}
 use Rattle.sizes.proofs.OneLevel.{count-is}
 use Rattle.samples.specs.Le.{Bytes, leAt}
@@ -29,10 +29,10 @@ use Rattle.dwt.specs.Pyramids.{approxAt, pyramid, samplesOf, detailsAt}
 use Rattle.dwt.specs.Calls.{sayMulti, Multi, sayDwt, Dwt}
 use Rattle.dwt.specs.Backward.{total, sayBack, MultiBack, Fits}
 use Rattle.dwt.proofs.Cuts.{width-pos}
-use Rattle.dwt.proofs.PyramidLaws.{approx-after}
+use Rattle.sizes.proofs.Counts.{after-last}
 use Rattle.dwt.proofs.Multi.{multi-ready}
 use Rattle.dwt.proofs.Backs.{back-ready}
-use Rattle.dwt.proofs.Lasts.{dwt-ready, dwt-gives}
+use Rattle.dwt.proofs.LastLevel.{dwt-ready, dwt-gives}
 use Rattle.trips.proofs.Lengths.{length-approx, length-back}
 use Rattle.trips.proofs.Trips.{pyramid-parts, details-deeper, length-samples}
 use Rattle.trips.proofs.Undone.{undoes}
@@ -95,30 +95,32 @@ module _ (f : Filter) (i : Integers f) (x : List ℕ) (n : ℕ) (e : length x �
   enough : (l : ℕ) → suc l ≤ depthOf (waveletOf f) n → 2 ≤ length (approxAt f l x) / widthOf f
   enough l h =
       let w = waveletOf f in
-      let c = count-is (widthOf f) (places l n) (length (approxAt f l x)) (width-pos f) (length-approx f l x n e) in
+      let c = count-is (widthOf f) (countAt l n) (length (approxAt f l x)) (width-pos f) (length-approx f l x n e) in
       omega (arith, c, long-enough (smallestOf w) (two-below w) (suc l) l n h (omega arith), two-below w)
 
   -- what the approximations of level l hold
   pub approx-read : (l : ℕ) → l ≤ depthOf (waveletOf f) n → decode (widthOf f) (approxAt f l x) ≡ lowsAt (wrap (widthOf f)) l (decode (widthOf f) x)
-  unfolding approxAt lowsAt
+  unfolding afterLevels
   approx-read zero h = refl
   approx-read (suc l) h =
-      ap (decode (widthOf f)) (approx-after f l x)
+      ap (decode (widthOf f)) (after-last (lowOf f) l x)
       ∙ kept f i .low-held (approxAt f l x) (enough l h)
       ∙ ap (lows (wrap (widthOf f))) (approx-read l (omega arith))
+      ∙ sym (after-last (lows (wrap (widthOf f))) l (decode (widthOf f) x))
 
   -- level 1 or more is T.800's, as it is kept
   pub approx-t800 : (l : ℕ) → 1 ≤ l → l ≤ depthOf (waveletOf f) n → approxAt f l x ≡ encode (widthOf f) (lowsAt (wrap (widthOf f)) l (decode (widthOf f) x))
-  unfolding lowsAt
+  unfolding afterLevels
   approx-t800 zero p h = absurd (omega arith)
   approx-t800 (suc l) p h =
-      approx-after f l x
+      after-last (lowOf f) l x
       ∙ kept f i .low-kept (approxAt f l x) (enough l h)
       ∙ ap (λ (z : List ℤ). encode (widthOf f) (lows (wrap (widthOf f)) z)) (approx-read l (omega arith))
+      ∙ ap (encode (widthOf f)) (sym (after-last (lows (wrap (widthOf f))) l (decode (widthOf f) x)))
 
   -- and level 0, which is the samples, where they are bytes
   pub level-t800 : (l : ℕ) → Bytes x → l ≤ depthOf (waveletOf f) n → approxAt f l x ≡ encode (widthOf f) (lowsAt (wrap (widthOf f)) l (decode (widthOf f) x))
-  unfolding approxAt lowsAt
+  unfolding afterLevels
   level-t800 zero b h = sym (kept f i .same-bytes x n b e)
   level-t800 (suc l) b h = approx-t800 (suc l) (omega arith) h
 
@@ -155,8 +157,8 @@ module _ (f : Filter) (i : Integers f) where
       let et : length t ≡ k * m = front-size k m (total ms) d kp ed in
       let ec : length c ≡ k * total ms = rest-size k m (total ms) d kp ed in
       let eb : length b ≡ k * (n + m) = length-back f a t n m ea et ∙ omega (arith, ea, et, mul-add k n m) in
-      let ca : length a / k ≡ ups (n + m) = count-is k n (length a) kp ea ∙ h .1 in
-      let ct : length t / k ≡ downs (n + m) = front-count k m (total ms) d kp ed ∙ h .2 in
+      let ca : length a / k ≡ approxLength (n + m) = count-is k n (length a) kp ea ∙ h .1 in
+      let ct : length t / k ≡ detailsLength (n + m) = front-count k m (total ms) d kp ed ∙ h .2 in
       let two : 2 ≤ n + m = omega (arith, h .0, two-below (waveletOf f)) in
       samples-read ms b c (n + m) eb ec (h .3)
       ∙ ap₂ (λ (y z : List ℤ). backsAt (wrap k) y z ms)

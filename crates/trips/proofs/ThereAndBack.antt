@@ -14,8 +14,8 @@ use Rattle.answers.specs.declared.err.Refusal.{Refusal}
 use Rattle.answers.specs.declared.err.Refusal.the-variants.{Done}
 use Rattle.answers.specs.Answers.{answerOf, done}
 use Rattle.answers.proofs.Endings.{left-done}
-use Rattle.sizes.specs.Bands.{mostSamples, downs}
-use Rattle.sizes.specs.Levels.{places, depthOf, levelsOf}
+use Rattle.sizes.specs.Lengths.{mostSamples, detailsLength}
+use Rattle.sizes.specs.Levels.{countAt, depthOf, levelsOf}
 use Rattle.samples.specs.Le.{Bytes}
 use Rattle.samples.specs.Words.{tabulate, wordsOf, bytesOf}
 use Rattle.samples.proofs.Words.{tabulate-same, tabulate-getD, length-words, length-bytes, words-bytes}
@@ -26,8 +26,8 @@ use Rattle.dwt.specs.Calls.{sayMulti, Multi, sayDwt, Dwt, Ready}
 use Rattle.dwt.specs.Backward.{total, sayBack, MultiBack, Area, LengthsIn}
 use Rattle.dwt.proofs.Multi.{multi-ready}
 use Rattle.dwt.proofs.Backs.{back-ready}
-use Rattle.dwt.proofs.Lasts.{dwt-gives}
-use Rattle.trips.proofs.Lengths.{length-approx, length-details, length-lengths, places-total, at-most-total}
+use Rattle.dwt.proofs.LastLevel.{dwt-gives}
+use Rattle.trips.proofs.Lengths.{length-approx, length-details, length-lengths, count-at-total, at-most-total}
 use Rattle.trips.proofs.Trips.{approx-part, details-part, level-part, samples-trip, length-samples}
 use Rattle.trips.proofs.Undone.{undoes, trip-is, pyramid-again}
 use Rattle.trips.proofs.Fitting.{lengths-fit, fits-depth, back-fits, multi-fits}
@@ -57,7 +57,7 @@ lengths-in l n h =
     table = tabulate-getD ms 0
 
     small : (i : ℕ) → g i < 256 ^ 4
-    small i = let c : 256 ^ 4 ≡ 4294967296 = refl in omega (arith, at-most-total ms i, places-total l n)
+    small i = let c : 256 ^ 4 ≡ 4294967296 = refl in omega (arith, at-most-total ms i, count-at-total l n)
 
 -- ---- `multi_dwt` is done with the samples x
 
@@ -68,7 +68,7 @@ module _ (f : Filter) (l : ℕ) (x : List ℕ) {o u v : List ℕ} {r : Answer} {
   count = length x / widthOf f
 
   abbrev cut : ℕ
-  cut = widthOf f * places (levelsOf l) count
+  cut = widthOf f * countAt (levelsOf l) count
 
   ready : Ready f (levelsOf l) count (length x) (length u) (length v)
   ready = multi-ready f l (length x) (length o) (length u) (length v) isDone .0
@@ -89,18 +89,18 @@ module _ (f : Filter) (l : ℕ) (x : List ℕ) {o u v : List ℕ} {r : Answer} {
   call-details = ap (λ (s : List ℕ). drop cut s) given ∙ details-part f (levelsOf l) x count (ready .whole)
 
   -- those of level i + 1 behind as many bytes as level i + 1 has of approximations
-  pub call-level : (i : ℕ) → i < levelsOf l → take (widthOf f * downs (places i count)) (drop (widthOf f * places (suc i) count) o′) ≡ highOf f (approxAt f i x)
-  call-level i h = ap (λ (s : List ℕ). take (widthOf f * downs (places i count)) (drop (widthOf f * places (suc i) count) s)) given ∙ level-part f (levelsOf l) i x count (ready .whole) h
+  pub call-level : (i : ℕ) → i < levelsOf l → take (widthOf f * detailsLength (countAt i count)) (drop (widthOf f * countAt (suc i) count) o′) ≡ highOf f (approxAt f i x)
+  call-level i h = ap (λ (s : List ℕ). take (widthOf f * detailsLength (countAt i count)) (drop (widthOf f * countAt (suc i) count) s)) given ∙ level-part f (levelsOf l) i x count (ready .whole) h
 
   -- of as many levels `dwt` gives the first two of these parts
   pub dwt-call : {a d s t : List ℕ} {q : Answer} {a′ d′ s′ t′ : List ℕ} → Dwt f l x a d s t q a′ d′ s′ t′ → done (sayDwt f l (length x) (length a) (length d) (length s) (length t)) ≡ true
-      → (take cut o′ ≡ a′) × (take (widthOf f * downs (places (levelsOf l - 1) count)) (drop cut o′) ≡ d′)
+      → (take cut o′ ≡ a′) × (take (widthOf f * detailsLength (countAt (levelsOf l - 1) count)) (drop cut o′) ≡ d′)
   dwt-call {a} {d} {s} {t} m z =
       let j = levelsOf l - 1 in
       let e : suc j ≡ levelsOf l = omega (arith, ready .some) in
       let gives = dwt-gives f l x a d s t m z in (
         call-approx ∙ sym (gives .0),
-        ap (λ (i : ℕ). take (widthOf f * downs (places j count)) (drop (widthOf f * places i count) o′)) (sym e) ∙ call-level j (omega arith) ∙ sym (gives .1),
+        ap (λ (i : ℕ). take (widthOf f * detailsLength (countAt j count)) (drop (widthOf f * countAt i count) o′)) (sym e) ∙ call-level j (omega arith) ∙ sym (gives .1),
       )
 
   -- `multi_idwt` on the two parts, into an output as long as x
@@ -117,9 +117,9 @@ module _ (f : Filter) (l : ℕ) (x : List ℕ) {o u v : List ℕ} {r : Answer} {
         let n = count in
         let j = levelsOf l in
         let e = ready .whole in
-        let all = places-total j n in
-        let wide : widthOf f * (places j n + total (lengthsOf j n)) ≡ length x = ap (λ (i : ℕ). widthOf f * i) all ∙ sym e in
-        back-fits f (places j n) j (length s / widthOf f) (length t / widthOf f) ls _ _ (length p) (length s) (length t) (length-approx f j x n e)
+        let all = count-at-total j n in
+        let wide : widthOf f * (countAt j n + total (lengthsOf j n)) ≡ length x = ap (λ (i : ℕ). widthOf f * i) all ∙ sym e in
+        back-fits f (countAt j n) j (length s / widthOf f) (length t / widthOf f) ls _ _ (length p) (length s) (length t) (length-approx f j x n e)
         (rw (lengths .lengths) (record {
           fits = lengths-fit (waveletOf f) j n (ready .deep);
           short = omega (arith, all, ready .short);

@@ -11,8 +11,8 @@ use lib.Seq.{length-take-le, getD-take, getD-drop}
 use Rattle.order.proofs.Order.{lt-or-le}
 use Rattle.sizes.specs.declared.Wavelet.{Wavelet}
 use Rattle.sizes.specs.declared.Wavelet.the-variants.{Cdf53}
-use Rattle.sizes.specs.Bands.{ups, downs, smallestOf}
-use Rattle.sizes.specs.Levels.{depthOf}
+use Rattle.sizes.specs.Lengths.{approxLength, detailsLength, smallestOf}
+use Rattle.sizes.specs.Levels.{afterLevels, thereAndBack, depthOf}
 use Rattle.sizes.proofs.Depths.{step, two-below}
 use Rattle.samples.specs.Le.{Bytes}
 use Rattle.samples.specs.Integers.{Width}
@@ -26,7 +26,7 @@ use Rattle.dwt.specs.declared.filter.Filter.the-variants.{Cdf53I8, Cdf53I16, Cd
 use Rattle.dwt.specs.Filters.{widthOf, waveletOf, lowOf, highOf, backOf, Integers}
 use Rattle.dwt.specs.Pyramids.{approxAt, pyramid, samplesOf, detailsAt, roundTrip}
 use Rattle.dwt.specs.Backward.{total, Fits}
-use Rattle.dwt.proofs.PyramidLaws.{approx-after}
+use Rattle.sizes.proofs.Counts.{after-last}
 use Rattle.trips.proofs.Lengths.{length-low, length-back}
 use Rattle.trips.proofs.Trips.{pyramid-parts, details-deeper}
 
@@ -35,8 +35,8 @@ pub record Undoing (k : ℕ) (low high : List ℕ → List ℕ) (back : List ℕ
   -- the samples of the bands of samples are the samples
   pub there : (x : List ℕ) (n : ℕ) → Bytes x → length x ≡ k * n → 2 ≤ n → back (low x) (high x) ≡ x
   -- the bands of the samples of bands are the bands
-  pub again-low : (a d : List ℕ) (n : ℕ) → Bytes a → Bytes d → length a ≡ k * ups n → length d ≡ k * downs n → 2 ≤ n → low (back a d) ≡ a
-  pub again-high : (a d : List ℕ) (n : ℕ) → Bytes a → Bytes d → length a ≡ k * ups n → length d ≡ k * downs n → 2 ≤ n → high (back a d) ≡ d
+  pub again-low : (a d : List ℕ) (n : ℕ) → Bytes a → Bytes d → length a ≡ k * approxLength n → length d ≡ k * detailsLength n → 2 ≤ n → low (back a d) ≡ a
+  pub again-high : (a d : List ℕ) (n : ℕ) → Bytes a → Bytes d → length a ≡ k * approxLength n → length d ≡ k * detailsLength n → 2 ≤ n → high (back a d) ≡ d
   -- and what goes to the next level is bytes
   pub low-bytes : (x : List ℕ) → Bytes (low x)
   pub back-bytes : (a d : List ℕ) → Bytes (back a d)
@@ -74,8 +74,8 @@ own-depth f i l n h = subst (λ (w : Wavelet). l ≤ depthOf w n) (sym (wavelet-
 undoes-width : (k : ℕ) → Width k → Undoing k (integer.low k) (integer.high k) (integer.back k)
 undoes-width k w = record {
   there = λ x n b e two. there-and-back w x b n (holds (w .some) x n e) two;
-  again-low = λ a d n p q ea ed two. back-and-low w a d p q n (holds (w .some) a (ups n) ea) (holds (w .some) d (downs n) ed) two;
-  again-high = λ a d n p q ea ed two. back-and-high w a d p q n (holds (w .some) a (ups n) ea) (holds (w .some) d (downs n) ed) two;
+  again-low = λ a d n p q ea ed two. back-and-low w a d p q n (holds (w .some) a (approxLength n) ea) (holds (w .some) d (detailsLength n) ed) two;
+  again-high = λ a d n p q ea ed two. back-and-high w a d p q n (holds (w .some) a (approxLength n) ea) (holds (w .some) d (detailsLength n) ed) two;
   low-bytes = bytes-low k;
   back-bytes = bytes-back k;
 }
@@ -103,18 +103,18 @@ bytes-drop n s b = record { byte = λ i. rw (getD-drop n s i 0) (b .byte (n + i)
 module _ (f : Filter) (u : Undoes f) where
   -- levels and back give the samples, of every value
   pub trip-is : (l : ℕ) (x : List ℕ) (n : ℕ) → Bytes x → length x ≡ widthOf f * n → l ≤ depthOf (waveletOf f) n → roundTrip f l x ≡ x
-  unfolding roundTrip
+  unfolding thereAndBack
   trip-is zero x n b e h = refl
   trip-is (suc l) x n b e h =
       let w = waveletOf f in
       let s = step (smallestOf w) (two-below w) l n h in
-      ap (λ (a : List ℕ). backOf f a (highOf f x)) (trip-is l (lowOf f x) (ups n) (u .low-bytes x) (length-low f x n e) (s .1))
+      ap (λ (a : List ℕ). backOf f a (highOf f x)) (trip-is l (lowOf f x) (approxLength n) (u .low-bytes x) (length-low f x n e) (s .1))
       ∙ u .there x n b e (omega (arith, s .0, two-below w))
 
   -- back and levels give the bands, of every value
   again : (ms : List ℕ) (a d : List ℕ) (n : ℕ) → Bytes a → Bytes d → length a ≡ widthOf f * n → length d ≡ widthOf f * total ms → Fits (waveletOf f) n ms
       → (approxAt f (length ms) (samplesOf f a d ms) ≡ a) × (detailsAt f (length ms) (samplesOf f a d ms) ≡ d)
-  unfolding approxAt detailsAt samplesOf total Fits
+  unfolding afterLevels detailsAt samplesOf total Fits
   again [] a [] n p q ea ed h = (refl, refl)
   again [] a (b ∷ d) n p q ea ed h = absurd (omega (arith, mul-zero (widthOf f)))
   again (m ∷ ms) a d n p q ea ed h =
@@ -129,10 +129,10 @@ module _ (f : Filter) (u : Undoes f) where
       let eb : length b ≡ widthOf f * (n + m) = length-back f a t n m ea et ∙ omega (arith, ea, et, mul-add (widthOf f) n m) in
       let ec : length c ≡ widthOf f * total ms = length-drop k d ∙ omega arith in
       let ih = again ms b c (n + m) (u .back-bytes a t) (bytes-drop k d q) eb ec (h .3) in
-      let fa : length a ≡ widthOf f * ups (n + m) = ea ∙ ap (λ (i : ℕ). widthOf f * i) (h .1) in
-      let ft : length t ≡ widthOf f * downs (n + m) = et ∙ ap (λ (i : ℕ). widthOf f * i) (h .2) in
+      let fa : length a ≡ widthOf f * approxLength (n + m) = ea ∙ ap (λ (i : ℕ). widthOf f * i) (h .1) in
+      let ft : length t ≡ widthOf f * detailsLength (n + m) = et ∙ ap (λ (i : ℕ). widthOf f * i) (h .2) in
       let two : 2 ≤ n + m = omega (arith, h .0, two-below (waveletOf f)) in (
-        approx-after f j x ∙ ap (lowOf f) (ih .0) ∙ u .again-low a t (n + m) p (bytes-take k d q) fa ft two,
+        after-last (lowOf f) j x ∙ ap (lowOf f) (ih .0) ∙ u .again-low a t (n + m) p (bytes-take k d q) fa ft two,
         details-deeper f j x
             ∙ ap₂ (λ (y z : List ℕ). y ++ z) (ap (highOf f) (ih .0) ∙ u .again-high a t (n + m) p (bytes-take k d q) fa ft two) (ih .1)
             ∙ take-append-drop k d,

@@ -3,12 +3,12 @@ use mathlib.Core.List.{List, [], _∷_, _++_}
 use Prim.Native.Nat.{ℕ, zero, suc}
 use lib.ListN.{take, drop}
 use lib.IntN.{ℤ}
+use Rattle.sizes.specs.Levels.{afterLevels}
 use Rattle.cdf53i.specs.T800.{lows, highs, backs}
 
 -- the low-pass coefficients of level l; level 0 is the samples
-unfoldable pub lowsAt : (ℤ → ℤ) → ℕ → List ℤ → List ℤ
-lowsAt keep zero x = x
-lowsAt keep (suc l) x = lows keep (lowsAt keep l x)
+abbrev pub lowsAt : (ℤ → ℤ) → ℕ → List ℤ → List ℤ
+lowsAt keep = afterLevels (lows keep)
 
 -- the high-pass coefficients of level l + 1: those of the low-pass ones of level l
 unfoldable pub highsAfter : (ℤ → ℤ) → ℕ → List ℤ → List ℤ

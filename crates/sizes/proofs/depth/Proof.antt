@@ -18,7 +18,10 @@ loop-holds : tie.Need-loop-holds Inv-loop μ-loop
 loop-holds c = (rw (c .smallest .ensures) (two-below (c .before .args .w)), omega arith, omega arith)
 
 loop-again : tie.Need-loop-again Inv-loop μ-loop
-loop-again c = let l = c .before .loop in (l .inv .0, depth-turn _ (l .inv .0) _ _ _ (l .inv .1) (c .loop-test .taken), omega arith)
+loop-again c =
+    let l = c .before .before .loop in
+    let e = c .approx-length .ensures in
+    (l .inv .0, rw e (depth-turn _ (l .inv .0) _ _ _ (l .inv .1) (c .before .loop-test .taken)), omega (arith, e, l .inv, c .before .loop-test .taken))
 
 returns : tie.Need-returns Inv-loop μ-loop
 returns c = let l = c .before .loop in depth-end _ (l .inv .0) _ _ _ (l .inv .1) (c .loop-test .left) ∙ ap (λ m. depthFrom m (c .before .before .before .args .n)) (c .before .before .smallest .ensures)

@@ -6,7 +6,7 @@ use native.Mathlib.Omega.{arith}
 use lib.ListN.{length}
 use Rattle.samples.proofs.Fronts.{front-none}
 use Rattle.cdf53i.specs.Bands.{Approximating, detailWord}
-use Rattle.cdf53i.proofs.Turns.{room-of, whole-words}
+use Rattle.cdf53i.proofs.WordTurns.{room-of, whole-words}
 use Rattle.cdf53i.proofs.cdf53i.approximate.Statement.{statement}
 use Rattle.cdf53i.proofs.cdf53i.approximate.Tie as tie
 

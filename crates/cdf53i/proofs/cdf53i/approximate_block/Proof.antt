@@ -2,7 +2,7 @@
 use borrow.Author.Needs.{needs}
 use mathlib.Core.Path.{_∙_}
 use native.Mathlib.Omega.{arith}
-use Rattle.cdf53i.proofs.Turns.{details-read, room-on}
+use Rattle.cdf53i.proofs.WordTurns.{details-read, room-on}
 use Rattle.cdf53i.proofs.cdf53i.approximate_block.Statement.{statement}
 use Rattle.cdf53i.proofs.cdf53i.approximate_block.Tie as tie
 

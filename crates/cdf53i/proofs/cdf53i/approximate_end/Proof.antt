@@ -5,7 +5,7 @@ use Prim.Native.Nat.{_+_}
 use native.Mathlib.Omega.{arith}
 use Rattle.samples.proofs.Words.{holds-on}
 use Rattle.cdf53i.specs.Bands.{detailWord}
-use Rattle.cdf53i.proofs.Turns.{approx-more, approximated}
+use Rattle.cdf53i.proofs.WordTurns.{approx-more, approximated}
 use Rattle.cdf53i.proofs.cdf53i.approximate_end.Statement.{statement}
 use Rattle.cdf53i.proofs.cdf53i.approximate_end.Tie as tie
 

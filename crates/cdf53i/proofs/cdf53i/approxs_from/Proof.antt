@@ -4,16 +4,16 @@ use mathlib.Core.Path.{ap, _∙_}
 use Prim.Native.Nat.{_+_, _-_, _/_, _≤_}
 use native.Mathlib.Omega.{arith}
 use lib.ListN.{length}
-use Rattle.sizes.specs.Bands.{ups}
+use Rattle.sizes.specs.Lengths.{approxLength}
 use Rattle.samples.specs.Words.{Front}
 use Rattle.samples.proofs.Fronts.{front-at}
 use Rattle.cdf53i.specs.Bands.{detailWord, approxWord}
-use Rattle.cdf53i.proofs.Turns.{details-read, approx-more}
+use Rattle.cdf53i.proofs.WordTurns.{details-read, approx-more}
 use Rattle.cdf53i.proofs.cdf53i.approxs_from.Statement.{statement}
 use Rattle.cdf53i.proofs.cdf53i.approxs_from.Tie as tie
 
 abbrev Inv-loop : tie.InvT-loop
-Inv-loop k x i n t a₀ j₀ a j = (j ≤ n) × Front k (ups (length x / k)) (i + j) (approxWord k x) a
+Inv-loop k x i n t a₀ j₀ a j = (j ≤ n) × Front k (approxLength (length x / k)) (i + j) (approxWord k x) a
 
 abbrev μ-loop : tie.MeasureT-loop
 μ-loop k x i n t a₀ j₀ a j = n - j

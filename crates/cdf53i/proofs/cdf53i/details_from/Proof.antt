@@ -7,7 +7,7 @@ use lib.ListN.{length}
 use Rattle.samples.specs.Words.{Front}
 use Rattle.samples.proofs.Fronts.{front-none, front-more, front-at}
 use Rattle.cdf53i.specs.Bands.{detailWord, detailsFrom}
-use Rattle.cdf53i.proofs.Turns.{front-now}
+use Rattle.cdf53i.proofs.WordTurns.{front-now}
 use Rattle.cdf53i.proofs.cdf53i.details_from.Statement.{statement}
 use Rattle.cdf53i.proofs.cdf53i.details_from.Tie as tie
 

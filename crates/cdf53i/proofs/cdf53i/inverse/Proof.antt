@@ -5,8 +5,8 @@ use Prim.Native.Nat.{_+_, _-_, _/_, _≤_}
 use native.Mathlib.Omega.{arith}
 use lib.ListN.{length}
 use Rattle.samples.proofs.Fronts.{front-none}
-use Rattle.cdf53i.specs.Bands.{Bands, Restoring, evenWord}
-use Rattle.cdf53i.proofs.Turns.{bands-on, restoring-now, restoring-at, room-of, whole-words}
+use Rattle.cdf53i.specs.Bands.{InputBands, Restoring, evenWord}
+use Rattle.cdf53i.proofs.WordTurns.{bands-on, restoring-now, restoring-at, room-of, whole-words}
 use Rattle.cdf53i.proofs.cdf53i.inverse.Statement.{statement}
 use Rattle.cdf53i.proofs.cdf53i.inverse.Tie as tie
 
@@ -21,7 +21,7 @@ unfolding evenWord
 loop-holds c = (omega arith, refl, refl, record { front = front-none _ (c .before .before .before .before .pre .input .samples); next = c .even-at .ensures .0; small = c .even-at .ensures .1 })
 
 -- at the loop's head, x has the bands
-bands : (c : tie.At-loop Inv-loop μ-loop) → let a = c .before .before .before .before .before .args in Bands (a .k) (c .loop .x) (a .a .now) (a .d .now)
+bands : (c : tie.At-loop Inv-loop μ-loop) → let a = c .before .before .before .before .before .args in InputBands (a .k) (c .loop .x) (a .a .now) (a .d .now)
 bands c = bands-on (c .loop .x) (c .before .before .before .before .before .pre) (c .loop .inv .3 .front .holds)
 
 restore-block-requires : tie.Need-restore-block-requires Inv-loop μ-loop

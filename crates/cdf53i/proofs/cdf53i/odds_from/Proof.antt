@@ -6,7 +6,7 @@ use lib.ListN.{length}
 use Rattle.samples.specs.Words.{Front}
 use Rattle.samples.proofs.Fronts.{front-none, front-at}
 use Rattle.cdf53i.specs.Bands.{evenWord, oddsFrom}
-use Rattle.cdf53i.proofs.Turns.{evens-read, odds-more}
+use Rattle.cdf53i.proofs.WordTurns.{evens-read, odds-more}
 use Rattle.cdf53i.proofs.cdf53i.odds_from.Statement.{statement}
 use Rattle.cdf53i.proofs.cdf53i.odds_from.Tie as tie
 

@@ -7,7 +7,7 @@ use Rattle.samples.specs.Words.{Front}
 use Rattle.samples.proofs.Fronts.{front-at}
 use Rattle.samples.proofs.Words.{holds-on}
 use Rattle.cdf53i.specs.Bands.{sampleWord}
-use Rattle.cdf53i.proofs.Turns.{evens-read, odds-read, pair-more}
+use Rattle.cdf53i.proofs.WordTurns.{evens-read, odds-read, pair-more}
 use Rattle.cdf53i.proofs.cdf53i.pairs_from.Statement.{statement}
 use Rattle.cdf53i.proofs.cdf53i.pairs_from.Tie as tie
 

@@ -2,7 +2,7 @@
 use borrow.Author.Needs.{needs}
 use mathlib.Core.Path.{_∙_}
 use native.Mathlib.Omega.{arith}
-use Rattle.cdf53i.proofs.Turns.{front-now, evens-read, room-on}
+use Rattle.cdf53i.proofs.WordTurns.{front-now, evens-read, room-on}
 use Rattle.cdf53i.proofs.cdf53i.restore_block.Statement.{statement}
 use Rattle.cdf53i.proofs.cdf53i.restore_block.Tie as tie
 

@@ -9,16 +9,16 @@ use lib.ListN.{length}
 use Rattle.order.proofs.Order.{lt-or-le}
 use Rattle.samples.proofs.Fronts.{front-at}
 use Rattle.samples.proofs.Words.{holds-on}
-use Rattle.cdf53i.specs.Bands.{Bands, evenWord}
-use Rattle.cdf53i.proofs.Turns.{front-pair, front-last, restored-all}
+use Rattle.cdf53i.specs.Bands.{InputBands, evenWord}
+use Rattle.cdf53i.proofs.WordTurns.{front-pair, front-last, restored-all}
 use Rattle.cdf53i.proofs.cdf53i.restore_end.Statement.{statement}
 use Rattle.cdf53i.proofs.cdf53i.restore_end.Tie as tie
 
 -- by bytes as by samples
-as-many : {k : ℕ} {x a d : List ℕ} → Bands k x a d → length a ≡ length d → length a / k ≡ length d / k
+as-many : {k : ℕ} {x a d : List ℕ} → InputBands k x a d → length a ≡ length d → length a / k ≡ length d / k
 as-many {k} b e = ap (λ n. n / k) e
 
-one-more : {k : ℕ} {x a d : List ℕ} → Bands k x a d → (length a ≡ length d → ⊥) → length a / k ≡ length d / k + 1
+one-more : {k : ℕ} {x a d : List ℕ} → InputBands k x a d → (length a ≡ length d → ⊥) → length a / k ≡ length d / k + 1
 one-more {k} {x} b ne =
     ⊎-elim
     (λ (h : length x / k / 2 < (length x / k + 1) / 2). omega (arith, b .approx .count, b .details .count))

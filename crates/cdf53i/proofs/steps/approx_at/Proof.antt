@@ -2,7 +2,7 @@
 use borrow.Author.Needs.{needs}
 use native.Mathlib.Omega.{arith}
 use mathlib.Core.Path.{_∙_}
-use Rattle.cdf53i.proofs.Turns.{approx-at}
+use Rattle.cdf53i.proofs.WordTurns.{approx-at}
 use Rattle.cdf53i.proofs.steps.approx_at.Statement.{statement}
 use Rattle.cdf53i.proofs.steps.approx_at.Tie as tie
 

@@ -2,7 +2,7 @@
 use borrow.Author.Needs.{needs}
 use native.Mathlib.Omega.{arith}
 use mathlib.Core.Path.{_∙_}
-use Rattle.cdf53i.proofs.Turns.{detail-at}
+use Rattle.cdf53i.proofs.WordTurns.{detail-at}
 use Rattle.cdf53i.proofs.steps.detail_at.Statement.{statement}
 use Rattle.cdf53i.proofs.steps.detail_at.Tie as tie
 

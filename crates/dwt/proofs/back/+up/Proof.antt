@@ -13,7 +13,7 @@ use Rattle.dwt.specs.Filters.{widthOf, backOf}
 use Rattle.dwt.specs.Pyramids.{samplesOf}
 use Rattle.dwt.specs.Backward.{Rising}
 use Rattle.dwt.proofs.Lists.{put-front, end-is, length-end}
-use Rattle.dwt.proofs.Rises.{at-length, rise-level, rise-room, rise-next, rise-last, samples-next, samples-last}
+use Rattle.dwt.proofs.LevelsBack.{at-length, rise-level, rise-room, rise-next, rise-last, samples-next, samples-last}
 use borrow.Fn.Kinds.{In}
 use borrow.Fn.PlainCycle.{Measures, is, falls, and}
 use Rattle.dwt.proofs.back.up.Reads as up

@@ -14,14 +14,14 @@ use Rattle.answers.specs.Answers.{done}
 use Rattle.answers.specs.Checks.{Check, firstOf}
 use Rattle.answers.proofs.Chain.{by, stop, same, other}
 use Rattle.answers.proofs.Passed.{passing, say-rest, say-stop, roomy}
-use Rattle.sizes.specs.Bands.{mostSamples}
+use Rattle.sizes.specs.Lengths.{mostSamples}
 use Rattle.samples.specs.Words.{wordsOf}
 use Rattle.samples.proofs.Words.{length-words}
 use Rattle.dwt.specs.declared.filter.Filter.{Filter}
 use Rattle.dwt.specs.Filters.{waveletOf}
 use Rattle.dwt.specs.Calls.{roomChecks}
 use Rattle.dwt.specs.Backward.{mostLevels, total, sizeChecks, bandChecks}
-use Rattle.dwt.proofs.Rises.{bands-refuse}
+use Rattle.dwt.proofs.LevelsBack.{bands-refuse}
 use Rattle.dwt.proofs.back.back_lengths.Statement.{statement}
 use Rattle.dwt.proofs.back.back_lengths.Tie as tie
 

@@ -7,7 +7,7 @@ use Rattle.answers.specs.declared.err.Refusal.{Refusal}
 use Rattle.answers.specs.declared.err.Refusal.the-variants.{TooLong}
 use Rattle.answers.specs.Checks.{firstOf}
 use Rattle.answers.proofs.Chain.{by, stop}
-use Rattle.sizes.specs.Bands.{mostSamples}
+use Rattle.sizes.specs.Lengths.{mostSamples}
 use Rattle.dwt.specs.Backward.{mostLevels}
 use Rattle.dwt.proofs.back.back_sizes.Statement.{statement}
 use Rattle.dwt.proofs.back.back_sizes.Tie as tie

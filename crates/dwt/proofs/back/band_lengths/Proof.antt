@@ -10,7 +10,7 @@ use Rattle.answers.specs.Checks.{firstOf}
 use Rattle.samples.specs.Words.{wordsOf}
 use Rattle.samples.proofs.Words.{length-words}
 use Rattle.dwt.specs.Backward.{total, bandChecks}
-use Rattle.dwt.proofs.Rises.{total-more, bands-more, bands-stop, bands-end}
+use Rattle.dwt.proofs.LevelsBack.{total-more, bands-more, bands-stop, bands-end}
 use Rattle.dwt.proofs.back.band_lengths.Statement.{statement}
 use Rattle.dwt.proofs.back.band_lengths.Tie as tie
 

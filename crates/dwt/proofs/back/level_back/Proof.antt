@@ -7,7 +7,7 @@ use native.Mathlib.Omega.{arith}
 use lib.ListN.{length, take, drop}
 use lib.Seq.{length-take-le}
 use Rattle.dwt.specs.Filters.{widthOf, backOf}
-use Rattle.dwt.proofs.Rises.{level-at}
+use Rattle.dwt.proofs.LevelsBack.{level-at}
 use Rattle.dwt.proofs.back.level_back.Statement.{statement}
 use Rattle.dwt.proofs.back.level_back.Tie as tie
 

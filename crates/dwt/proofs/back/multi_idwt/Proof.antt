@@ -11,7 +11,7 @@ use Rattle.dwt.specs.Filters.{widthOf}
 use Rattle.dwt.specs.Pyramids.{samplesOf}
 use Rattle.dwt.specs.Backward.{Rising}
 use Rattle.dwt.proofs.Lists.{copied-front, copied-after}
-use Rattle.dwt.proofs.Rises.{rise-front}
+use Rattle.dwt.proofs.LevelsBack.{rise-front}
 use Rattle.dwt.proofs.Backs.{back-ready}
 use Rattle.dwt.proofs.back.multi_idwt.Statement.{statement}
 use Rattle.dwt.proofs.back.multi_idwt.Tie as tie

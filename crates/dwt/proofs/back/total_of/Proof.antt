@@ -7,7 +7,7 @@ use lib.ListN.{drop}
 use Rattle.samples.specs.Words.{wordsOf}
 use Rattle.samples.proofs.Words.{length-words}
 use Rattle.dwt.specs.Backward.{total}
-use Rattle.dwt.proofs.Rises.{total-more, total-end}
+use Rattle.dwt.proofs.LevelsBack.{total-more, total-end}
 use Rattle.dwt.proofs.back.total_of.Statement.{statement}
 use Rattle.dwt.proofs.back.total_of.Tie as tie
 

@@ -18,6 +18,7 @@ use Rattle.dwt.proofs.last.+sink.Lts-sink as sink-lts
 use Rattle.dwt.proofs.filter.bytes_of.Reads as bytes-of-reads
 use Rattle.dwt.proofs.filter.forward.Reads as forward-reads
 use Rattle.dwt.proofs.last.level_above.Reads as level-above-reads
+use Rattle.sizes.proofs.approx_length.Reads as approx-length-reads
 use Rattle.dwt.proofs.last.+sink.{statement}
 use Rattle.dwt.proofs.last.+sink.Tie.{close}
 
@@ -38,6 +39,8 @@ claims t = (
   forward-reads.Learnt,
   level-above-reads.Asked,
   level-above-reads.Learnt,
+  approx-length-reads.Asked,
+  approx-length-reads.Learnt,
   sink-below t,
   sink.Post,
 )
@@ -58,12 +61,13 @@ forward-requires t c κs =
 
 sink-requires : (t : ℕ) → sink-lts.Need-sink-requires (claims t) (sink-at t) sink.Post
 sink-requires t c κs =
-    let above = c .before .before .before .before .before .before in
+    let above = c .before .before .before .before .before .before .before in
     let st = above .before .before .before .before .before .before .before .before in
     let a = st .args in
     let r = st .pre .1 .0 in
     let e = more t (above .before .before .before) in
-    (omega (arith, e), (room-below (a .f) r (a .levels - 1 + 1) (omega (arith, e)) (omega (arith, r .second, above .level-above .kept)) (r .first), bands-more (a .f) (a .n) e (st .pre .1 .1)))
+    let half = c .before .before .before .before .approx-length .ensures in
+    (omega (arith, e), (rw half (room-below (a .f) r (a .levels - 1 + 1) (omega (arith, e)) (omega (arith, r .second, above .level-above .kept)) (r .first)), rw half (bands-more (a .f) (a .n) e (st .pre .1 .1))))
 
 returns : (t : ℕ) → sink-lts.Need-returns (claims t) (sink-at t) sink.Post
 returns t c =
@@ -73,8 +77,8 @@ returns t c =
 
 returns-2 : (t : ℕ) → sink-lts.Need-returns-2 (claims t) (sink-at t) sink.Post
 returns-2 t c =
-    let below = c .before .before .before .before .before .before .before .before .sink .ensures in
-    let above = c .before .before .before .before .before .before .before .before .before .before .before .before .before .before .before in
+    let below = rw (c .before .before .before .before .before .before .before .before .before .before .before .before .before .approx-length .ensures) at (c .before .before .before .before .before .before .before .before .sink .ensures) in
+    let above = c .before .before .before .before .before .before .before .before .before .before .before .before .before .before .before .before in
     let a = above .before .before .before .before .before .before .before .before .args in
     let within = half-within (widthOf (a .f)) (a .n) in (
       parted-more (a .f) _ (more t (above .before .before .before)) (above .level-above .ensures .0) (below .0),

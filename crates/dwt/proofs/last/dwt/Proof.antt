@@ -3,10 +3,10 @@ use borrow.Author.Needs.{needs}
 use mathlib.Core.Path.{_∙_, sym, ap}
 use Prim.Native.Nat.{ℕ, _-_, _*_, _/_}
 use lib.ListN.{length}
-use Rattle.sizes.specs.Levels.{places, levelsOf}
+use Rattle.sizes.specs.Levels.{countAt, levelsOf}
 use Rattle.dwt.specs.Filters.{widthOf}
 use Rattle.dwt.specs.Calls.{BandsOf, Ready}
-use Rattle.dwt.proofs.Lasts.{dwt-ready, dwt-done, dwt-refused}
+use Rattle.dwt.proofs.LastLevel.{dwt-ready, dwt-done, dwt-refused}
 use Rattle.dwt.proofs.last.dwt.Statement.{statement}
 use Rattle.dwt.proofs.last.dwt.Tie as tie
 
@@ -15,7 +15,7 @@ ready : (c : tie.Then1)
     → let a = c .before .before .before .before .before .before .before .before .before .args in
     let n = length (a .signal .now) / widthOf (a .f) in
     Ready (a .f) (levelsOf (a .levels)) n (length (a .signal .now)) (length (a .one .now)) (length (a .two .now))
-    × BandsOf (a .f) (places (levelsOf (a .levels) - 1) n) (length (a .approx .now)) (length (a .details .now))
+    × BandsOf (a .f) (countAt (levelsOf (a .levels) - 1) n) (length (a .approx .now)) (length (a .details .now))
 ready c =
     let a = c .before .before .before .before .before .before .before .before .before .args in
     dwt-ready (a .f) (a .levels) (length (a .signal .now)) (length (a .approx .now)) (length (a .details .now)) (length (a .one .now)) (length (a .two .now))

@@ -11,9 +11,9 @@ use Rattle.answers.specs.declared.err.Refusal.the-variants.{Done, BufferWasTooS
 use Rattle.answers.specs.Checks.{firstOf, twoAreas}
 use Rattle.answers.proofs.Chain.{by, stop}
 use Rattle.answers.proofs.Passed.{say-rest, say-stop}
-use Rattle.sizes.specs.Bands.{mostSamples}
+use Rattle.sizes.specs.Lengths.{mostSamples}
 use Rattle.sizes.specs.Calls.{forwardBands}
-use Rattle.sizes.specs.Levels.{places, depthOf, levelsOf}
+use Rattle.sizes.specs.Levels.{countAt, depthOf, levelsOf}
 use Rattle.dwt.specs.Filters.{waveletOf}
 use Rattle.dwt.proofs.Multi.{levels-pos}
 use Rattle.dwt.proofs.last.dwt_lengths.Statement.{statement}
@@ -29,11 +29,11 @@ past2 : (c : tie.Else2) {y z : Refusal} → z ≡ y
 past2 c q = by _ (le-ltb _ _ (c .before .before .before .before .if1 .left)) (by _ (sym (deep (c .before)) ∙ le-ltb _ _ (c .if2 .left)) q)
 
 -- what is said of the last level's bands
-bands : (c : tie.After-forward-bands) → let a = c .before .before .before .before .before .before .before .args in c .forward-bands .result ≡ firstOf (forwardBands (places (levelsOf (a .levels) - 1) (a .n)) (a .a) (a .d)) (Done 0 0)
+bands : (c : tie.After-forward-bands) → let a = c .before .before .before .before .before .before .before .args in c .forward-bands .result ≡ firstOf (forwardBands (countAt (levelsOf (a .levels) - 1) (a .n)) (a .a) (a .d)) (Done 0 0)
 bands c =
     let a = c .before .before .before .before .before .before .before .args in
     c .forward-bands .ensures
-    ∙ ap (λ (m : ℕ). firstOf (forwardBands m (a .a) (a .d)) (Done 0 0)) (c .before .places-of .ensures ∙ ap (λ (l : ℕ). places (l - 1) (a .n)) (c .before .before .before .before .before .at-least-one .ensures))
+    ∙ ap (λ (m : ℕ). firstOf (forwardBands m (a .a) (a .d)) (Done 0 0)) (c .before .count-at .ensures ∙ ap (λ (l : ℕ). countAt (l - 1) (a .n)) (c .before .before .before .before .before .at-least-one .ensures))
 
 returns-3 : tie.Need-returns-3
 returns-3 c =

@@ -28,20 +28,21 @@ forward-requires c κs =
 
 sink-requires : tie.Need-sink-requires
 sink-requires c κs =
-    let above = c .before .before .before .before .before .before in
+    let above = c .before .before .before .before .before .before .before in
     let st = above .before .before .before .before .before .before .before .before in
     let a = st .args in
     let r = ready-room (a .f) (st .pre .0) in
     let e = more (above .before .before) in
-    (room-below (a .f) r (a .levels - 2 + 1) (omega arith) (omega (arith, r .first, above .level-above .kept)) (r .second), bands-more (a .f) (a .n) e (st .pre .1))
+    let half = c .before .before .before .before .approx-length .ensures in
+    (rw half (room-below (a .f) r (a .levels - 2 + 1) (omega arith) (omega (arith, r .first, above .level-above .kept)) (r .second)), rw half (bands-more (a .f) (a .n) e (st .pre .1)))
 
 returns : tie.Need-returns
 returns c = (parted-none (c .before .before .before .before .before .before .before .before .before .before .before .before .before .args .f) _ (none (c .before .before .before .before .before .before .before)) (c .before .before .before .before .forward .ensures), (refl, refl))
 
 returns-2 : tie.Need-returns-2
 returns-2 c =
-    let below = c .before .before .before .before .before .before .before .before .sink .ensures in
-    let above = c .before .before .before .before .before .before .before .before .before .before .before .before .before .before .before in
+    let below = rw (c .before .before .before .before .before .before .before .before .before .before .before .before .before .approx-length .ensures) at (c .before .before .before .before .before .before .before .before .sink .ensures) in
+    let above = c .before .before .before .before .before .before .before .before .before .before .before .before .before .before .before .before in
     let st = above .before .before .before .before .before .before .before .before in
     let a = st .args in
     let k = widthOf (a .f) in

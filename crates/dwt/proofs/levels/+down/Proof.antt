@@ -6,7 +6,7 @@ use native.Mathlib.Omega.{arith}
 use borrow.Author.Needs.{needs}
 use lib.ListN.{length, take, drop}
 use lib.Seq.{length-take-le, drop-at}
-use Rattle.sizes.specs.Bands.{ups, smallestOf}
+use Rattle.sizes.specs.Lengths.{approxLength, smallestOf}
 use Rattle.sizes.specs.Levels.{depthOf}
 use Rattle.dwt.specs.Filters.{widthOf, waveletOf, lowOf, highOf}
 use Rattle.dwt.specs.Pyramids.{pyramid}
@@ -20,6 +20,7 @@ use Rattle.dwt.proofs.levels.down.Reads as down
 use Rattle.dwt.proofs.levels.down.Kinds as down-kinds
 use Rattle.dwt.proofs.levels.+down.Lts-down as down-lts
 use Rattle.bytes.proofs.copy.Reads as copy-reads
+use Rattle.sizes.proofs.approx_length.Reads as approx-length-reads
 use Rattle.dwt.proofs.levels.cut_of.Reads as cut-of-reads
 use Rattle.dwt.proofs.levels.level.Reads as level-reads
 use Rattle.dwt.proofs.levels.+down.{statement}
@@ -40,6 +41,8 @@ claims t = (
   copy-reads.Learnt,
   level-reads.Asked,
   level-reads.Learnt,
+  approx-length-reads.Asked,
+  approx-length-reads.Learnt,
   cut-of-reads.Asked,
   cut-of-reads.Learnt,
   down-below t,
@@ -68,8 +71,8 @@ down-level-requires t c κs =
     let h : suc (a .levels - 1) ≤ depthOf (waveletOf (a .f)) (a .n) = omega arith in
     (step (smallestOf (waveletOf (a .f))) (two-below (waveletOf (a .f))) (a .levels - 1) (a .n) h .0, (length-take-le (length (a .out .now)) (a .from .now) (omega (arith, st .pre)) ∙ st .pre .1 .1, omega (arith, st .pre)))
 
-down-add-half : (t : ℕ) → down-lts.Need-add-half (claims t) (down-at t) down.Post
-down-add-half t c = search needs
+down-approx-length-requires : (t : ℕ) → down-lts.Need-approx-length-requires (claims t) (down-at t) down.Post
+down-approx-length-requires t c κs = search needs
 
 down-cut-of-requires : (t : ℕ) → down-lts.Need-cut-of-requires (claims t) (down-at t) down.Post
 down-cut-of-requires t c κs = search needs
@@ -81,18 +84,19 @@ down-slice-relend-prefix-down : (t : ℕ) → down-lts.Need-slice-relend-prefix-
 down-slice-relend-prefix-down t c = search needs
 
 down-slice-aggregate-down : (t : ℕ) → down-lts.Need-slice-aggregate-down (claims t) (down-at t) down.Post
-down-slice-aggregate-down t c = sym (length-take-le (c .before .before .before .cut-of .result) (c .before .before .before .before .before .before .before .before .level .last .1 .1 .1 .1 .0) (omega arith))
+down-slice-aggregate-down t c = sym (length-take-le (c .before .before .before .cut-of .result) (c .before .before .before .before .before .before .before .before .before .level .last .1 .1 .1 .1 .0) (omega arith))
 
 down-down-requires : (t : ℕ) → down-lts.Need-down-requires (claims t) (down-at t) down.Post
 down-down-requires t c κs =
-    let st = c .before .before .before .before .before .before .before .before .before .before .before .before .before .before .before .before in
+    let st = c .before .before .before .before .before .before .before .before .before .before .before .before .before .before .before .before .before in
     let a = st .args in
     let h : suc (a .levels - 1) ≤ depthOf (waveletOf (a .f)) (a .n) = omega arith in
     let s = step (smallestOf (waveletOf (a .f))) (two-below (waveletOf (a .f))) (a .levels - 1) (a .n) h in
     let cut = c .before .before .before .cut-of .ensures in
-    let out : length (take (c .before .before .before .cut-of .result) (c .before .before .before .before .before .before .before .before .level .last .1 .1 .1 .1 .0)) ≡ widthOf (a .f) * ups (a .n) =
-    length-take-le (c .before .before .before .cut-of .result) (c .before .before .before .before .before .before .before .before .level .last .1 .1 .1 .1 .0) (omega (arith, cut, st .pre, c .before .before .before .before .before .before .before .before .level .kept)) ∙ cut .place in
-    (omega arith, (record { deep = s .1; short = omega (arith, st .pre); first = omega (arith, cut, st .pre, c .before .before .before .before .before .before .before .before .level .kept); second = omega (arith, cut, st .pre) }, out))
+    let out : length (take (c .before .before .before .cut-of .result) (c .before .before .before .before .before .before .before .before .before .level .last .1 .1 .1 .1 .0)) ≡ widthOf (a .f) * approxLength (a .n) =
+    length-take-le (c .before .before .before .cut-of .result) (c .before .before .before .before .before .before .before .before .before .level .last .1 .1 .1 .1 .0) (omega (arith, cut, st .pre, c .before .before .before .before .before .before .before .before .before .level .kept)) ∙ cut .place in
+    let half = c .before .before .before .before .approx-length .ensures in
+    (omega arith, (rw half (record { deep = s .1; short = omega (arith, st .pre); first = omega (arith, cut, st .pre, c .before .before .before .before .before .before .before .before .before .level .kept); second = omega (arith, cut, st .pre) }), rw half out))
 
 down-same-length : (t : ℕ) → down-lts.Need-same-length (claims t) (down-at t) down.Post
 down-same-length t c = search needs
@@ -123,26 +127,27 @@ down-same-length-5 t c = search needs
 
 down-returns-2 : (t : ℕ) → down-lts.Need-returns-2 (claims t) (down-at t) down.Post
 down-returns-2 t c =
-    let st = c .before .before .before .before .before .before .before .before .before .before .before .before .before .before .before .before .before .before .before .before .before .before .before in
+    let st = c .before .before .before .before .before .before .before .before .before .before .before .before .before .before .before .before .before .before .before .before .before .before .before .before in
     let a = st .args in
-    let lv = c .before .before .before .before .before .before .before .before .before .before .before .before .before .before .before .level in
+    let lv = c .before .before .before .before .before .before .before .before .before .before .before .before .before .before .before .before .level in
     let cu = c .before .before .before .before .before .before .before .before .before .before .cut-of in
     let dn = c .before .before .before .before .before .before .down in
+    let below = rw (c .before .before .before .before .before .before .before .before .before .before .before .approx-length .ensures) at (dn .ensures) in
     let x = take (length (a .out .now)) (a .from .now) in
-    let w = widthOf (a .f) * ups (a .n) in
+    let w = widthOf (a .f) * approxLength (a .n) in
     let r = dn .last .1 .1 .1 .1 .1 .0 in
-    let below : w ≤ widthOf (a .f) * a .n = omega (arith, cu .ensures) in
+    let within : w ≤ widthOf (a .f) * a .n = omega (arith, cu .ensures) in
     let inside : w ≤ length (a .out .now) = omega (arith, cu .ensures, st .pre) in
     let long : length (lowOf (a .f) x) ≡ w = lv .ensures .1 .1 .0 in (
       ap (λ (l : List ℕ). r ++ drop (cu .result) l) (lv .ensures .1 .0)
           ∙ ap (λ (k : ℕ). r ++ drop k (take w (a .out .now) ++ highOf (a .f) x)) (cu .ensures .place)
-          ∙ pyramid-more (a .f) (a .levels) x (a .out .now) (drop w (a .to .now)) r w (c .before .before .before .before .before .before .before .before .before .before .before .before .before .before .before .before .before .before .before .if1 .left) inside long
-          (dn .ensures .0 ∙ ap (λ (l : List ℕ). pyramid (a .f) (a .levels - 1) (take w l)) (lv .ensures .0))
+          ∙ pyramid-more (a .f) (a .levels) x (a .out .now) (drop w (a .to .now)) r w (c .before .before .before .before .before .before .before .before .before .before .before .before .before .before .before .before .before .before .before .before .if1 .left) inside long
+          (below .0 ∙ ap (λ (l : List ℕ). pyramid (a .f) (a .levels - 1) (take w l)) (lv .ensures .0))
           ∙ ap (λ (k : ℕ). pyramid (a .f) (a .levels) (take k (a .from .now))) (st .pre .1 .1),
       (
-        later w (widthOf (a .f) * a .n) _ _ below (dn .ensures .1 .1),
-        later w (widthOf (a .f) * a .n) _ _ below
-            (dn .ensures .1 .0 ∙ ap (λ (l : List ℕ). drop w l) (lv .ensures .0) ∙ drop-at (lowOf (a .f) x) (drop w (a .to .now)) w long),
+        later w (widthOf (a .f) * a .n) _ _ within (below .1 .1),
+        later w (widthOf (a .f) * a .n) _ _ within
+            (below .1 .0 ∙ ap (λ (l : List ℕ). drop w l) (lv .ensures .0) ∙ drop-at (lowOf (a .f) x) (drop w (a .to .now)) w long),
       ),
     )
 
@@ -156,7 +161,7 @@ pub +down-spec : {M : Type 1} → statement M
     (down-slice-reshare-prefix-level t)
     (down-slice-aggregate-level t)
     (down-level-requires t)
-    (down-add-half t)
+    (down-approx-length-requires t)
     (down-cut-of-requires t)
     (down-sub-down t)
     (down-slice-relend-prefix-down t)

@@ -6,7 +6,7 @@ use Prim.Native.Nat.{ℕ, _-_, _*_}
 use native.Mathlib.Omega.{arith}
 use lib.ListN.{length, take, drop}
 use lib.Seq.{length-take-le}
-use Rattle.sizes.specs.Bands.{ups, downs}
+use Rattle.sizes.specs.Lengths.{approxLength, detailsLength}
 use Rattle.sizes.specs.Calls.{Level}
 use Rattle.sizes.proofs.OneLevel.{forward-ran}
 use Rattle.dwt.specs.Filters.{widthOf, waveletOf, lowOf, highOf}
@@ -25,8 +25,8 @@ returns c =
     let x = a .x .now in
     let lo = take k (a .to .now) in
     let hi = take (length (a .out .now) - k) (drop k (a .out .now)) in
-    let nlo : length lo ≡ widthOf (a .f) * ups (a .n) = length-take-le k (a .to .now) (omega (arith, cut, st .pre)) ∙ cut .place in
-    let nhi : length hi ≡ widthOf (a .f) * downs (a .n) = length-end k (a .out .now) ∙ (omega (arith, cut, st .pre)) in
+    let nlo : length lo ≡ widthOf (a .f) * approxLength (a .n) = length-take-le k (a .to .now) (omega (arith, cut, st .pre)) ∙ cut .place in
+    let nhi : length hi ≡ widthOf (a .f) * detailsLength (a .n) = length-end k (a .out .now) ∙ (omega (arith, cut, st .pre)) in
     let l : Level (waveletOf (a .f)) (widthOf (a .f)) (a .n) (length x) (length lo) (length hi) =
     record { long = st .pre .0; short = st .pre .1 .1 .1 .1; samples = st .pre .1 .0; approx = nlo; details = nhi } in
     let ran = forward-ran (waveletOf (a .f)) (widthOf (a .f)) (lowOf (a .f)) (highOf (a .f)) x lo hi (a .n) (fw .result) (fw .last .1 .1 .0) (fw .last .1 .1 .1 .0) (width-pos (a .f)) l (fw .ensures) in (

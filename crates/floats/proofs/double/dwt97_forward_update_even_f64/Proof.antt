@@ -2,7 +2,7 @@
 use borrow.Author.Needs.{needs}
 use Prim.Native.Nat.{_-_}
 use lib.Ieee.{binary64}
-use Rattle.floats.proofs.Turns.{EvensTo, evens-first, evens-none, evens-right, evens-here, evens-next, evens-last, evens-all, evens-all-last}
+use Rattle.floats.proofs.BandTurns.{EvensTo, evens-first, evens-none, evens-right, evens-here, evens-next, evens-last, evens-all, evens-all-last}
 use Rattle.floats.proofs.double.dwt97_forward_update_even_f64.Statement.{statement}
 use Rattle.floats.proofs.double.dwt97_forward_update_even_f64.Tie as tie
 

@@ -2,7 +2,7 @@
 use borrow.Author.Needs.{needs}
 use Prim.Native.Nat.{_-_}
 use lib.Ieee.{binary64}
-use Rattle.floats.proofs.Turns.{OddsTo, odds-none, odds-left, odds-right, odds-here, odds-next, odds-last-left, odds-last-right, odds-last, odds-all}
+use Rattle.floats.proofs.BandTurns.{OddsTo, odds-none, odds-left, odds-right, odds-here, odds-next, odds-last-left, odds-last-right, odds-last, odds-all}
 use Rattle.floats.proofs.double.dwt97_forward_update_odd_f64.Statement.{statement}
 use Rattle.floats.proofs.double.dwt97_forward_update_odd_f64.Tie as tie
 

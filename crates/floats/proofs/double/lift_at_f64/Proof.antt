@@ -1,7 +1,7 @@
 -- `lift_at_f64` meets its contract.
 use borrow.Author.Needs.{needs}
 use lib.Ieee.{binary64}
-use Rattle.floats.proofs.Turns.{put-lifted}
+use Rattle.floats.proofs.BandTurns.{put-lifted}
 use Rattle.floats.proofs.double.lift_at_f64.Statement.{statement}
 use Rattle.floats.proofs.double.lift_at_f64.Tie as tie
 

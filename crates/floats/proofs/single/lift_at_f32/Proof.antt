@@ -1,7 +1,7 @@
 -- `lift_at_f32` meets its contract.
 use borrow.Author.Needs.{needs}
 use lib.Ieee.{binary32}
-use Rattle.floats.proofs.Turns.{put-lifted}
+use Rattle.floats.proofs.BandTurns.{put-lifted}
 use Rattle.floats.proofs.single.lift_at_f32.Statement.{statement}
 use Rattle.floats.proofs.single.lift_at_f32.Tie as tie
 

@@ -8,7 +8,7 @@ use Rattle.samples.proofs.Fronts.{front-none}
 use Rattle.small.proofs.Lifts.{never}
 use Rattle.lift53.specs.Back.{Given, Restoring}
 use Rattle.small.proofs.Sizes.{both-part-if}
-use Rattle.lift53.proofs.Turns.{counts, even-made, given-on, restoring-now, restoring-at}
+use Rattle.lift53.proofs.RestoreTurns.{counts, even-made, given-on, restoring-now, restoring-at}
 use Rattle.lift53.proofs.double.restore_all_f64.Statement.{statement}
 use Rattle.lift53.proofs.double.restore_all_f64.Tie as tie
 

@@ -6,7 +6,7 @@ use lib.ListN.{length}
 use lib.Ieee.{binary64}
 use Rattle.lift53.specs.Back.{Restoring}
 use Rattle.small.proofs.Sizes.{both-part-if}
-use Rattle.lift53.proofs.Turns.{given-on, restoring-now, restoring-at}
+use Rattle.lift53.proofs.RestoreTurns.{given-on, restoring-now, restoring-at}
 use Rattle.lift53.proofs.double.restore_block_f64.Statement.{statement}
 use Rattle.lift53.proofs.double.restore_block_f64.Tie as tie
 

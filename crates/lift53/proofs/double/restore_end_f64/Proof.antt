@@ -5,7 +5,7 @@ use native.Mathlib.Omega.{arith}
 use Rattle.samples.proofs.Words.{holds-on}
 use Rattle.samples.proofs.Fronts.{front-at}
 use Rattle.small.proofs.Lifts.{never}
-use Rattle.lift53.proofs.Turns.{counts, one-more, even-made, odd-made, pair-more, last-more, restored-all}
+use Rattle.lift53.proofs.RestoreTurns.{counts, one-more, even-made, odd-made, pair-more, last-more, restored-all}
 use Rattle.lift53.proofs.double.restore_end_f64.Statement.{statement}
 use Rattle.lift53.proofs.double.restore_end_f64.Tie as tie
 

@@ -4,7 +4,7 @@ use Prim.Native.Nat.{_+_, _-_}
 use native.Mathlib.Omega.{arith}
 use Rattle.samples.proofs.Words.{holds-on}
 use Rattle.samples.proofs.Fronts.{front-at}
-use Rattle.lift53.proofs.Turns.{counts, even-made, odd-made, even-no-nan, odd-no-nan, details-if, approx-if, pair-more}
+use Rattle.lift53.proofs.RestoreTurns.{counts, even-made, odd-made, even-no-nan, odd-no-nan, details-if, approx-if, pair-more}
 use Rattle.lift53.proofs.double.restore_pair_f64.Statement.{statement}
 use Rattle.lift53.proofs.double.restore_pair_f64.Tie as tie
 

@@ -12,7 +12,7 @@ returns : tie.Need-returns
 returns c =
     let a = c .before .before .before .before .before .args in
     c .numbers .ensures
-    ∙ ap answerOf (c .before .say-window .ensures ∙ ap (λ (k : ℕ). sayWindow k (length (a .approx .now)) (length (a .details .now)) (a .band) (a .start) (a .count)) (c .before .before .bytes-of .ensures .0))
+    ∙ ap answerOf (c .before .say-window .ensures ∙ ap (λ (k : ℕ). sayWindow k (length (a .approx .now)) (length (a .details .now)) (a .band) (a .start) (a .count)) (c .before .before .bytes-each .ensures .0))
 
 pub band-window-answer-spec : {M : Type 1} → statement M
 band-window-answer-spec = tie.close (tie.spec (λ c κs. search needs) (λ c κs. search needs) (λ c κs. search needs) returns)

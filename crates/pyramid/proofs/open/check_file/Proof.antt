@@ -10,7 +10,7 @@ use Rattle.answers.specs.declared.err.Refusal.the-variants.{Done}
 use Rattle.answers.specs.Answers.{done}
 use Rattle.answers.specs.Checks.{firstOf}
 use Rattle.answers.proofs.Passed.{Passing, passing, through, say-rest, say-stop}
-use Rattle.sizes.specs.Levels.{places}
+use Rattle.sizes.specs.Levels.{countAt}
 use Rattle.pyramid.specs.declared.head.Head.{Head}
 use Rattle.pyramid.specs.Opens.{headIn, headChecks, wayIn, wayChecks, wholeDetails, levelIn, countIn, sayFile}
 use Rattle.pyramid.proofs.Opening.{other-end, Headed, head-refuses, head-passes, way-refuses, way-passes}
@@ -76,7 +76,7 @@ returns-3 c =
     let s = c .before .before .before .before .before .before .before .before .before .before .before .before .args .s .now in
     let h = c .before .before .before .before .before .before .before .head-in in
     let l : h .result .levels - c .before .before .whole-details .result ≡ levelIn s = ap₂ (λ (a b : ℕ). a - b) (ap (λ (i : Head). i .levels) (h .ensures .0)) (details (c .before .before)) in
-    let n : c .places-of .result ≡ countIn s = c .places-of .ensures ∙ ap₂ places l (ap (λ (i : Head). i .samples) (h .ensures .0)) in
+    let n : c .count-at .result ≡ countIn s = c .count-at .ensures ∙ ap₂ countAt l (ap (λ (i : Head). i .samples) (h .ensures .0)) in
     past (c .before .before .before .before .before .before .before .before) (ap₂ Done l n ∙ sym (through (wayChecks (wayIn s (headIn s)) (length s)) (Done (levelIn s) (countIn s)) (passes (c .before .before .before))))
 
 pub check-file-spec : {M : Type 1} → statement M

@@ -6,7 +6,7 @@ use native.Mathlib.Omega.{arith}
 use borrow.Author.Needs.{needs}
 use lib.ListN.{length, take, drop}
 use lib.Seq.{take-at, drop-at}
-use Rattle.sizes.specs.Bands.{ups, downs, smallestOf}
+use Rattle.sizes.specs.Lengths.{approxLength, detailsLength, smallestOf}
 use Rattle.sizes.specs.Levels.{depthOf}
 use Rattle.sizes.proofs.Depths.{step, two-below}
 use Rattle.dwt.specs.Filters.{widthOf, waveletOf, backOf}
@@ -50,7 +50,7 @@ claims t = (
 
 -- a level more runs
 level : (t : ℕ) (st : restore-lts.Start (claims t) (restore-at t) restore.Post) → (st .args .levels ≡ 0 → ⊥)
-    → let a = st .args in (smallestOf (waveletOf (a .f)) ≤ a .n) × (a .levels - 1 ≤ depthOf (waveletOf (a .f)) (ups (a .n)))
+    → let a = st .args in (smallestOf (waveletOf (a .f)) ≤ a .n) × (a .levels - 1 ≤ depthOf (waveletOf (a .f)) (approxLength (a .n)))
 level t st h =
     let a = st .args in
     let e : suc (a .levels - 1) ≤ depthOf (waveletOf (a .f)) (a .n) = omega (arith, st .pre .1 .1 .0 .deep, h) in
@@ -114,17 +114,17 @@ restore-returns-2 : (t : ℕ) → restore-lts.Need-returns-2 (claims t) (restore
 restore-returns-2 t c =
     let a = c .before .before .before .before .before .before .before .before .before .before .before .before .before .before .before .before .before .args in
     let b = widthOf (a .f) * a .n in
-    let h = widthOf (a .f) * ups (a .n) in
-    let r = restoredAt (widthOf (a .f)) (a .s .now) (a .levels - 1) (ups (a .n)) (a .at) in
+    let h = widthOf (a .f) * approxLength (a .n) in
+    let r = restoredAt (widthOf (a .f)) (a .s .now) (a .levels - 1) (approxLength (a .n)) (a .at) in
     let rs = c .before .before .before .before .before .before .before .before .before .before .restore in
     let cu = c .before .before .before .before .before .cut-of in
     let bd = c .before .before .build in
     let place = a .at + (4 * a .levels + cu .result) in
     let below : h ≤ b = omega (arith, cu .ensures) in
-    let there : place ≡ a .at + bodySize (widthOf (a .f)) (a .levels - 1) (ups (a .n)) = omega (arith, cu .ensures, c .before .before .before .before .before .before .before .before .before .before .before .before .before .if1 .left) in
+    let there : place ≡ a .at + bodySize (widthOf (a .f)) (a .levels - 1) (approxLength (a .n)) = omega (arith, cu .ensures, c .before .before .before .before .before .before .before .before .before .before .before .before .before .if1 .left) in
     let tk : take h (rs .last .1 .1 .1 .1 .1 .0) ≡ r = ap (λ (u : List ℕ). take h u) (rs .ensures .0) ∙ take-at r (drop h (a .other .now)) h (rs .ensures .1 .1) in
-    let whole : backOf (a .f) (take h (rs .last .1 .1 .1 .1 .1 .0)) (bytesAt (widthOf (a .f)) (a .s .now) (downs (a .n)) place) ≡ restoredAt (widthOf (a .f)) (a .s .now) (a .levels) (a .n) (a .at) =
-    ap (λ (u : List ℕ). backOf (a .f) u (bytesAt (widthOf (a .f)) (a .s .now) (downs (a .n)) place)) tk
+    let whole : backOf (a .f) (take h (rs .last .1 .1 .1 .1 .1 .0)) (bytesAt (widthOf (a .f)) (a .s .now) (detailsLength (a .n)) place) ≡ restoredAt (widthOf (a .f)) (a .s .now) (a .levels) (a .n) (a .at) =
+    ap (λ (u : List ℕ). backOf (a .f) u (bytesAt (widthOf (a .f)) (a .s .now) (detailsLength (a .n)) place)) tk
     ∙ restore-more (a .f) (c .before .before .before .before .before .before .before .before .before .before .before .before .before .before .before .before .before .pre .1 .0) (a .s .now) (a .levels) (a .n) (a .at) place (c .before .before .before .before .before .before .before .before .before .before .before .before .before .if1 .left) there in (
       bd .ensures .0
           ∙ ap (λ (u : List ℕ). u ++ drop b (rs .last .1 .1 .1 .1 .1 .1 .0)) whole

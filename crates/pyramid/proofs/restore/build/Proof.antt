@@ -5,7 +5,7 @@ use Prim.Native.Nat.{ℕ, _*_, _+_, _-_}
 use native.Mathlib.Omega.{arith}
 use lib.ListN.{length, take, drop}
 use lib.Seq.{length-take-le}
-use Rattle.sizes.specs.Bands.{ups, downs}
+use Rattle.sizes.specs.Lengths.{approxLength, detailsLength}
 use Rattle.dwt.specs.Filters.{widthOf, backOf}
 use Rattle.pyramid.proofs.Parts.{piece, piece-length}
 use borrow.Author.Needs.{needs}
@@ -50,7 +50,7 @@ restore-requires c κs =
     let a = c .before .before .before .before .before .before .before .before .args in
     let k = a .at + 4 in
     let j = c .before .before .before .before .bytes-of .result - c .before .before .before .cut-of .result in
-    let b = widthOf (a .f) * downs (a .n) in
+    let b = widthOf (a .f) * detailsLength (a .n) in
     let e : j ≡ b = omega arith in
     record {
       long = c .before .before .before .before .before .before .before .before .pre .0;
@@ -70,16 +70,16 @@ returns c =
     let all = c .before .before .before .before .before .before .before .bytes-of .result in
     let cu = c .before .before .before .before .before .before .cut-of in
     let j = all - cu .result in
-    let b = widthOf (a .f) * downs (a .n) in
+    let b = widthOf (a .f) * detailsLength (a .n) in
     let e : j ≡ b = omega arith in
     let bw = c .before .before .restore in
     let x = bw .last .1 .1 .1 .1 .0 in
-    let is : x ≡ backOf (a .f) (take (widthOf (a .f) * ups (a .n)) (a .other .now)) (take b (drop k (a .s .now))) =
+    let is : x ≡ backOf (a .f) (take (widthOf (a .f) * approxLength (a .n)) (a .other .now)) (take b (drop k (a .s .now))) =
     bw .ensures
     ∙ ap (λ (u : List ℕ). backOf (a .f) (take (cu .result) (a .other .now)) u) (piece (a .s .now) k j b e)
     ∙ ap (λ (i : ℕ). backOf (a .f) (take i (a .other .now)) (take b (drop k (a .s .now)))) (cu .ensures .place) in
     let long : length x ≡ widthOf (a .f) * a .n = bw .kept .1 .1 .1 .1 .0 ∙ length-take-le all (a .to .now) (omega arith) ∙ c .before .before .before .before .before .before .before .bytes-of .ensures in (
-      ap (λ (u : List ℕ). u ++ drop all (a .to .now)) is ∙ ap (λ (i : ℕ). _++_ (backOf (a .f) (take (widthOf (a .f) * ups (a .n)) (a .other .now)) (take b (drop k (a .s .now)))) (drop i (a .to .now))) (c .before .before .before .before .before .before .before .bytes-of .ensures),
+      ap (λ (u : List ℕ). u ++ drop all (a .to .now)) is ∙ ap (λ (i : ℕ). _++_ (backOf (a .f) (take (widthOf (a .f) * approxLength (a .n)) (a .other .now)) (take b (drop k (a .s .now)))) (drop i (a .to .now))) (c .before .before .before .before .before .before .before .bytes-of .ensures),
       ap length (sym is) ∙ long,
     )
 

@@ -4,7 +4,7 @@ use Prim.Native.Nat.{_-_, _+_, _≤_}
 use native.Mathlib.Nat.{mul-le-mul-left}
 use native.Mathlib.Omega.{arith}
 use borrow.Author.Needs.{needs}
-use Rattle.sizes.specs.Bands.{ups, downs}
+use Rattle.sizes.specs.Lengths.{approxLength, detailsLength}
 use Rattle.pyramid.specs.declared.walk.Way.the-variants.{Went, Short, Wrong}
 use Rattle.pyramid.proofs.Ways.{walk-none, walk-more, walk-size}
 use Prim.Native.Nat.{ℕ, _<_}
@@ -47,7 +47,7 @@ walk-walk-requires : (t : ℕ) → walk-lts.Need-walk-requires (claims t) (walk-
 walk-walk-requires t c κs =
     let st = c .before .before in
     let a = st .args in
-    let m = mul-le-mul-left (a .k) (let h : ups (a .n) ≤ a .n = omega arith in h) in
+    let m = mul-le-mul-left (a .k) (let h : approxLength (a .n) ≤ a .n = omega arith in h) in
     (omega arith, (st .pre .1 .0, omega (arith, m, st .pre .1 .1), omega arith, omega arith))
 
 walk-enum-known-way : (t : ℕ) → walk-lts.Need-enum-known-way (claims t) (walk-at t) walk.Post
@@ -60,8 +60,8 @@ walk-one-requires-2 : (t : ℕ) → walk-lts.Need-one-requires-2 (claims t) (wal
 walk-one-requires-2 t c κs =
     let st = c .before .before .before .before .before .before in
     let a = st .args in
-    let m = mul-le-mul-left (a .k) (let h : downs (a .n) ≤ a .n = omega arith in h) in
-    let g = walk-size (a .levels - 1) (a .s .now) (a .k) (ups (a .n)) (a .at) (c .before .way .given .0 .0) (st .pre .1 .0) (sym (c .before .before .before .walk .ensures) ∙ c .before .way .given .1) in
+    let m = mul-le-mul-left (a .k) (let h : detailsLength (a .n) ≤ a .n = omega arith in h) in
+    let g = walk-size (a .levels - 1) (a .s .now) (a .k) (approxLength (a .n)) (a .at) (c .before .way .given .0 .0) (st .pre .1 .0) (sym (c .before .before .before .walk .ensures) ∙ c .before .way .given .1) in
     (g .1, omega arith)
 
 walk-enum-known-way-2 : (t : ℕ) → walk-lts.Need-enum-known-way-2 (claims t) (walk-at t) walk.Post

@@ -6,7 +6,7 @@ use native.Mathlib.Omega.{arith}
 use borrow.Author.Needs.{needs}
 use lib.ListN.{length, take, drop}
 use lib.Seq.{length-take-le, drop-at}
-use Rattle.sizes.specs.Bands.{ups, smallestOf}
+use Rattle.sizes.specs.Lengths.{approxLength, smallestOf}
 use Rattle.sizes.specs.Levels.{depthOf}
 use Rattle.sizes.proofs.Depths.{step, two-below}
 use Rattle.dwt.specs.Filters.{widthOf, waveletOf, lowOf}
@@ -126,7 +126,7 @@ lay-lay-requires t c κs =
     let h : suc (a .levels - 1) ≤ depthOf (waveletOf (a .f)) (a .n) = omega (arith, st .pre, none) in
     let s = step (smallestOf (waveletOf (a .f))) (two-below (waveletOf (a .f))) (a .levels - 1) (a .n) h in
     let split = split-width (widthOf (a .f)) (a .n) in
-    let out : length (take (at .result) (lv .last .1 .1 .1 .1 .1 .0)) ≡ bodySize (widthOf (a .f)) (a .levels - 1) (ups (a .n)) =
+    let out : length (take (at .result) (lv .last .1 .1 .1 .1 .1 .0)) ≡ bodySize (widthOf (a .f)) (a .levels - 1) (approxLength (a .n)) =
     length-take-le (at .result) (lv .last .1 .1 .1 .1 .1 .0) (omega (arith, st .pre, at .ensures, lv .kept, size-more (widthOf (a .f)) (a .levels) (a .n) none)) ∙ at .ensures in
     (omega (arith, st .pre .0, none), (record { deep = s .1; short = omega (arith, st .pre .1 .0 .short); first = omega (arith, split, st .pre, lv .kept); second = omega (arith, split, st .pre) }, out))
 
@@ -167,14 +167,14 @@ lay-returns-2 t c =
     let lv = c .before .before .before .before .before .before .before .before .before .before .before .before .before .before .lay-level in
     let dn = c .before .before .before .before .before .before .lay in
     let x = take (all .result) (a .from .now) in
-    let w = widthOf (a .f) * ups (a .n) in
+    let w = widthOf (a .f) * approxLength (a .n) in
     let r = dn .last .1 .1 .1 .1 .1 .0 in
     let below : w ≤ widthOf (a .f) * a .n = omega (arith, split-width (widthOf (a .f)) (a .n)) in
     let inside : at .result ≤ length (a .out .now) = omega (arith, at .ensures, st .pre, size-more (widthOf (a .f)) (a .levels) (a .n) none) in
     let long : length (lowOf (a .f) x) ≡ w = lv .ensures .1 .1 in (
       ap (λ (l : List ℕ). r ++ drop (at .result) l) (lv .ensures .1 .0)
           ∙ body-more (a .f) (a .levels) (a .n) x (a .out .now) (drop w (a .to .now)) r (at .result) w none inside long
-          (dn .ensures .0 ∙ ap (λ (l : List ℕ). bodyOf (a .f) (a .levels - 1) (ups (a .n)) (take w l)) (lv .ensures .0))
+          (dn .ensures .0 ∙ ap (λ (l : List ℕ). bodyOf (a .f) (a .levels - 1) (approxLength (a .n)) (take w l)) (lv .ensures .0))
           ∙ ap (λ (k : ℕ). bodyOf (a .f) (a .levels) (a .n) (take k (a .from .now))) (all .ensures),
       (
         later w (widthOf (a .f) * a .n) _ _ below (dn .ensures .1 .1),

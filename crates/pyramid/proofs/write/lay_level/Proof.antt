@@ -7,7 +7,7 @@ use native.Mathlib.Omega.{arith}
 use lib.ListN.{length, take, drop}
 use lib.Seq.{length-take-le}
 use Rattle.samples.specs.Le.{leBytes}
-use Rattle.sizes.specs.Bands.{ups, downs}
+use Rattle.sizes.specs.Lengths.{approxLength, detailsLength}
 use Rattle.sizes.specs.Calls.{Level}
 use Rattle.sizes.proofs.OneLevel.{forward-ran}
 use Rattle.dwt.specs.Filters.{widthOf, waveletOf, lowOf, highOf}
@@ -31,15 +31,15 @@ returns c =
     let hi = take (length o - p) (drop p o) in
     let cut = cu .ensures in
     let same = wu .kept .0 in
-    let nlo : length lo ≡ widthOf (a .f) * ups (a .n) = length-take-le (cu .result) (a .to .now) (omega (arith, cut, st .pre)) ∙ cut .place in
-    let nhi : length hi ≡ widthOf (a .f) * downs (a .n) = length-end p o ∙ (omega (arith, same, st .pre)) in
+    let nlo : length lo ≡ widthOf (a .f) * approxLength (a .n) = length-take-le (cu .result) (a .to .now) (omega (arith, cut, st .pre)) ∙ cut .place in
+    let nhi : length hi ≡ widthOf (a .f) * detailsLength (a .n) = length-end p o ∙ (omega (arith, same, st .pre)) in
     let l : Level (waveletOf (a .f)) (widthOf (a .f)) (a .n) (length x) (length lo) (length hi) =
     record { long = st .pre .0; short = st .pre .1 .0; samples = st .pre .1 .1 .0; approx = nlo; details = nhi } in
     let ran = forward-ran (waveletOf (a .f)) (widthOf (a .f)) (lowOf (a .f)) (highOf (a .f)) x lo hi (a .n) (fw .result) (fw .last .1 .1 .0) (fw .last .1 .1 .1 .0) (width-pos (a .f)) l (fw .ensures) in (
       cc,
       (
-        section-laid (a .out .now) o (fw .last .1 .1 .1 .0) (a .at) (downs (a .n)) (omega (arith, st .pre)) (wu .ensures)
-            ∙ ap (λ (y : List ℕ). take (a .at) (a .out .now) ++ (leBytes 4 (downs (a .n)) ++ y)) (ran .1),
+        section-laid (a .out .now) o (fw .last .1 .1 .1 .0) (a .at) (detailsLength (a .n)) (omega (arith, st .pre)) (wu .ensures)
+            ∙ ap (λ (y : List ℕ). take (a .at) (a .out .now) ++ (leBytes 4 (detailsLength (a .n)) ++ y)) (ran .1),
         ap length (sym (ran .0)) ∙ fw .kept .1 .1 .0 ∙ nlo,
       ),
     )

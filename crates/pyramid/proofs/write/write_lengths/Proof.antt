@@ -12,12 +12,12 @@ use Rattle.answers.specs.Answers.{done}
 use Rattle.answers.specs.Checks.{firstOf, tight, twoAreas}
 use Rattle.answers.proofs.Chain.{by, stop}
 use Rattle.answers.proofs.Passed.{passing, roomy, say-rest, say-stop}
-use Rattle.sizes.specs.Bands.{mostSamples}
+use Rattle.sizes.specs.Lengths.{mostSamples}
 use Rattle.sizes.specs.Levels.{depthOf, levelsOf}
 use Rattle.dwt.specs.Filters.{widthOf, waveletOf}
-use Rattle.dwt.specs.Calls.{levelsChecks}
+use Rattle.dwt.specs.Calls.{depthChecks}
 use Rattle.dwt.proofs.Cuts.{width-room}
-use Rattle.dwt.proofs.Multi.{levels-refuse}
+use Rattle.dwt.proofs.Multi.{depth-refuse}
 use Rattle.pyramid.specs.Files.{headSize, bodySize, fileSize}
 use Rattle.pyramid.specs.Writes.{writeChecks}
 use Rattle.pyramid.proofs.Writing.{few-levels}
@@ -27,20 +27,20 @@ use Rattle.pyramid.proofs.write.write_lengths.Tie as tie
 returns : tie.Need-returns
 returns c =
     let a = c .before .before .before .args in
-    say-stop (levelsChecks (a .f) (a .levels) (a .n)) (tight (a .b) (fileSize headSize (widthOf (a .f)) (levelsOf (a .levels)) (a .n)) ∷ twoAreas (a .u) (a .v) (a .n)) (Done 0 0) (c .before .before .check-levels .ensures) (sym (c .before .is-done .ensures) ∙ not-true _ (c .if1 .taken))
+    say-stop (depthChecks (a .f) (a .levels) (a .n)) (tight (a .b) (fileSize headSize (widthOf (a .f)) (levelsOf (a .levels)) (a .n)) ∷ twoAreas (a .u) (a .v) (a .n)) (Done 0 0) (c .before .before .check-depth .ensures) (sym (c .before .is-done .ensures) ∙ not-true _ (c .if1 .taken))
 
 -- past the levels: the whole list says what the rest says
 past : (c : tie.Else1) {z : Refusal} → let a = c .before .before .before .args in
     z ≡ firstOf (tight (a .b) (fileSize headSize (widthOf (a .f)) (levelsOf (a .levels)) (a .n)) ∷ twoAreas (a .u) (a .v) (a .n)) (Done 0 0) → z ≡ firstOf (writeChecks (a .f) (a .levels) (a .n) (a .b) (a .u) (a .v)) (Done 0 0)
 past c q =
     let a = c .before .before .before .args in
-    say-rest (levelsChecks (a .f) (a .levels) (a .n)) (tight (a .b) (fileSize headSize (widthOf (a .f)) (levelsOf (a .levels)) (a .n)) ∷ twoAreas (a .u) (a .v) (a .n)) (Done 0 0) (levels-refuse (a .f) (a .levels) (a .n)) (c .before .before .check-levels .ensures) (sym (c .before .is-done .ensures) ∙ not-false _ (c .if1 .left)) q
+    say-rest (depthChecks (a .f) (a .levels) (a .n)) (tight (a .b) (fileSize headSize (widthOf (a .f)) (levelsOf (a .levels)) (a .n)) ∷ twoAreas (a .u) (a .v) (a .n)) (Done 0 0) (depth-refuse (a .f) (a .levels) (a .n)) (c .before .before .check-depth .ensures) (sym (c .before .is-done .ensures) ∙ not-false _ (c .if1 .left)) q
 
 -- within the limit, and the levels fit a byte
 within : (c : tie.Else1) → let a = c .before .before .before .args in (a .n ≤ mostSamples) × (levelsOf (a .levels) < 256)
 within c =
     let a = c .before .before .before .args in
-    let p = passing (levelsChecks (a .f) (a .levels) (a .n)) (Done 0 0) (levels-refuse (a .f) (a .levels) (a .n)) (sym (ap done (c .before .before .check-levels .ensures)) ∙ sym (c .before .is-done .ensures) ∙ not-false _ (c .if1 .left)) in
+    let p = passing (depthChecks (a .f) (a .levels) (a .n)) (Done 0 0) (depth-refuse (a .f) (a .levels) (a .n)) (sym (ap done (c .before .before .check-depth .ensures)) ∙ sym (c .before .is-done .ensures) ∙ not-false _ (c .if1 .left)) in
     let m = roomy mostSamples (a .n) (p .0) in
     (m, few-levels (waveletOf (a .f)) (levelsOf (a .levels)) (a .n) (roomy (depthOf (waveletOf (a .f)) (a .n)) (levelsOf (a .levels)) (p .1 .0)) m)
 

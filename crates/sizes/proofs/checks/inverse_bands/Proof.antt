@@ -3,7 +3,7 @@ use borrow.Author.Needs.{needs}
 use mathlib.Core.Path.{refl, _∙_, sym, ap}
 use Rattle.answers.specs.declared.err.Refusal.the-variants.{ApproxSizeNotMatches}
 use Rattle.answers.proofs.Chain.{by, stop, same, other}
-use Rattle.sizes.specs.Bands.{expectedApprox, expectedDetails}
+use Rattle.sizes.specs.Lengths.{expectedApprox, expectedDetails}
 use Rattle.sizes.proofs.checks.inverse_bands.Statement.{statement}
 use Rattle.sizes.proofs.checks.inverse_bands.Tie as tie
 

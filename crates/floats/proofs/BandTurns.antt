@@ -8,7 +8,7 @@ use lib.ListN.{length}
 use Rattle.samples.specs.Floats.{width, floatAt, putFloat, decodeFloats, encodeFloats}
 use Rattle.samples.proofs.FloatLaws.{length-decodeFloats, at-decodeFloats}
 use Rattle.floats.specs.Steps.{lift, oddAt, evenAt, odds, evens, scaled}
-use Rattle.floats.specs.Loops.{Stored, Bands}
+use Rattle.floats.specs.Loops.{Stored, StoredBands}
 use Rattle.floats.proofs.Midway.{Midway, floatsOf, midway-none, midway-put, midway-later, midway-all, Ready, midway-ready, stored-ready}
 
 -- what lift_at stores
@@ -30,12 +30,12 @@ module _ (f : Format) (c : Float) where
 -- ---- "odds c": the first i of the details d are new
 
 pub record OddsTo (f : Format) (c : Float) (a d : List ℕ) (i : ℕ) (s : List ℕ) : Type 0 where
-  pub bands : Bands f a d
+  pub bands : StoredBands f a d
   pub upTo : i ≤ length d / width f - 1
   pub new : Midway f (length d / width f) i (oddsOf f c a d) (floatsOf f d) s
 
 module _ {f : Format} {c : Float} {a d : List ℕ} where
-  pub odds-none : Bands f a d → OddsTo f c a d 0 d
+  pub odds-none : StoredBands f a d → OddsTo f c a d 0 d
   odds-none b = record { bands = b; upTo = omega arith; new = midway-none _ (b .details) }
 
   module _ {i : ℕ} {s : List ℕ} (h : OddsTo f c a d i s) where
@@ -81,16 +81,16 @@ module _ {f : Format} {c : Float} {a d : List ℕ} where
 -- ---- "evens c": the first i of the approximations a are new, and l is the detail before the next
 
 pub record EvensTo (f : Format) (c : Float) (a d : List ℕ) (i : ℕ) (l : Float) (s : List ℕ) : Type 0 where
-  pub bands : Bands f a d
+  pub bands : StoredBands f a d
   pub upTo : i ≤ length d / width f
   pub left : l ≡ floatAt f d (i - 1)
   pub new : Midway f (length a / width f) i (evensOf f c a d) (floatsOf f a) s
 
-pub evens-first : {f : Format} {a d : List ℕ} → Bands f a d → Ready f d 0
+pub evens-first : {f : Format} {a d : List ℕ} → StoredBands f a d → Ready f d 0
 evens-first b = stored-ready (b .details) (b .some)
 
 module _ {f : Format} {c : Float} {a d : List ℕ} where
-  pub evens-none : {l : Float} → Bands f a d → l ≡ floatAt f d 0 → EvensTo f c a d 0 l a
+  pub evens-none : {l : Float} → StoredBands f a d → l ≡ floatAt f d 0 → EvensTo f c a d 0 l a
   evens-none b e = record { bands = b; upTo = omega arith; left = e; new = midway-none _ (b .approx) }
 
   module _ {i : ℕ} {l : Float} {s : List ℕ} (h : EvensTo f c a d i l s) where

@@ -9,7 +9,7 @@ use borrow.Author.Tests.{eq-eqb, ne-eqb}
 use lib.IntN.{ℤ, pos, _+ℤ_, _-ℤ_}
 use lib.Signed.{shrZ}
 use lib.ListN.{length}
-use Rattle.sizes.specs.Bands.{ups, downs}
+use Rattle.sizes.specs.Lengths.{approxLength, detailsLength}
 use Rattle.samples.specs.Words.{tabulate, wordAt, putAt, Holds, Front}
 use Rattle.samples.specs.Le.{leAt}
 use Rattle.samples.specs.Integers.{val, residue, wrap, decode, Width}
@@ -18,7 +18,7 @@ use Rattle.samples.proofs.Words.{word-bytes, length-tabulate, getD-tabulate, ho
 use Rattle.samples.proofs.Fronts.{front-more, front-all}
 use Rattle.samples.proofs.IntegerLaws.{length-decode, at-decode, encode-tabulate, word-wrap, residue-lt}
 use Rattle.cdf53i.specs.Lift.{detail, details, approx, approxs, even, odd, sample, restored}
-use Rattle.cdf53i.specs.Bands.{low, back, detailWord, approxWord, sampleWord, evenWord, detailsFrom, evensFrom, oddsFrom, Bands, Restoring, Room}
+use Rattle.cdf53i.specs.Bands.{low, back, detailWord, approxWord, sampleWord, evenWord, detailsFrom, evensFrom, oddsFrom, InputBands, Restoring, EnoughWords}
 
 -- a word of the front is read
 pub front-read : {k n i : ℕ} {g : ℕ → ℕ} {s : List ℕ} (j : ℕ) → Front k n i g s → j < i → g j < 256 ^ k → wordAt k s j ≡ g j
@@ -147,9 +147,9 @@ module _ {k : ℕ} (w : Width k) where
   details-read x i j h l = word-read _ j h l
 
   -- one approximation more, from the details i - 1 and r, of the words v and z
-  pub approx-more : (x : List ℕ) (i r : ℕ) {u v z g : ℕ} {s t : List ℕ} → Front k (ups (length x / k)) i (approxWord k x) s → i < ups (length x / k) → 2 ≤ length x / k → r ≡ min i (downs (length x / k) - 1)
+  pub approx-more : (x : List ℕ) (i r : ℕ) {u v z g : ℕ} {s t : List ℕ} → Front k (approxLength (length x / k)) i (approxWord k x) s → i < approxLength (length x / k) → 2 ≤ length x / k → r ≡ min i (detailsLength (length x / k) - 1)
       → u ≡ wordAt k x (2 * i) → v ≡ detailWord k x (i - 1) → z ≡ detailWord k x r
-      → g ≡ residue (256 ^ k) (val (256 ^ k) u +ℤ shrZ (val (256 ^ k) v +ℤ val (256 ^ k) z +ℤ pos 2) 4) → t ≡ putAt k s i g → Front k (ups (length x / k)) (i + 1) (approxWord k x) t
+      → g ≡ residue (256 ^ k) (val (256 ^ k) u +ℤ shrZ (val (256 ^ k) v +ℤ val (256 ^ k) z +ℤ pos 2) 4) → t ≡ putAt k s i g → Front k (approxLength (length x / k)) (i + 1) (approxWord k x) t
   unfolding approxWord detailWord approx details
   approx-more x i r {u} {v} {z} h l two er eu ev ez eg put =
       let y = decode k x in
@@ -157,25 +157,25 @@ module _ {k : ℕ} (w : Width k) where
       (eg
       ∙ rw (
         word-wrap w,
-        length-tabulate (downs (length y)) (detail (wrap k) y),
+        length-tabulate (detailsLength (length y)) (detail (wrap k) y),
         length-decode k x,
         ← er,
         at-decode k x (2 * i) (omega arith),
         ← eu,
         detail-val y (i - 1) v ev,
         detail-val y r z ez,
-        getD-tabulate (downs (length x / k)) (detail (wrap k) y) (i - 1) (pos 0) (omega arith),
-        getD-tabulate (downs (length x / k)) (detail (wrap k) y) r (pos 0) (omega arith),
+        getD-tabulate (detailsLength (length x / k)) (detail (wrap k) y) (i - 1) (pos 0) (omega arith),
+        getD-tabulate (detailsLength (length x / k)) (detail (wrap k) y) r (pos 0) (omega arith),
       ))
       put
 
   -- all approximations
-  pub approximated : (x a : List ℕ) (i : ℕ) → Front k (ups (length x / k)) i (approxWord k x) a → i ≡ ups (length x / k) → a ≡ low k x
+  pub approximated : (x a : List ℕ) (i : ℕ) → Front k (approxLength (length x / k)) i (approxWord k x) a → i ≡ approxLength (length x / k) → a ≡ low k x
   unfolding approxWord low approxs
-  approximated x a i h e = rw (length-decode k x, encode-tabulate k (ups (length x / k)) (approx (wrap k) (decode k x) (details (wrap k) (decode k x)))) (front-all _ h e refl)
+  approximated x a i h e = rw (length-decode k x, encode-tabulate k (approxLength (length x / k)) (approx (wrap k) (decode k x) (details (wrap k) (decode k x)))) (front-all _ h e refl)
 
 -- another list of as many samples has the same bands
-pub bands-on : {k : ℕ} {x a d : List ℕ} (t : List ℕ) → Bands k x a d → Holds k (length x / k) t → Bands k t a d
+pub bands-on : {k : ℕ} {x a d : List ℕ} (t : List ℕ) → InputBands k x a d → Holds k (length x / k) t → InputBands k t a d
 bands-on {k} {x} {a} {d} t b h =
     record {
       input = record { width = b .input .width; long = rw (h .count) (b .input .long); samples = rw (h .count) h };
@@ -191,11 +191,11 @@ restoring-at {k} {n} {a} {d} {x} {e = e} j r q = subst (λ m. Restoring k n a d 
 
 -- ---- the two areas of a block
 
-pub room-of : {k : ℕ} → 0 < k → (s : List ℕ) (m n : ℕ) → length s ≡ k * m → n ≤ m → Room k n s
+pub room-of : {k : ℕ} → 0 < k → (s : List ℕ) (m n : ℕ) → length s ≡ k * m → n ≤ m → EnoughWords k n s
 room-of p s m n e l = let h = holds p s m e in record { holds = rw (h .count) h; most = rw (h .count) l }
 
 -- another list as long has the same room
-pub room-on : {k n : ℕ} {s : List ℕ} (t : List ℕ) → Room k n s → length t ≡ length s → Room k n t
+pub room-on : {k n : ℕ} {s : List ℕ} (t : List ℕ) → EnoughWords k n s → length t ≡ length s → EnoughWords k n t
 room-on {k} t r e = let h = holds-on t (r .holds) e in record { holds = rw (h .count) h; most = rw (h .count) (r .most) }
 
 -- 1024 bytes and 1028 bytes are whole words, and 1028 hold one more at least

@@ -8,12 +8,12 @@ abbrev pub mostSamples : ℕ
 mostSamples = 16777216
 
 -- "approximations (ceil(n/2) of them)"
-abbrev pub ups : ℕ → ℕ
-ups n = (n + 1) / 2
+abbrev pub approxLength : ℕ → ℕ
+approxLength n = (n + 1) / 2
 
 -- "details (floor(n/2))"
-abbrev pub downs : ℕ → ℕ
-downs n = n / 2
+abbrev pub detailsLength : ℕ → ℕ
+detailsLength n = n / 2
 
 -- "the smallest input is 3 for 5/3 and 4 for 9/7"
 abbrev pub smallestOf : Wavelet → ℕ
@@ -26,7 +26,7 @@ leastDetails Cdf53 = 1
 leastDetails Cdf97 = 2
 
 abbrev pub expectedApprox : ℕ → ℕ
-expectedApprox n = max 2 (ups n)
+expectedApprox n = max 2 (approxLength n)
 
 abbrev pub expectedDetails : Wavelet → ℕ → ℕ
-expectedDetails w n = max (leastDetails w) (downs n)
+expectedDetails w n = max (leastDetails w) (detailsLength n)

@@ -73,12 +73,12 @@ module _ {f : Format} {c g : Float} {x a d : List ℕ} (v : Given f c g x a d) w
       (lt-or-le (length d / width f) (length a / width f))
 
   -- what is stored at pair i is no NaN where the floats around are small
-  even-small : (i : ℕ) → i < length a / width f → SmallFrom f a i (i + 1) → SmallFrom f d (i - 1) (i + 1) → Small f (sizes.reach f + 9) (getD (evensOf f c a d) i nan)
+  even-small : (i : ℕ) → i < length a / width f → SmallFrom f a i (i + 1) → SmallFrom f d (i - 1) (i + 1) → Small f (sizes.sizeRead f + 9) (getD (evensOf f c a d) i nan)
   unfolding evensOf
   even-small i h wa wd =
       let n = counts in
       let r = min i (length d / width f - 1) in
-      lifts.even-small f c (decodeFloats f a) (decodeFloats f d) (sizes.reach f) (subst Factor (sym (v .even)) (quarter-factor f)) (omega (arith, far f)) i (i - 1) r (rw (length-decodeFloats f a) h) refl (rw (length-decodeFloats f d) refl)
+      lifts.even-small f c (decodeFloats f a) (decodeFloats f d) (sizes.sizeRead f) (subst Factor (sym (v .even)) (quarter-factor f)) (omega (arith, far f)) i (i - 1) r (rw (length-decodeFloats f a) h) refl (rw (length-decodeFloats f d) refl)
       (lifts.small-in wd (i - 1) (omega arith) (omega arith) (omega arith)) (lifts.small-in wd r (omega arith) (omega arith) (omega arith)) (lifts.small-in wa i (omega arith) (omega arith) h)
 
   module _ {b : Bool} (i : ℕ) (w : BothSmallIf b f a d (i - 1) (i + 2)) where
@@ -91,10 +91,10 @@ module _ {f : Format} {c g : Float} {x a d : List ℕ} (v : Given f c g x a d) w
         let n = counts in
         let r = min (i + 1) (length a / width f - 1) in
         lifts.no-nan-is f _ _
-        (lifts.odd-small f g (evensOf f c a d) (decodeFloats f d) (sizes.reach f + 9) (subst Factor (sym (v .odd)) (half-factor f)) (far f) i r (rw (length-decodeFloats f d) h) (rw length-evensOf refl)
+        (lifts.odd-small f g (evensOf f c a d) (decodeFloats f d) (sizes.sizeRead f + 9) (subst Factor (sym (v .odd)) (half-factor f)) (far f) i r (rw (length-decodeFloats f d) h) (rw length-evensOf refl)
         (even-small i (omega arith) (sizes.small-part _ _ (w .0 s) (omega arith) (omega arith)) (sizes.small-part _ _ (w .1 s) (omega arith) (omega arith)))
         (even-small r (omega arith) (sizes.small-part _ _ (w .0 s) (omega arith) (omega arith)) (sizes.small-part _ _ (w .1 s) (omega arith) (omega arith)))
-        (sizes.small-le f (getD (decodeFloats f d) i nan) (sizes.reach f) (sizes.reach f + 9) (lifts.small-in (w .1 s) i (omega arith) (omega arith) h) (omega arith)))
+        (sizes.small-le f (getD (decodeFloats f d) i nan) (sizes.sizeRead f) (sizes.sizeRead f + 9) (lifts.small-in (w .1 s) i (omega arith) (omega arith) h) (omega arith)))
         q
 
   -- an even sample more, and the odd one after it

@@ -13,22 +13,22 @@ use Rattle.answers.specs.Answers.{answerOf, done}
 use Rattle.answers.specs.Checks.{ragged, Spared}
 use Rattle.answers.proofs.Passed.{passing, whole, roomy, right}
 use Rattle.answers.proofs.Endings.{left-done, left-refused, spared, untouched}
-use Rattle.sizes.specs.Bands.{mostSamples, ups, downs}
-use Rattle.sizes.specs.Levels.{places, depthOf, levelsOf}
+use Rattle.sizes.specs.Lengths.{mostSamples, approxLength, detailsLength}
+use Rattle.sizes.specs.Levels.{countAt, depthOf, levelsOf}
 use Rattle.dwt.specs.declared.filter.Filter.{Filter}
 use Rattle.dwt.specs.Filters.{widthOf, waveletOf, lowOf, highOf}
 use Rattle.dwt.specs.Pyramids.{approxAt}
 use Rattle.dwt.specs.Calls.{BandsOf, Parted, dwtChecks, sayDwt, Dwt, Ready}
 use Rattle.dwt.proofs.Multi.{levels-pos}
-use Rattle.dwt.proofs.PyramidLaws.{approx-after}
+use Rattle.sizes.proofs.Counts.{after-last}
 
 -- what the checks leave: the levels run, and the bands have the lengths of the last level
 pub dwt-ready : (f : Filter) (l x a d u v : ℕ) → done (sayDwt f l x a d u v) ≡ true
-    → let m = places (levelsOf l - 1) (x / widthOf f) in Ready f (levelsOf l) (x / widthOf f) x u v × BandsOf f m a d
+    → let m = countAt (levelsOf l - 1) (x / widthOf f) in Ready f (levelsOf l) (x / widthOf f) x u v × BandsOf f m a d
 unfolding sayDwt
 dwt-ready f l x a d u v h =
     let k = widthOf f in
-    let m = places (levelsOf l - 1) (x / k) in
+    let m = countAt (levelsOf l - 1) (x / k) in
     let p = passing (ragged k x ∷ ragged k a ∷ ragged k d ∷ ragged k u ∷ ragged k v ∷ dwtChecks f l (x / k) (a / k) (d / k) (u / k) (v / k)) (Done 0 0)
     (refl, (refl, (refl, (refl, (refl, (refl, (refl, (refl, (refl, (refl, (refl, tt))))))))))) h in
     let q = p .1 .1 .1 .1 .1 in
@@ -45,8 +45,8 @@ dwt-ready f l x a d u v h =
         second = omega (arith, ev, lv);
       },
       (
-        whole k a (p .1 .0) ∙ ap (λ n. k * n) (right (a / k) (ups m) (q .1 .1 .0)),
-        whole k d (p .1 .1 .0) ∙ ap (λ n. k * n) (right (d / k) (downs m) (q .1 .1 .1 .0)),
+        whole k a (p .1 .0) ∙ ap (λ n. k * n) (right (a / k) (approxLength m) (q .1 .1 .0)),
+        whole k d (p .1 .1 .0) ∙ ap (λ n. k * n) (right (d / k) (detailsLength m) (q .1 .1 .1 .0)),
       ),
     )
 
@@ -91,6 +91,6 @@ module _ (f : Filter) (l : ℕ) (x a d u v : List ℕ) where
   pub dwt-gives : {r : Answer} {a′ d′ u′ v′ : List ℕ} → Dwt f l x a d u v r a′ d′ u′ v′ → done said ≡ true → (a′ ≡ approxAt f (levelsOf l) x) × (d′ ≡ highOf f input)
   dwt-gives m z =
       let e : suc (levelsOf l - 1) ≡ levelsOf l = omega (arith, levels-pos l) in (
-        m .approx ∙ left-done said (lowOf f input) a z ∙ sym (approx-after f (levelsOf l - 1) x) ∙ ap (λ (i : ℕ). approxAt f i x) e,
+        m .approx ∙ left-done said (lowOf f input) a z ∙ sym (after-last (lowOf f) (levelsOf l - 1) x) ∙ ap (λ (i : ℕ). approxAt f i x) e,
         m .details ∙ left-done said (highOf f input) d z,
       )
