@@ -8,7 +8,7 @@ use native.Mathlib.Omega.{arith}
 use lib.ListN.{length, take}
 use lib.Seq.{length-take-le, take-append-add}
 use Rattle.answers.specs.declared.err.Refusal.{Refusal}
-use Rattle.answers.specs.declared.err.Refusal.the-variants.{MinFilterSize, CutShort}
+use Rattle.answers.specs.declared.err.Refusal.the-variants.{CutShort}
 use Rattle.answers.specs.Checks.{Check, firstOf}
 use Rattle.answers.proofs.Passed.{Passing}
 use Rattle.sizes.specs.declared.Wavelet.the-variants.{Cdf53}
@@ -19,7 +19,6 @@ use Rattle.samples.specs.Integers.{isWidth}
 use Rattle.dwt.specs.declared.filter.Filter.{Filter}
 use Rattle.dwt.specs.declared.filter.Filter.the-variants.{Cdf53I8, Cdf53I16, Cdf53I32, Cdf53F32, Cdf53F64, Cdf97F32, Cdf97F64}
 use Rattle.dwt.specs.Filters.{widthOf, Integers}
-use Rattle.dwt.specs.Calls.{short}
 use Rattle.pyramid.specs.Files.{bodyOf, fileSize}
 use Rattle.pyramid.specs.Opens.{headIn, headChecks}
 use Rattle.cuts.proofs.Sized.{file-length}
@@ -39,13 +38,12 @@ pub record Recording (f : Filter) (l n p : ℕ) (x : List ℕ) : Type 0 where
 pub record Common (f : Filter) : Type 0 where
   pub width : isWidth (widthOf f) ≡ true
   pub narrow : widthOf f ≤ 4
-  pub early : (n : ℕ) → short f n ≡ MinFilterSize n 3
 
 -- each of them has it
 pub common : (f : Filter) → Integers f → Common f
-common Cdf53I8 i = record { width = refl; narrow = omega arith; early = λ n. refl }
-common Cdf53I16 i = record { width = refl; narrow = omega arith; early = λ n. refl }
-common Cdf53I32 i = record { width = refl; narrow = omega arith; early = λ n. refl }
+common Cdf53I8 i = record { width = refl; narrow = omega arith }
+common Cdf53I16 i = record { width = refl; narrow = omega arith }
+common Cdf53I32 i = record { width = refl; narrow = omega arith }
 common Cdf53F32 i = absurd i
 common Cdf53F64 i = absurd i
 common Cdf97F32 i = absurd i
@@ -57,7 +55,7 @@ pub record Filed (z : ℕ) (f : Filter) (l n p : ℕ) (x s : List ℕ) : Type 0 
   pub front : List ℕ
   pub long : length front ≡ z
   pub parts : s ≡ front ++ bodyOf f l n x
-  -- cut after section 0, it still says what was recorded, and the checks of section 0 let it by
+  -- cut after section 0, it still says what was recorded, and the checks of section 0 pass
   pub head : (b : ℕ) → z ≤ b → headIn (take b s) ≡ record { width = widthOf f; levels = l; samples = n; point = p; body = z }
   pub passes : (b : ℕ) → z ≤ b → b ≤ fileSize z (widthOf f) l n → Passing (headChecks (take b s) (widthOf f) p)
   -- cut in section 0 it is 10, whatever else is checked

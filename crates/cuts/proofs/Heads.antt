@@ -1,4 +1,4 @@
--- A file that was written is a file of its recording: section 0 is read back from any 14 bytes or more of it, and the checks that opening makes of it let it by.
+-- A file that was written is a file of its recording: section 0 is read back from any 14 bytes or more of it, and the checks that opening makes of it pass.
 use mathlib.Core.Bool.{not}
 use mathlib.Core.List.{List, _++_}
 use mathlib.Core.Path.{_≡_, refl, sym, ap, subst, _∙_}
@@ -67,7 +67,7 @@ module _ {f : Filter} {l n p : ℕ} {x : List ℕ} (r : Recording f l n p x) whe
       let ep : leAt 4 (take b s) 10 ≡ p = number-read 4 10 b (omega arith) c ∙ omega (arith, r .point) in
       λ i. record { width = ek i; levels = el i; samples = en i; point = ep i; body = headSize }
 
-  -- the checks of section 0 let the file by
+  -- the checks of section 0 pass
   fields-pass : Passing (fieldChecks (record { width = k; levels = l; samples = n; point = p; body = headSize }) k p)
   fields-pass = (
     same k k refl,

@@ -1,6 +1,6 @@
 -- The calls, by what they promise: every front of a file that was written opens as `Openings` says; and two writes of one recording are the same bytes. Each of
 -- the integer filters.
-use mathlib.Core.Bool.{Bool, true, false, cond}
+use mathlib.Core.Bool.{true}
 use mathlib.Core.List.{List, _∷_, _++_}
 use mathlib.Core.Path.{_≡_, refl, sym, ap, subst, _∙_}
 use Prim.Native.Nat.{ℕ, _/_, _^_, _≤_, _<_}
@@ -9,7 +9,7 @@ use lib.Dec.{leb}
 use lib.ListN.{length, take, drop}
 use lib.Seq.{take-at, take-take}
 use Rattle.answers.specs.declared.err.Answer.{Answer}
-use Rattle.answers.specs.declared.err.Refusal.the-variants.{Done, BufferWasTooSmallForLevel}
+use Rattle.answers.specs.declared.err.Refusal.the-variants.{Done}
 use Rattle.answers.specs.Answers.{done}
 use Rattle.answers.specs.Checks.{ragged}
 use Rattle.answers.proofs.Endings.{is-done, left-done}
@@ -22,20 +22,15 @@ use Rattle.sizes.proofs.Depths.{step}
 use Rattle.samples.specs.Le.{Bytes}
 use Rattle.dwt.specs.declared.filter.Filter.{Filter}
 use Rattle.dwt.specs.Filters.{widthOf, waveletOf, Integers}
-use Rattle.dwt.specs.Calls.{short}
-use Rattle.dwt.proofs.Multi.{levels-pos}
+use Rattle.dwt.proofs.Multi.{levels-pos, shallow-refused}
 use Rattle.trips.proofs.Undone.{wavelet-is}
 use Rattle.pyramid.specs.Files.{headSize, fileOf, fileSize}
 use Rattle.pyramid.specs.Opens.{Open}
 use Rattle.pyramid.specs.Writes.{writeChecks, sayWrite, Write}
 use Rattle.cuts.specs.Sees.{Openings}
-use Rattle.cuts.proofs.Filed.{Recording, common, Filed, all-length}
+use Rattle.cuts.proofs.Filed.{Recording, Filed, all-length}
 use Rattle.cuts.proofs.Heads.{filed}
 use Rattle.cuts.proofs.Opened.{openings}
-
-early-refuses : (f : Filter) → Integers f → (n : ℕ) (t : Bool) → done (cond t (short f n) BufferWasTooSmallForLevel) ≡ false
-early-refuses f i n true = ap done (common f i .early n)
-early-refuses f i n false = refl
 
 -- samples that were written are a recording
 pub recorded : (f : Filter) (l p : ℕ) (x : List ℕ) (b u v : ℕ) → Integers f → Bytes x → p < 2 ^ 32 → done (sayWrite f l (length x) b u v) ≡ true
@@ -45,7 +40,7 @@ recorded f l p x b u v i bx hp h =
     let k = widthOf f in
     let n = length x / k in
     let q = passing (ragged k (length x) ∷ ragged k u ∷ ragged k v ∷ writeChecks f l n b (u / k) (v / k)) (Done 0 0)
-    (refl, (refl, (refl, (refl, (early-refuses f i n (leb l 1), (refl, (refl, (refl, tt)))))))) h in
+    (refl, (refl, (refl, (refl, (shallow-refused f n (leb l 1), (refl, (refl, (refl, tt)))))))) h in
     let w = q .1 .1 .1 in
     let deep : levelsOf l ≤ depthOf Cdf53 n = subst (λ (y : Wavelet). levelsOf l ≤ depthOf y n) (wavelet-is f i) (roomy (depthOf (waveletOf f) n) (levelsOf l) (w .1 .0)) in
     let st = step 3 (omega arith) 0 n (omega (arith, levels-pos l)) in

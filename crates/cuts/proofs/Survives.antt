@@ -129,7 +129,7 @@ module _ {z : ℕ} {f : Filter} {l n p : ℕ} {x s : List ℕ} (d : Filed z f l 
       ∙ ap CutShort (cut-length d b most))
       (lt-or-le b z)
 
-  -- cut later, or not at all, the file lets by
+  -- cut later, or not at all, the file passes
   pub file-passes : (b : ℕ) → needed z k l n ≤ b → b ≤ fileSize z k l n → Passing (fileChecks (take b s) k p)
   file-passes b c e = let t = take b s in pass-both (headChecks t k p) (wayChecks (wayIn t (headIn t)) (length t)) (d .passes b (omega arith) e) (way-passes b c e)
 

@@ -12,6 +12,7 @@ use dwt::back;
 use dwt::filter::Filter;
 use dwt::filter::bytes_of;
 use dwt::levels::cut_of;
+use sizes::approx_length;
 
 // The bytes of a section of n samples at `at`, to the front of `to`.
 fn fetch(f: Filter, n: usize, s: &[u8], at: usize, to: &mut [u8])
@@ -62,7 +63,7 @@ pub fn restore(
     if levels == 0 {
         fetch(f, n, s, at, to);
     } else {
-        let half = (n + 1) / 2;
+        let half = approx_length(n);
         restore(f, s, levels - 1, half, at, other, to);
         let cut = cut_of(f, n);
         let place = at + (4 * levels + cut);

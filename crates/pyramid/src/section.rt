@@ -16,6 +16,7 @@ use answers::err::Refusal;
 use answers::err::is_done;
 use answers::err::numbers;
 use sizes::count_at;
+use sizes::details_length;
 
 // A section's number, of l levels.
 fn check_number(j: usize, l: usize) -> Refusal
@@ -52,7 +53,7 @@ fn way_to(s: &[u8], h: Head, j: usize) -> Way
 fn last_count(levels: usize, n: usize) -> usize
     ensures { λ r. ⌜ (r ≡ lastCount levels n) × (r ≤ n) ⌝ }
 {
-    if levels == 0 { n } else { n / 2 }
+    if levels == 0 { n } else { details_length(n) }
 }
 
 // How many bytes section j has after its count.

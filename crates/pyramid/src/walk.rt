@@ -4,6 +4,8 @@ ghost use Prim.Native.Nat.{_+_, _*_, _^_, _≤_, _<_};
 ghost use lib.ListN.{length};
 ghost use Rattle.pyramid.specs.Walks.{oneOf, walkOf};
 use samples::le::read_u32;
+use sizes::approx_length;
+use sizes::details_length;
 
 // How far a walk over sections got: past the last one, into a section that is cut, or to a wrong count.
 pub enum Way {
@@ -40,9 +42,9 @@ pub fn walk(s: &[u8], k: usize, levels: usize, n: usize, at: usize) -> Way
     if levels == 0 {
         return one(s, k, n, 1, at);
     }
-    let way = walk(s, k, levels - 1, (n + 1) / 2, at);
+    let way = walk(s, k, levels - 1, approx_length(n), at);
     match way {
-        Way::Went(p) => one(s, k, n / 2, levels + 1, p),
+        Way::Went(p) => one(s, k, details_length(n), levels + 1, p),
         Way::Short(j) => Way::Short(j),
         Way::Wrong(j, found) => Way::Wrong(j, found),
     }

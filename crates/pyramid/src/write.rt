@@ -22,9 +22,11 @@ use dwt::filter::width;
 use dwt::levels::check_depth;
 use dwt::levels::cut_of;
 use samples::le::write_u32;
+use sizes::approx_length;
 use sizes::at_least_one;
 use sizes::checks::check_whole;
 use sizes::checks::two_areas;
+use sizes::details_length;
 
 // The bytes of the sections after the head.
 fn body_size(f: Filter, levels: usize, n: usize) -> usize
@@ -55,7 +57,7 @@ fn lay_level(f: Filter, n: usize, at: usize, x: &[u8], to: &mut [u8], out: &mut 
     ensures { λ _. ⌜ now (out .exit) ≡ take at (now (out .entry)) ++ sectionOf (detailsLength n) (highOf f (now (x .entry))) ⌝ }
     ensures { λ _. ⌜ length (lowOf f (now (x .entry))) ≡ widthOf f * approxLength n ⌝ }
 {
-    write_u32(out, at, (n / 2) as u32);
+    write_u32(out, at, details_length(n) as u32);
     let cut = cut_of(f, n);
     let start = at + 4;
     execute_forward(f, x, &mut to[..cut], &mut out[start..]);
@@ -73,7 +75,7 @@ fn lay(f: Filter, levels: usize, n: usize, from: &mut [u8], to: &mut [u8], out: 
     if levels == 0 {
         lay_deepest(n, &from[..all], out);
     } else {
-        let half = (n + 1) / 2;
+        let half = approx_length(n);
         let at = body_size(f, levels - 1, half);
         lay_level(f, n, at, &from[..all], to, out);
         lay(f, levels - 1, half, to, from, &mut out[..at]);

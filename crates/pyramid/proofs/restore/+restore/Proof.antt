@@ -24,6 +24,7 @@ use Rattle.pyramid.proofs.restore.+restore.Lts-restore as restore-lts
 use Rattle.dwt.proofs.levels.cut_of.Reads as cut-of-reads
 use Rattle.pyramid.proofs.restore.build.Reads as build-reads
 use Rattle.pyramid.proofs.restore.fetch.Reads as fetch-reads
+use Rattle.sizes.proofs.approx_length.Reads as approx-length-reads
 use Rattle.pyramid.proofs.restore.+restore.{statement}
 use Rattle.pyramid.proofs.restore.+restore.Tie.{close}
 
@@ -40,6 +41,8 @@ abbrev claims : ℕ → restore-lts.Claims
 claims t = (
   fetch-reads.Asked,
   fetch-reads.Learnt,
+  approx-length-reads.Asked,
+  approx-length-reads.Learnt,
   restore-below t,
   restore.Post,
   cut-of-reads.Asked,
@@ -59,19 +62,20 @@ level t st h =
 restore-fetch-requires : (t : ℕ) → restore-lts.Need-fetch-requires (claims t) (restore-at t) restore.Post
 restore-fetch-requires t c κs = omega arith
 
-restore-add-half : (t : ℕ) → restore-lts.Need-add-half (claims t) (restore-at t) restore.Post
-restore-add-half t c = search needs
+restore-approx-length-requires : (t : ℕ) → restore-lts.Need-approx-length-requires (claims t) (restore-at t) restore.Post
+restore-approx-length-requires t c κs = search needs
 
 restore-sub-restore : (t : ℕ) → restore-lts.Need-sub-restore (claims t) (restore-at t) restore.Post
 restore-sub-restore t c = search needs
 
 restore-restore-requires : (t : ℕ) → restore-lts.Need-restore-requires (claims t) (restore-at t) restore.Post
 restore-restore-requires t c κs =
-    let st = c .before .before .before .before .before .before in
+    let st = c .before .before .before .before .before .before .before in
     let a = st .args in
     let w = split-width (widthOf (a .f)) (a .n) in
-    let s = level t st (c .before .before .if1 .left) in
-    (omega arith, (st .pre .1 .0, (record { deep = s .1; short = omega arith; first = omega arith; second = omega arith }, omega arith)))
+    let s = level t st (c .before .before .before .if1 .left) in
+    let half = c .before .before .approx-length .ensures in
+    (omega arith, (st .pre .1 .0, rw half (record { deep = s .1; short = omega arith; first = omega arith; second = omega arith }, omega arith)))
 
 restore-cut-of-requires : (t : ℕ) → restore-lts.Need-cut-of-requires (claims t) (restore-at t) restore.Post
 restore-cut-of-requires t c κs = omega arith
@@ -87,10 +91,10 @@ restore-add-place-2 t c = omega arith
 
 restore-build-requires : (t : ℕ) → restore-lts.Need-build-requires (claims t) (restore-at t) restore.Post
 restore-build-requires t c κs =
-    let st = c .before .before .before .before .before .before .before .before .before .before .before .before .before .before in
+    let st = c .before .before .before .before .before .before .before .before .before .before .before .before .before .before .before in
     let a = st .args in
     let w = split-width (widthOf (a .f)) (a .n) in
-    let s = level t st (c .before .before .before .before .before .before .before .before .before .before .if1 .left) in
+    let s = level t st (c .before .before .before .before .before .before .before .before .before .before .before .if1 .left) in
     (s .0, (omega arith, (omega arith, (omega arith, omega arith))))
 
 restore-same-length : (t : ℕ) → restore-lts.Need-same-length (claims t) (restore-at t) restore.Post
@@ -112,25 +116,26 @@ restore-same-length-3 t c = search needs
 
 restore-returns-2 : (t : ℕ) → restore-lts.Need-returns-2 (claims t) (restore-at t) restore.Post
 restore-returns-2 t c =
-    let a = c .before .before .before .before .before .before .before .before .before .before .before .before .before .before .before .before .before .args in
+    let a = c .before .before .before .before .before .before .before .before .before .before .before .before .before .before .before .before .before .before .args in
     let b = widthOf (a .f) * a .n in
     let h = widthOf (a .f) * approxLength (a .n) in
     let r = restoredAt (widthOf (a .f)) (a .s .now) (a .levels - 1) (approxLength (a .n)) (a .at) in
     let rs = c .before .before .before .before .before .before .before .before .before .before .restore in
+    let made = rw (c .before .before .before .before .before .before .before .before .before .before .before .before .before .approx-length .ensures) at (rs .ensures) in
     let cu = c .before .before .before .before .before .cut-of in
     let bd = c .before .before .build in
     let place = a .at + (4 * a .levels + cu .result) in
     let below : h ≤ b = omega (arith, cu .ensures) in
-    let there : place ≡ a .at + bodySize (widthOf (a .f)) (a .levels - 1) (approxLength (a .n)) = omega (arith, cu .ensures, c .before .before .before .before .before .before .before .before .before .before .before .before .before .if1 .left) in
-    let tk : take h (rs .last .1 .1 .1 .1 .1 .0) ≡ r = ap (λ (u : List ℕ). take h u) (rs .ensures .0) ∙ take-at r (drop h (a .other .now)) h (rs .ensures .1 .1) in
+    let there : place ≡ a .at + bodySize (widthOf (a .f)) (a .levels - 1) (approxLength (a .n)) = omega (arith, cu .ensures, c .before .before .before .before .before .before .before .before .before .before .before .before .before .before .if1 .left) in
+    let tk : take h (rs .last .1 .1 .1 .1 .1 .0) ≡ r = ap (λ (u : List ℕ). take h u) (made .0) ∙ take-at r (drop h (a .other .now)) h (made .1 .1) in
     let whole : backOf (a .f) (take h (rs .last .1 .1 .1 .1 .1 .0)) (bytesAt (widthOf (a .f)) (a .s .now) (detailsLength (a .n)) place) ≡ restoredAt (widthOf (a .f)) (a .s .now) (a .levels) (a .n) (a .at) =
     ap (λ (u : List ℕ). backOf (a .f) u (bytesAt (widthOf (a .f)) (a .s .now) (detailsLength (a .n)) place)) tk
-    ∙ restore-more (a .f) (c .before .before .before .before .before .before .before .before .before .before .before .before .before .before .before .before .before .pre .1 .0) (a .s .now) (a .levels) (a .n) (a .at) place (c .before .before .before .before .before .before .before .before .before .before .before .before .before .if1 .left) there in (
+    ∙ restore-more (a .f) (c .before .before .before .before .before .before .before .before .before .before .before .before .before .before .before .before .before .before .pre .1 .0) (a .s .now) (a .levels) (a .n) (a .at) place (c .before .before .before .before .before .before .before .before .before .before .before .before .before .before .if1 .left) there in (
       bd .ensures .0
           ∙ ap (λ (u : List ℕ). u ++ drop b (rs .last .1 .1 .1 .1 .1 .1 .0)) whole
-          ∙ ap (λ (u : List ℕ). restoredAt (widthOf (a .f)) (a .s .now) (a .levels) (a .n) (a .at) ++ u) (later h b _ _ below (rs .ensures .1 .0)),
+          ∙ ap (λ (u : List ℕ). restoredAt (widthOf (a .f)) (a .s .now) (a .levels) (a .n) (a .at) ++ u) (later h b _ _ below (made .1 .0)),
       (
-        later h b _ _ below (ap (λ (u : List ℕ). drop h u) (rs .ensures .0) ∙ drop-at r (drop h (a .other .now)) h (rs .ensures .1 .1)),
+        later h b _ _ below (ap (λ (u : List ℕ). drop h u) (made .0) ∙ drop-at r (drop h (a .other .now)) h (made .1 .1)),
         ap length (sym whole) ∙ bd .ensures .1,
       ),
     )
@@ -140,7 +145,7 @@ pub +restore-spec : {M : Type 1} → statement M
     (restore-at t)
     restore.Post
     (restore-fetch-requires t)
-    (restore-add-half t)
+    (restore-approx-length-requires t)
     (restore-sub-restore t)
     (restore-restore-requires t)
     (restore-cut-of-requires t)

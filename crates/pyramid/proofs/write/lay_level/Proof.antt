@@ -19,7 +19,7 @@ use Rattle.pyramid.proofs.write.lay_level.Tie as tie
 
 returns : tie.Need-returns
 returns c =
-    let st = c .before .before .before .before .before .before .before .before .before .before .before .before .before .before .before in
+    let st = c .before .before .before .before .before .before .before .before .before .before .before .before .before .before .before .before in
     let a = st .args in
     let cu = c .before .before .before .before .before .before .before .cut-of in
     let wu = c .before .before .before .before .before .before .before .before .before .before .write-u32 in
@@ -38,7 +38,7 @@ returns c =
     let ran = forward-ran (waveletOf (a .f)) (widthOf (a .f)) (lowOf (a .f)) (highOf (a .f)) x lo hi (a .n) (fw .result) (fw .last .1 .1 .0) (fw .last .1 .1 .1 .0) (width-pos (a .f)) l (fw .ensures) in (
       cc,
       (
-        section-laid (a .out .now) o (fw .last .1 .1 .1 .0) (a .at) (detailsLength (a .n)) (omega (arith, st .pre)) (wu .ensures)
+        section-laid (a .out .now) o (fw .last .1 .1 .1 .0) (a .at) (detailsLength (a .n)) (omega (arith, st .pre)) (rw (c .before .before .before .before .before .before .before .before .before .before .before .details-length .ensures) at (wu .ensures))
             ∙ ap (λ (y : List ℕ). take (a .at) (a .out .now) ++ (leBytes 4 (detailsLength (a .n)) ++ y)) (ran .1),
         ap length (sym (ran .0)) ∙ fw .kept .1 .1 .0 ∙ nlo,
       ),
@@ -48,8 +48,8 @@ pub lay-level-spec : {M : Type 1} → statement M
 lay-level-spec =
     tie.close
     (tie.spec
-    (λ c. search needs) (λ c κs. search needs) (λ c κs. search needs) (λ c. search needs)
-    (λ c. search needs)
-    (λ c. sym (length-take-le (c .before .cut-of .result) (c .before .before .before .before .before .before .before .before .before .args .to .now) (omega arith)))
+    (λ c κs. search needs) (λ c. search needs) (λ c κs. search needs) (λ c κs. search needs)
+    (λ c. search needs) (λ c. search needs)
+    (λ c. sym (length-take-le (c .before .cut-of .result) (c .before .before .before .before .before .before .before .before .before .before .args .to .now) (omega arith)))
     (λ c. search needs) (λ c. search needs) (λ c. search needs) (λ c κs. search needs)
     (λ c. search needs) (λ c. search needs) returns)
