@@ -24,7 +24,7 @@ use Rattle.samples.proofs.IntegerLaws.{length-decode, at-decode}
 use Rattle.cdf53i.specs.T800.{highs, lows, backs}
 use Rattle.trips.specs.T800Levels.{lowsAt, highsAfter, allHighs, backsAt}
 use Rattle.dwt.specs.declared.filter.Filter.{Filter}
-use Rattle.dwt.specs.Filters.{widthOf, waveletOf, highOf, backOf, Integers}
+use Rattle.dwt.specs.Filters.{widthOf, waveletOf, highOf, backOf, Integers, lowOf}
 use Rattle.dwt.specs.Pyramids.{approxAt, pyramid, samplesOf, detailsAt}
 use Rattle.dwt.specs.Calls.{sayMulti, Multi, sayDwt, Dwt}
 use Rattle.dwt.specs.Backward.{total, sayBack, MultiBack, Fits}
