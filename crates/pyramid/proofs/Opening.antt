@@ -177,6 +177,10 @@ module _ (s : List ℕ) (w p o u v : ℕ) (h : done (sayOpen s w p o u v) ≡ tr
       passing (areas ++ (file ++ rooms)) (Done (levelIn s) (countIn s))
       (both-refuse areas (file ++ rooms) (area-refuses w o u v) (both-refuse file rooms (file-refuses s w p) (refl, (refl, (refl, tt))))) h
 
+  -- the checks of section 0 pass
+  pub open-head : Passing (headChecks s w p)
+  open-head = both-pass (headChecks s w p) (wayChecks (wayIn s (headIn s)) (length s)) (both-pass file rooms (both-pass areas (file ++ rooms) passed .1) .0) .0
+
   pub open-ready : Opening s w o u v
   open-ready =
       let qa = both-pass areas (file ++ rooms) passed in

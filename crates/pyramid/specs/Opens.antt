@@ -37,6 +37,7 @@ pub record Read (b : ℕ) (h : Head) : Type 0 where
   pub width : h .width < 256
   pub levels : h .levels < 256
   pub samples : h .samples < 4294967296
+  pub point : h .point < 4294967296
 
 -- "6 (over 67,108,974 bytes), 10 (under 14), 9 at section 0"
 abbrev pub startChecks : List ℕ → List Check

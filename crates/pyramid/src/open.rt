@@ -46,7 +46,7 @@ pub fn own_point(s: &[u8]) -> usize
 }
 
 // Whether a sample can have so many bytes.
-fn is_width(w: usize) -> bool
+pub fn is_width(w: usize) -> bool
     ensures { λ r. ⌜ r ≡ isWidth w ⌝ }
 {
     if w == 1 {
@@ -59,7 +59,7 @@ fn is_width(w: usize) -> bool
 }
 
 // The integer filter of a width.
-fn filter_of(w: usize) -> Filter
+pub fn filter_of(w: usize) -> Filter
     ensures { λ r. ⌜ r ≡ filterOf w ⌝ }
 {
     if w == 1 {
@@ -72,7 +72,7 @@ fn filter_of(w: usize) -> Filter
 }
 
 // The length of the file, and the count of section 0.
-fn check_start(s: &[u8]) -> Refusal
+pub fn check_start(s: &[u8]) -> Refusal
     ensures { λ r. ⌜ r ≡ firstOf (startChecks (now (s .entry))) (Refusal.Done 0 0) ⌝ }
 {
     if MOST_BYTES < s.len() {

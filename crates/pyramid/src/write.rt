@@ -36,6 +36,14 @@ fn body_size(f: Filter, levels: usize, n: usize) -> usize
     4 * (levels + 1) + bytes_of(f, n)
 }
 
+// The bytes of the whole file.
+pub fn file_size(f: Filter, levels: usize, n: usize) -> usize
+    requires { ⌜ (levels < 256) × (n ≤ mostSamples) ⌝ }
+    ensures { λ r. ⌜ r ≡ fileSize headSize (widthOf f) levels n ⌝ }
+{
+    HEAD_SIZE + body_size(f, levels, n)
+}
+
 // Section 1: the deepest approximations after their count.
 fn lay_deepest(n: usize, x: &[u8], out: &mut [u8])
     requires { ⌜ (n ≤ mostSamples) × (length (now out) ≡ 4 + length (now x)) ⌝ }
@@ -114,7 +122,7 @@ fn write_lengths(f: Filter, levels: usize, n: usize, b: usize, u: usize, v: usiz
     if !is_done(said) {
         return said;
     }
-    let need = HEAD_SIZE + body_size(f, at_least_one(levels), n);
+    let need = file_size(f, at_least_one(levels), n);
     if b < need {
         return Refusal::NoRoom(b, need);
     }

@@ -16,7 +16,7 @@ returns c =
     let ek : k .result ≡ leAt 1 s 4 = omega (arith, k .ensures) in
     let el : l .result ≡ leAt 1 s 5 = omega (arith, l .ensures) in (
       λ i. record { width = ek i; levels = el i; samples = c .before .read-u32 .ensures i; point = c .read-u322 .ensures i; body = headSize },
-      record { within = c .before .before .before .before .before .before .before .pre; width = k .ensures .1; levels = l .ensures .1; samples = omega arith },
+      record { within = c .before .before .before .before .before .before .before .pre; width = k .ensures .1; levels = l .ensures .1; samples = omega arith; point = omega arith },
     )
 
 pub head-in-spec : {M : Type 1} → statement M

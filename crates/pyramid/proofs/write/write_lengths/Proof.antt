@@ -3,7 +3,7 @@ use borrow.Author.Needs.{needs}
 use borrow.Author.Tests.{lt-ltb, le-ltb, not-true, not-false}
 use mathlib.Core.List.{_∷_}
 use mathlib.Core.Path.{_≡_, _∙_, sym, ap}
-use Prim.Native.Nat.{ℕ, _+_, _≤_, _<_}
+use Prim.Native.Nat.{ℕ, _≤_, _<_}
 use native.Mathlib.Omega.{arith}
 use lib.Dec.{ltb}
 use Rattle.answers.specs.declared.err.Refusal.{Refusal}
@@ -16,9 +16,8 @@ use Rattle.sizes.specs.Lengths.{mostSamples}
 use Rattle.sizes.specs.Levels.{depthOf, levelsOf}
 use Rattle.dwt.specs.Filters.{widthOf, waveletOf}
 use Rattle.dwt.specs.Calls.{depthChecks}
-use Rattle.dwt.proofs.Cuts.{width-room}
 use Rattle.dwt.proofs.Multi.{depth-refuse}
-use Rattle.pyramid.specs.Files.{headSize, bodySize, fileSize}
+use Rattle.pyramid.specs.Files.{headSize, fileSize}
 use Rattle.pyramid.specs.Writes.{writeChecks}
 use Rattle.pyramid.proofs.Writing.{few-levels}
 use Rattle.pyramid.proofs.write.write_lengths.Statement.{statement}
@@ -45,8 +44,8 @@ within c =
     (m, few-levels (waveletOf (a .f)) (levelsOf (a .levels)) (a .n) (roomy (depthOf (waveletOf (a .f)) (a .n)) (levelsOf (a .levels)) (p .1 .0)) m)
 
 -- the size of the file, as the code has it and as the list has it
-size : (c : tie.After-body-size) → let a = c .before .before .before .before .before .args in headSize + c .body-size .result ≡ fileSize headSize (widthOf (a .f)) (levelsOf (a .levels)) (a .n)
-size c = let a = c .before .before .before .before .before .args in ap (λ (i : ℕ). headSize + i) (c .body-size .ensures ∙ ap (λ (l : ℕ). bodySize (widthOf (a .f)) l (a .n)) (c .before .at-least-one .ensures))
+size : (c : tie.After-file-size) → let a = c .before .before .before .before .before .args in c .file-size .result ≡ fileSize headSize (widthOf (a .f)) (levelsOf (a .levels)) (a .n)
+size c = let a = c .before .before .before .before .before .args in c .file-size .ensures ∙ ap (λ (l : ℕ). fileSize headSize (widthOf (a .f)) l (a .n)) (c .before .at-least-one .ensures)
 
 pub write-lengths-spec : {M : Type 1} → statement M
 write-lengths-spec =
@@ -54,7 +53,6 @@ write-lengths-spec =
     (tie.spec
     (λ c κs. search needs) (λ c κs. search needs) returns (λ c κs. search needs)
     (λ c κs. let w = within (c .before) in (omega (arith, w, c .at-least-one .ensures), w .0))
-    (λ c. let a = c .before .before .before .before .before .args in let w = within (c .before .before) in omega (arith, c .body-size .ensures, c .before .at-least-one .ensures, w, width-room (a .f) (a .n) (w .0)))
     (λ c. past (c .before .before .before) (let a = c .before .before .before .before .before .before .args in stop _ (ap (ltb (a .b)) (sym (size (c .before))) ∙ lt-ltb _ _ (c .if2 .taken)) (ap (NoRoom (a .b)) (size (c .before)))))
     (λ c κs. search needs)
     (λ c. past (c .before .before .before .before) (let a = c .before .before .before .before .before .before .before .args in by _ (ap (ltb (a .b)) (sym (size (c .before .before))) ∙ le-ltb _ _ (c .before .if2 .left)) (c .two-areas .ensures))))

@@ -1,0 +1,103 @@
+-- The size that is told is what writing needs: a size that is refused is refused by writing with the same answer, a file area below it with 7 and that number,
+-- and with it, and work areas for the samples, writing is done. Each of the integer filters.
+use mathlib.Core.Bool.{true, false, not}
+use mathlib.Core.List.{List, [], _∷_, _++_}
+use mathlib.Core.Path.{_≡_, refl, sym, ap, _∙_}
+use Prim.Native.Nat.{ℕ, _*_, _/_, _≤_, _<_}
+use native.Mathlib.Omega.{arith}
+use borrow.Author.Tests.{lt-ltb, le-ltb}
+use lib.ListN.{length}
+use Rattle.answers.specs.declared.err.Answer.{Answer}
+use Rattle.answers.specs.declared.err.Refusal.{Refusal}
+use Rattle.answers.specs.declared.err.Refusal.the-variants.{Done, NoRoom}
+use Rattle.answers.specs.Answers.{answerOf, done, say}
+use Rattle.answers.specs.Checks.{Check, firstOf, ragged, tight, twoAreas}
+use Rattle.answers.proofs.Chain.{by, stop}
+use Rattle.answers.proofs.Endings.{is-done, not-done}
+use Rattle.answers.proofs.Passed.{Passing, passing, pass-both, then-stop, through}
+use Rattle.sizes.specs.Levels.{levelsOf}
+use Rattle.sizes.proofs.OneLevel.{whole-passes, count-is}
+use Rattle.dwt.specs.declared.filter.Filter.{Filter}
+use Rattle.dwt.specs.declared.filter.Filter.the-variants.{Cdf53I8, Cdf53I16, Cdf53I32, Cdf53F32, Cdf53F64, Cdf97F32, Cdf97F64}
+use Rattle.dwt.specs.Filters.{widthOf, Integers}
+use Rattle.dwt.specs.Calls.{depthChecks}
+use Rattle.dwt.proofs.Cuts.{width-pos}
+use Rattle.dwt.proofs.Multi.{depth-refuse}
+use Rattle.pyramid.specs.Files.{headSize, fileSize}
+use Rattle.pyramid.specs.Opens.{filterOf}
+use Rattle.pyramid.specs.Writes.{writeChecks, sayWrite, Write}
+use Rattle.pyramid.proofs.Opening.{pass-on, other-end}
+use Rattle.cuts.proofs.Filed.{common}
+use Rattle.heads.specs.Heads.{saySize}
+
+own-filter : (f : Filter) → Integers f → filterOf (widthOf f) ≡ f
+own-filter Cdf53I8 i = refl
+own-filter Cdf53I16 i = refl
+own-filter Cdf53I32 i = refl
+own-filter Cdf53F32 i = absurd i
+own-filter Cdf53F64 i = absurd i
+own-filter Cdf97F32 i = absurd i
+own-filter Cdf97F64 i = absurd i
+
+-- n samples in x, a file area b, and work areas u and v of p and q samples
+module _ (f : Filter) (i : Integers f) (l n : ℕ) (x b u v : List ℕ) (p q : ℕ) (ex : length x ≡ widthOf f * n) (eu : length u ≡ widthOf f * p) (ev : length v ≡ widthOf f * q) where
+  abbrev k : ℕ
+  k = widthOf f
+
+  abbrev size : ℕ
+  size = fileSize headSize k (levelsOf l) n
+
+  abbrev depth : List Check
+  depth = depthChecks f l n
+
+  abbrev rooms : List Check
+  rooms = tight (length b) size ∷ twoAreas p q n
+
+  abbrev writing : Refusal
+  writing = sayWrite f l (length x) (length b) (length u) (length v)
+
+  size-says : saySize k n l ≡ firstOf depth (Done size 0)
+  unfolding saySize
+  size-says = sym (by _ (ap not (common f i .width)) (ap (λ (g : Filter). firstOf (depthChecks g l n) (Done size 0)) (sym (own-filter f i))))
+
+  write-says : writing ≡ firstOf (depth ++ rooms) (Done 0 0)
+  unfolding sayWrite
+  write-says =
+      pass-on (ragged k (length x) ∷ ragged k (length u) ∷ ragged k (length v) ∷ []) (writeChecks f l (length x / k) (length b) (length u / k) (length v / k)) (Done 0 0)
+      (whole-passes k n (length x) ex, (whole-passes k p (length u) eu, (whole-passes k q (length v) ev, tt)))
+      ∙ rw (count-is k n (length x) (width-pos f) ex, count-is k p (length u) (width-pos f) eu, count-is k q (length v) (width-pos f) ev)
+
+  as-refused : done (saySize k n l) ≡ false → writing ≡ saySize k n l
+  as-refused h =
+      let g = sym (ap done size-says) ∙ h in
+      let e = other-end depth (Done size 0) (Done 0 0) refl g in
+      write-says ∙ then-stop depth rooms (Done 0 0) (ap done e ∙ g) ∙ e ∙ sym size-says
+
+  passes : done (saySize k n l) ≡ true → Passing depth
+  passes h = passing depth (Done size 0) (depth-refuse f l n) (sym (ap done size-says) ∙ h)
+
+  -- about the calls
+  module _ {s r : Answer} {y : ℕ} {b′ u′ v′ : List ℕ} (told : s ≡ answerOf (saySize (widthOf f) n l)) (w : Write f l y x b u v r b′ u′ v′) where
+    -- a size that is refused: writing gives the same answer
+    pub size-refused : (s .number ≡ 0 → ⊥) → r ≡ s
+    size-refused z = w .answer ∙ ap answerOf (as-refused (not-done (saySize k n l) s told z)) ∙ sym told
+
+    -- else the size is told
+    pub size-told : s .number ≡ 0 → s ≡ say 0 size 0
+    size-told z = told ∙ ap answerOf (size-says ∙ through depth (Done size 0) (passes (is-done (saySize k n l) s told z)))
+
+    -- a file area that is shorter is refused with it
+    pub size-needed : s .number ≡ 0 → length b < s .first → r ≡ say 7 (length b) (s .first)
+    size-needed z h =
+        let e = ap (λ (a : Answer). a .first) (size-told z) in
+        let g : length b < size = omega (arith, e, h) in
+        w .answer
+        ∙ ap answerOf (write-says ∙ pass-on depth rooms (Done 0 0) (passes (is-done (saySize k n l) s told z)) ∙ sym (stop _ (lt-ltb (length b) size g) refl))
+        ∙ ap (say 7 (length b)) (sym e)
+
+    -- and one that is not, with work areas for n samples, is enough
+    pub size-enough : s .number ≡ 0 → s .first ≤ length b → n ≤ p → n ≤ q → r ≡ say 0 0 0
+    size-enough z h hp hq =
+        let g : size ≤ length b = omega (arith, ap (λ (a : Answer). a .first) (size-told z), h) in
+        w .answer
+        ∙ ap answerOf (write-says ∙ through (depth ++ rooms) (Done 0 0) (pass-both depth rooms (passes (is-done (saySize k n l) s told z)) (le-ltb (length b) size g, (le-ltb p n hp, (le-ltb q n hq, tt)))))
