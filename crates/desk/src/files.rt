@@ -1,10 +1,14 @@
-// Pyramid files: writing, opening, and where a section is.
+// Pyramid files: writing, opening, where a section is, what a file says of itself, and its size.
 ghost use mathlib.Core.Path.{_≡_};
 ghost use Rattle.answers.specs.Answers.{answerOf};
 ghost use Rattle.pyramid.specs.Writes.{Write};
 ghost use Rattle.pyramid.specs.Opens.{Open, saySection};
+ghost use Rattle.heads.specs.Heads.{Told, saySize};
 use answers::err::Answer;
 use dwt::filter::Filter;
+use heads::HeadAnswer;
+use heads::head;
+use heads::size;
 use pyramid::open::open;
 use pyramid::section::section_answer;
 use pyramid::write::write;
@@ -73,4 +77,18 @@ pub extern "C" fn bk_pyramid_section(file: &[u8], width: u32, point: u32, number
     ensures { λ r. ⌜ r ≡ answerOf (saySection (now (file .entry)) width point number) ⌝ }
 {
     section_answer(file, width as usize, point as usize, number as usize)
+}
+
+#[no_mangle]
+pub extern "C" fn bk_pyramid_head(file: &[u8]) -> HeadAnswer
+    ensures { λ r. ⌜ Told (now (file .entry)) r ⌝ }
+{
+    head(file)
+}
+
+#[no_mangle]
+pub extern "C" fn bk_pyramid_size(width: u32, n: u64, levels: u32) -> Answer
+    ensures { λ r. ⌜ r ≡ answerOf (saySize width n levels) ⌝ }
+{
+    size(width as usize, n as usize, levels as usize)
 }

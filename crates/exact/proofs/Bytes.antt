@@ -14,7 +14,7 @@ use Rattle.sizes.specs.Levels.{afterLevels, thereAndBack, Runs, depthOf}
 use Rattle.sizes.proofs.Depths.{depth-runs}
 use Rattle.samples.specs.Floats.{width, decodeFloats}
 use Rattle.samples.proofs.FloatLaws.{length-decodeFloats}
-use Rattle.floats.specs.Filters.{stepsOf, backOf}
+use Rattle.floats.specs.Filters.{stepsOf, backSteps}
 use Rattle.floats.specs.Bands.{approxs, details, restored, low, high, back}
 use Rattle.floats.proofs.Fits.{fit-decode, fit-even, fit-odd, fit-joined, fit-runA, fit-runD}
 use Rattle.dwt.specs.Filters as filter
@@ -43,7 +43,7 @@ module _ (f : Format) where
   -- and of the samples of two bands
   pub decode-back : (w : Wavelet) (a d : List ℕ) → decodeFloats f (back f w a d) ≡ restored f w (decodeFloats f a) (decodeFloats f d)
   unfolding back restored
-  decode-back w a d = fit-joined f _ _ (fit-runA f (backOf f w) _ _ (fit-decode f a) (fit-decode f d)) (fit-runD f (backOf f w) _ _ (fit-decode f a) (fit-decode f d))
+  decode-back w a d = fit-joined f _ _ (fit-runA f (backSteps f w) _ _ (fit-decode f a) (fit-decode f d)) (fit-runD f (backSteps f w) _ _ (fit-decode f a) (fit-decode f d))
 
 -- ---- one level of the 5/3 filter of the format
 

@@ -77,7 +77,7 @@ module _ (f : Filter) (i : Integers f) (l n : ℕ) (x b u v : List ℕ) (p q : �
   passes h = passing depth (Done size 0) (depth-refuse f l n) (sym (ap done size-says) ∙ h)
 
   -- about the calls
-  module _ {s r : Answer} {y : ℕ} {b′ u′ v′ : List ℕ} (told : s ≡ answerOf (saySize (widthOf f) n l)) (w : Write f l y x b u v r b′ u′ v′) where
+  module _ (y : ℕ) {s r : Answer} {b′ u′ v′ : List ℕ} (told : s ≡ answerOf (saySize (widthOf f) n l)) (w : Write f l y x b u v r b′ u′ v′) where
     -- a size that is refused: writing gives the same answer
     pub size-refused : (s .number ≡ 0 → ⊥) → r ≡ s
     size-refused z = w .answer ∙ ap answerOf (as-refused (not-done (saySize k n l) s told z)) ∙ sym told

@@ -74,4 +74,4 @@ written-told f l p x i bx hp b u v a b′ u′ v′ w z c h g {t} m =
     let d = written f l p x i bx hp b u v a b′ u′ v′ w z in
     let s = take c (fileOf f (levelsOf l) p x) in
     let q = both-pass (startChecks s) (fieldChecks (headIn s) (widthOf f) p) (d .passes c h g) in
-    rw (d .head c h) at (told-fields {s} {t} (q .0) m)
+    rw (d .head c h) at (told-fields {s = s} (q .0) m)

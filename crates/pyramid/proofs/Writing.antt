@@ -27,7 +27,7 @@ use Rattle.dwt.specs.Filters.{widthOf, waveletOf, lowOf, highOf}
 use Rattle.dwt.specs.Pyramids.{lengthsOf}
 use Rattle.dwt.specs.Calls.{Ready}
 use Rattle.dwt.proofs.Cuts.{width-pos, split-width}
-use Rattle.dwt.proofs.Multi.{levels-pos, too-short}
+use Rattle.dwt.proofs.Multi.{levels-pos, shallow-refused}
 use Rattle.dwt.proofs.Lists.{put-end, later}
 use Rattle.trips.proofs.Lengths.{length-lengths, count-at-total}
 use Rattle.trips.proofs.Fitting.{lengths-fit, few-lengths}
@@ -164,7 +164,7 @@ unfolding sayWrite
 write-ready f l x b u v h =
     let k = widthOf f in
     let p = passing (ragged k x ∷ ragged k u ∷ ragged k v ∷ writeChecks f l (x / k) b (u / k) (v / k)) (Done 0 0)
-    (refl, (refl, (refl, (refl, (too-short f (x / k) (leb l 1), (refl, (refl, (refl, tt)))))))) h in
+    (refl, (refl, (refl, (refl, (shallow-refused f (x / k) (leb l 1), (refl, (refl, (refl, tt)))))))) h in
     let q = p .1 .1 .1 in
     let eu = whole k u (p .1 .0) in
     let ev = whole k v (p .1 .1 .0) in
