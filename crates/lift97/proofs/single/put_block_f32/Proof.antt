@@ -1,6 +1,6 @@
 -- `put_block_f32` meets its contract: before turn j the first i + j entries are stored.
 use borrow.Author.Needs.{needs}
-use mathlib.Core.Path.{_≡_, refl}
+use mathlib.Core.Path.{_≡_, refl, _∙_}
 use Prim.Native.Nat.{_+_, _-_, _≤_}
 use native.Mathlib.Omega.{arith}
 use lib.Ieee.{binary32}
@@ -29,7 +29,7 @@ put-requires c κs =
     (ahead-on (st .pre .0) (l .inv .3), (l .inv .3, (handed-at (l .j) i h (omega arith) refl (r .0) (r .1) (r .2), (part-if _ _ (st .pre .1 .1 .1 .0) (omega arith) (omega arith), (omega (arith, k), h .three .each (l .j + 1) i (omega arith) (omega arith))))))
 
 loop-again : tie.Need-loop-again Inv-loop μ-loop
-loop-again c = let r = c .before .before .before .before .put-at-f32 in (omega arith, omega (arith, r .kept), omega (arith, r .kept), splitting-at _ (r .ensures) (omega arith))
+loop-again c = let r = c .before .before .before .before .put-at-f32 in let l = c .before .before .before .before .before .before .before .before .before .before .loop .inv in (omega arith, r .kept .1 .1 .1 .1 .0 ∙ l .1, r .kept .1 .1 .1 .1 .1 .0 ∙ l .2, splitting-at _ (r .ensures) (omega arith))
 
 pub put-block-f32-spec : {M : Type 1} → statement M
 put-block-f32-spec =
