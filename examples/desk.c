@@ -1,13 +1,15 @@
 /*
  * A small review desk over Beksanour, in plain C99 (it compiles as C++17 too).
  *
- *   desk          a tour: three recordings are made, kept as pyramid files, cut, opened, drawn, looked up and marked with notes,
- *                 and then the library is made to refuse in every way that it has
+ *   cc examples/desk.c $(pkg-config --cflags --libs beksanour) -o desk        (after install.sh)
+ *
+ *   desk          a tour: three recordings are made, kept as pyramid files, cut, opened, drawn and marked with notes, and then
+ *                 the library is made to refuse in every way that it has
  *   desk FILE     what a pyramid file says of itself, the level that it opens at, and its overview
  *   desk --help   this
  *
  * It ends with 0 when all went well; `desk FILE` ends with the number of the refusal, 1 to 13, where the library refuses the
- * file, whatever its size. 64: the call is wrong, or the file cannot be read. 70: no memory, or an answer that was not expected.
+ * file. 64: the call is wrong, or the file cannot be read. 70: no memory, or an answer that was not expected.
  */
 #include <stdio.h>
 #include <stdlib.h>
