@@ -172,7 +172,7 @@ static bk_answer open_at(const uint8_t *file, size_t length, const bk_head *head
     return open_front(file, (size_t)(last.first + last.second), o);
 }
 
-/* Of a file that opens: the finest level, not finer than the one that is left, whose columns fit the screen; else the deepest. */
+/* Of a file that opens: the finest level, not finer than what is left, whose columns fit the screen; else the deepest. */
 static uint32_t fitting_level(const bk_head *head, uint32_t finest) {
     uint32_t level = finest;
     while (level < head->levels && (((uint64_t)head->samples + ((uint64_t)1 << level) - 1) >> level) > COLUMNS) level++;
@@ -288,8 +288,9 @@ static void tour_sections(const pyramid_file *f) {
         expect("looking up a section", a, BK_DONE);
         r = range_of(f->bytes + a.first, head.width, (size_t)a.second / head.width);
         printf("section %2lu: %s of level %lu at byte %lu, %lu bytes, from %lld to %lld\n", (unsigned long)number,
-               number == 1 ? "approximations" : "details", (unsigned long)(number == 1 ? head.levels : head.levels + 2 - number),
-               (unsigned long)a.first, (unsigned long)a.second, (long long)r.low, (long long)r.high);
+               number == 1 ? "approximations" : "details",
+               (unsigned long)(number == 1 ? head.levels : head.levels + 2 - number), (unsigned long)a.first,
+               (unsigned long)a.second, (long long)r.low, (long long)r.high);
     }
 }
 

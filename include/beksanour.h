@@ -44,8 +44,9 @@
  * the whole recording, also where the file was cut and opens with fewer.
  *
  * Opening at a chosen level l, 1 to the head's levels. Ask bk_pyramid_section for section levels + 1 - l, and lend
- * bk_pyramid_open only the front of the file through that section, which is first + second bytes: it opens at level l. Less of
- * the file need be read, and the count is that of a screen and not of the recording. The whole file opens at level 0.
+ * bk_pyramid_open only the front of the file through that section, which is first + second bytes: it opens at level l, with m
+ * samples, m being n halved, rounded up, l times. That front is 14 + 4(levels + 1 - l) + width m bytes, so a program that has
+ * read the head need not read more of the file. The whole file opens at level 0.
  *
  * Columns. A column is an approximation of a level from 1 on. Level 0 is the recording itself and has no columns, so
  * bk_note_column and bk_note_span refuse level 0: there sample s stands at place s.
@@ -93,7 +94,8 @@ enum {
     BK_ZEROED_BASE_SIZE = 5,               /* no details list, or no approximations */
     BK_TOO_LONG = 6,                       /* a length above its limit */
     BK_NO_ROOM = 7,                        /* a lent area is too short: have, need */
-    BK_OTHER_WIDTH = 8,                    /* the file's width is not the one asked: the file's, asked */
+    BK_OTHER_WIDTH = 8,                    /* the file's width is not the one asked: the file's, asked;
+                                              a width that is not 1, 2 or 4: 0, or the file's, and the width */
     BK_BAD_COUNT = 9,                      /* a count is wrong: section, found;
                                               a byte length that is no whole number of samples: 0, the length;
                                               a list of lengths that is not the details: 0, its sum */
