@@ -7,20 +7,56 @@
  * slice still has a pointer that is not null. Samples are little-endian and need no alignment: on a little-endian machine an
  * array `int16_t x[n]` is lent as `(const uint8_t *)x, sizeof x`.
  *
- * Link with libdesk.a (`rt staticlib desk` writes target/staticlib/libdesk.a, for x86-64).
+ * `install.sh PREFIX` installs this header, the library and beksanour.pc, for x86-64: then
+ * `cc desk.c $(pkg-config --cflags --libs beksanour)`. Without it, `rt staticlib desk` writes the same library to
+ * target/staticlib/libdesk.a. examples/desk.c is a program that uses most of what is here. CHANGELOG.md says what a caller must
+ * change from one version to the next.
  *
  * The calls, in the order of this file; T is the kind of a sample, i8, i16, i32, f32 or f64 (9/7: f32 or f64):
+ *   bk_refusal_name, bk_refusal_sentence           a refusal in words
  *   bk_cdf53_depth, bk_cdf97_depth                 how many levels a recording has
  *   bk_cdf53_forward_T, bk_cdf97_forward_T         one level: samples to approximations and details
  *   bk_cdf53_inverse_T, bk_cdf97_inverse_T         and back
  *   bk_cdf53_dwt_T, bk_cdf97_dwt_T                 the last of so many levels
  *   bk_cdf53_multi_dwt_T, bk_cdf97_multi_dwt_T     all of so many levels
  *   bk_cdf53_multi_idwt_T, bk_cdf97_multi_idwt_T   and back
+ *   bk_pyramid_size                                how many bytes a pyramid file has
  *   bk_pyramid_write_i8, _i16, _i32                a recording as a pyramid file
+ *   bk_pyramid_head                                what a file says of itself
  *   bk_pyramid_open                                what a file, or the front of one, still lets see
  *   bk_pyramid_section                             where a section of a file stands
  *   bk_note_column, bk_note_span                   the column of a sample, the samples of a column
  *   bk_band_window_T                               where a part of a band stands
+ *
+ * Good to know, said once:
+ *
+ * Bytes or samples. A parameter whose name ends in _bytes is a length in bytes, and a width is a sample's size in bytes. n,
+ * sample, start and count are numbers of samples. In an answer bytes are: what bk_pyramid_size, bk_pyramid_section and
+ * bk_band_window_T give when done; the numbers of 10 and 12; the length of 9 (0, length) and the count of section 0; and of 7
+ * those of the file that is written. All other lengths and counts in an answer are samples.
+ *
+ * How much room. A slice may be lent with length 0 to ask. bk_pyramid_open with three empty areas answers 7 (0, count) for a
+ * file that opens, and a write with an empty file answers 7 (0, size); nothing is changed. The same refusal comes for areas
+ * that are merely too short.
+ *
+ * A file whose width and point are not known. bk_pyramid_head reads them; hand them to bk_pyramid_open, which then refuses the
+ * file only for what is wrong in it. The head's samples is the n that bk_note_column and bk_note_span ask for: the length of
+ * the whole recording, also where the file was cut and opens with fewer.
+ *
+ * Opening at a chosen level l, 1 to the head's levels. Ask bk_pyramid_section for section levels + 1 - l, and lend
+ * bk_pyramid_open only the front of the file through that section, which is first + second bytes: it opens at level l, with m
+ * samples, m being n halved, rounded up, l times. That front is 14 + 4(levels + 1 - l) + width m bytes, so a program that has
+ * read the head need not read more of the file. The whole file opens at level 0.
+ *
+ * Columns. A column is an approximation of a level from 1 on. Level 0 is the recording itself and has no columns, so
+ * bk_note_column and bk_note_span refuse level 0: there sample s stands at place s.
+ *
+ * Damage. A file has no checksum. That it is short, or that one of its counts is wrong, is found; a bit that flipped among the
+ * samples of a section is not, and the file opens as other samples. Keep a checksum beside it where that matters.
+ *
+ * Floats. The bits that the float calls promise hold while the processor rounds to nearest even and keeps subnormal numbers, as
+ * it does unless told otherwise. A program that flushes subnormals to zero changes them; so does one that is linked with
+ * -ffast-math, which turns that on. The integer calls do not depend on it.
  */
 #ifndef BEKSANOUR_H
 #define BEKSANOUR_H
@@ -32,12 +68,17 @@
 extern "C" {
 #endif
 
+/* The version of this header and of the library that is installed with it; CHANGELOG.md has what changed. */
+#define BK_VERSION_MAJOR 0
+#define BK_VERSION_MINOR 3
+#define BK_VERSION_PATCH 0
+
 /*
  * What every call returns. `number` is 0 when the call is done, else the number of the first check that refused; the checks
  * are made in the order in which a call's comment lists them. `first` and `second` are 0 unless the table, or a call that is
  * done, says otherwise.
  */
-typedef struct {
+typedef struct bk_answer {
     uint32_t number;
     uint64_t first;
     uint64_t second;
@@ -53,7 +94,8 @@ enum {
     BK_ZEROED_BASE_SIZE = 5,               /* no details list, or no approximations */
     BK_TOO_LONG = 6,                       /* a length above its limit */
     BK_NO_ROOM = 7,                        /* a lent area is too short: have, need */
-    BK_OTHER_WIDTH = 8,                    /* the file's width is not the one asked: the file's, asked */
+    BK_OTHER_WIDTH = 8,                    /* the file's width is not the one asked: the file's, asked;
+                                              a width that is not 1, 2 or 4: 0, or the file's, and the width */
     BK_BAD_COUNT = 9,                      /* a count is wrong: section, found;
                                               a byte length that is no whole number of samples: 0, the length;
                                               a list of lengths that is not the details: 0, its sum */
@@ -63,6 +105,48 @@ enum {
     BK_TRAILING = 12,                      /* bytes after the last section: how many, 0 */
     BK_NO_SUCH_PLACE = 13                  /* a place outside its range: the place, the limit */
 };
+
+/* The name of an answer's number, as in the list above; of a number that is not in it "unknown". */
+static inline const char *bk_refusal_name(uint32_t number) {
+    switch (number) {
+    case BK_DONE: return "BK_DONE";
+    case BK_MIN_FILTER_SIZE: return "BK_MIN_FILTER_SIZE";
+    case BK_APPROX_SIZE_NOT_MATCHES: return "BK_APPROX_SIZE_NOT_MATCHES";
+    case BK_OUTPUT_SIZE_IS_NOT_VALID: return "BK_OUTPUT_SIZE_IS_NOT_VALID";
+    case BK_BUFFER_WAS_TOO_SMALL_FOR_LEVEL: return "BK_BUFFER_WAS_TOO_SMALL_FOR_LEVEL";
+    case BK_ZEROED_BASE_SIZE: return "BK_ZEROED_BASE_SIZE";
+    case BK_TOO_LONG: return "BK_TOO_LONG";
+    case BK_NO_ROOM: return "BK_NO_ROOM";
+    case BK_OTHER_WIDTH: return "BK_OTHER_WIDTH";
+    case BK_BAD_COUNT: return "BK_BAD_COUNT";
+    case BK_CUT_SHORT: return "BK_CUT_SHORT";
+    case BK_OTHER_POINT: return "BK_OTHER_POINT";
+    case BK_TRAILING: return "BK_TRAILING";
+    case BK_NO_SUCH_PLACE: return "BK_NO_SUCH_PLACE";
+    default: return "unknown";
+    }
+}
+
+/* What an answer's number says, as one sentence for a person; of a number that is not in the list "unknown". */
+static inline const char *bk_refusal_sentence(uint32_t number) {
+    switch (number) {
+    case BK_DONE: return "The call is done.";
+    case BK_MIN_FILTER_SIZE: return "The recording is too short for one level.";
+    case BK_APPROX_SIZE_NOT_MATCHES: return "A band does not have the length that its level gives.";
+    case BK_OUTPUT_SIZE_IS_NOT_VALID: return "The output does not have the length that the result has.";
+    case BK_BUFFER_WAS_TOO_SMALL_FOR_LEVEL: return "The number of levels does not fit the length of the recording.";
+    case BK_ZEROED_BASE_SIZE: return "There are no lengths of details, or no approximations, to start from.";
+    case BK_TOO_LONG: return "There are more samples, bytes or levels than the library takes.";
+    case BK_NO_ROOM: return "An area that was lent is too short.";
+    case BK_OTHER_WIDTH: return "The samples do not have the width that was asked for, or no such width exists.";
+    case BK_BAD_COUNT: return "A count, or the length of a slice, is not what it must be.";
+    case BK_CUT_SHORT: return "The file ends before what is needed of it is whole.";
+    case BK_OTHER_POINT: return "The file belongs to another measuring point.";
+    case BK_TRAILING: return "The file has bytes after its last section.";
+    case BK_NO_SUCH_PLACE: return "There is no such level, place or section.";
+    default: return "unknown";
+    }
+}
 
 /* The most samples of a recording, and the most bytes of a pyramid file. */
 #define BK_MOST_SAMPLES 16777216
@@ -254,6 +338,7 @@ bk_answer bk_cdf97_multi_dwt_f64(const uint8_t *signal, size_t signal_bytes, uin
  *                        those of the approximations
  *   3 (got, n)           output does not hold n samples
  *   7 (have, n)          work1 holds fewer than n samples, then work2
+ * Which 9 it is: a length where one of the six byte lengths is ragged, else the sum.
  */
 bk_answer bk_cdf53_multi_idwt_i8(const uint8_t *approx, size_t approx_bytes, const uint8_t *details,
                                  size_t details_bytes, const uint8_t *lengths, size_t lengths_bytes, uint8_t *output,
@@ -285,11 +370,27 @@ bk_answer bk_cdf97_multi_idwt_f64(const uint8_t *approx, size_t approx_bytes, co
                                   size_t work2_bytes);
 
 /*
+ * How many bytes the pyramid file of n samples of `width` bytes each has, at so many levels: 14 + 4(L + 1) + width n, where L is
+ * `levels`, or 1 for 0. So much room a write needs; the two areas beside it need n samples, width n bytes, each.
+ * Done: first is the size. Never more than 67,108,974, so it fits a size_t.
+ *
+ * Refused, in this order:
+ *   8 (0, width)   width is not 1, 2 or 4
+ *   6              over 16,777,216 samples
+ *   1 (n, 3)       0 or 1 levels: fewer than 3 samples
+ *   4              more levels: fewer levels in the recording than asked
+ * After 8 these are what the write answers for the same samples and levels.
+ *
+ * For example, 5 samples of 1 byte at 2 levels are 31 bytes.
+ */
+bk_answer bk_pyramid_size(uint32_t width, uint64_t n, uint32_t levels);
+
+/*
  * The samples in `signal`, 8, 16 or 32 bits each, as a pyramid file for a point, into `file`. A file is sections in a fixed
  * order, each after its count, a u32, little-endian. Section 0 has the count 10: the width of a sample in bytes (one byte), the
  * levels (one byte), n (u32) and the point (u32). Section 1 has the deepest approximations of integer 5/3, sections 2 to
- * levels + 1 the details, deepest first, each counted in samples. The size is 14 + 4(levels + 1) + width n bytes; what is past
- * it in `file` is as it was. 0 levels means 1, and 1 is what the file says. `work1` and `work2` are room; what their first n
+ * levels + 1 the details, deepest first, each counted in samples. The size is what bk_pyramid_size says; what is past it in
+ * `file` is as it was. 0 levels means 1, and 1 is what the file says. `work1` and `work2` are room; what their first n
  * samples hold after a done call is not said, and what is beyond them is as it was.
  *
  * Refused, in this order:
@@ -297,8 +398,9 @@ bk_answer bk_cdf97_multi_idwt_f64(const uint8_t *approx, size_t approx_bytes, co
  *   6                over 16,777,216 samples
  *   1 (n, 3)         0 or 1 levels: fewer than 3 samples
  *   4                more levels: fewer levels in the recording than asked
- *   7 (have, size)   file has fewer bytes than the file's size
- *   7 (have, n)      work1 holds fewer than n samples, then work2
+ *   7 (have, size)   file has fewer bytes than the file's size, both in bytes
+ *   7 (have, n)      work1 holds fewer than n samples, then work2, both in samples
+ * Which 7 it is: second is n for a work area, and more than n for the file.
  */
 bk_answer bk_pyramid_write_i8(const uint8_t *signal, size_t signal_bytes, uint32_t levels, uint32_t point,
                               uint8_t *file, size_t file_bytes, uint8_t *work1, size_t work1_bytes, uint8_t *work2,
@@ -309,6 +411,28 @@ bk_answer bk_pyramid_write_i16(const uint8_t *signal, size_t signal_bytes, uint3
 bk_answer bk_pyramid_write_i32(const uint8_t *signal, size_t signal_bytes, uint32_t levels, uint32_t point,
                                uint8_t *file, size_t file_bytes, uint8_t *work1, size_t work1_bytes, uint8_t *work2,
                                size_t work2_bytes);
+
+/* What bk_pyramid_head returns: the answer, and the fields of section 0 as they are stored. When refused the fields are 0. */
+typedef struct bk_head {
+    bk_answer answer;
+    uint32_t width;   /* the size of a sample in bytes */
+    uint32_t levels;  /* how many levels the whole file has */
+    uint32_t samples; /* n, how many samples the whole recording has */
+    uint32_t point;   /* the number of the measuring point */
+    uint32_t rate;    /* 0: kept for a later version */
+} bk_head;
+
+/*
+ * What section 0 of a pyramid file, or of the front of one, says. It is read and not judged: a done call does not say that the
+ * file opens, nor that the width is 1, 2 or 4, nor that so many samples follow; bk_pyramid_open says that. The first 14 bytes
+ * are enough. Done: first and second are 0, and the fields are as stored.
+ *
+ * Refused, in this order:
+ *   6                over 67,108,974 bytes
+ *   10 (length, 0)   under 14 bytes
+ *   9 (0, found)     the count of section 0 is not 10: this is no pyramid file
+ */
+bk_head bk_pyramid_head(const uint8_t *file, size_t file_bytes);
 
 /*
  * The samples of the finest level that a pyramid file, or the front of one that was cut, has whole, into `output`: its
@@ -334,7 +458,11 @@ bk_answer bk_pyramid_write_i32(const uint8_t *signal, size_t signal_bytes, uint3
  *   9 (section, found)    section by section: its count is not the one that n and the levels give
  *   10 (length, 0)        the file ends in the samples of section 1, whose count is right
  *   12 (left, 0)          bytes after the last section
- *   7 (have, count)       output holds fewer than count samples, then work1, then work2
+ *   7 (have, count)       output holds fewer than count samples, then work1, then work2, both in samples
+ * Which one it is: 9 (0, ..) is a length where one of the three byte lengths is ragged, else section 0's count; 9 with another
+ * first number is that section's. 6 is the file's where file_bytes is over the limit, else the samples that its head says. 8
+ * with two equal numbers: the file has the width that was asked, and it is not 1, 2 or 4. 10 always means that too little is
+ * left: nothing of this file can be shown.
  */
 bk_answer bk_pyramid_open(const uint8_t *file, size_t file_bytes, uint32_t width, uint32_t point, uint8_t *output,
                           size_t output_bytes, uint8_t *work1, size_t work1_bytes, uint8_t *work2, size_t work2_bytes);
@@ -349,6 +477,8 @@ bk_answer bk_pyramid_open(const uint8_t *file, size_t file_bytes, uint32_t width
  *   13 (number, levels + 1)   number is 0 or above levels + 1
  *   9 (section, found)        section by section up to this one: its count is not the one that n and the levels give
  *   10 (length, 0)            the file ends in this section or before it
+ * Which 10 it is: under 14 bytes the file has no head; else the section asked for is not whole, and one with a smaller number
+ * may still be. 8 with two equal numbers as in bk_pyramid_open. 9 with 0 is section 0's count: there is no area here.
  */
 bk_answer bk_pyramid_section(const uint8_t *file, size_t file_bytes, uint32_t width, uint32_t point, uint32_t number);
 
@@ -361,6 +491,7 @@ bk_answer bk_pyramid_section(const uint8_t *file, size_t file_bytes, uint32_t wi
  *   6                    over 16,777,216 samples
  *   13 (level, depth)    level is 0 or above the 5/3 depth of n
  *   13 (sample, n)       sample is not one of 0 to n - 1
+ * Which 13 it is: the level's where level is 0 or above what bk_cdf53_depth says of n, else the sample's.
  *
  * For example, of 20 samples at level 1, sample 7 shows at column 3.
  */
@@ -375,6 +506,7 @@ bk_answer bk_note_column(uint64_t n, uint32_t level, uint64_t sample);
  *   6                    over 16,777,216 samples
  *   13 (level, depth)    level is 0 or above the 5/3 depth of n
  *   13 (place, places)   place is not one of 0 to places - 1; the level has places = ceil(n / 2^level) approximations
+ * Which 13 it is: the level's where level is 0 or above what bk_cdf53_depth says of n, else the place's.
  *
  * For example, of 20 samples at level 1, column 3 spans samples 6 to 7; of 5 samples, column 2 spans sample 4 alone.
  */

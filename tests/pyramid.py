@@ -102,16 +102,36 @@ def no_room(*areas):
     return next(((7, have, need) for have, need in areas if have < need), None)
 
 
+# The answer to asking for a file's size.
+def sized(width, n, levels):
+    stored = max(levels, 1)
+    if width not in FORMATS:
+        return 8, 0, width
+    if n > LIMIT:
+        return 6, 0, 0
+    if depth(n) < stored:
+        return (1, n, 3) if levels <= 1 else (4, 0, 0)
+    return 0, 14 + 4 * (stored + 1) + width * n, 0
+
+
 # The answer to writing, and the file; lengths are in bytes.
 def written(signal, width, levels, point, room, *works):
-    n, stored = len(signal) // width, max(levels, 1)
+    n = len(signal) // width
     said = ragged(width, len(signal), *works)
-    if not said and n > LIMIT:
-        said = 6, 0, 0
-    if not said and depth(n) < stored:
-        said = (1, n, 3) if levels <= 1 else (4, 0, 0)
-    said = said or no_room((room, 14 + 4 * (stored + 1) + width * n), *((work // width, n) for work in works))
-    return (said, b"") if said else ((0, 0, 0), file_of(unpacked(signal, width), width, stored, point))
+    if not said:
+        size = sized(width, n, levels)
+        said = size if size[0] else no_room((room, size[1]), *((work // width, n) for work in works))
+    return (said, b"") if said else ((0, 0, 0), file_of(unpacked(signal, width), width, max(levels, 1), point))
+
+
+# The answer to reading a head, and its five fields.
+def told(file):
+    if len(file) > MOST_BYTES:
+        return 6, 0, 0, 0, 0, 0, 0, 0
+    if len(file) < 14:
+        return 10, len(file), 0, 0, 0, 0, 0, 0
+    ten, width, levels, n, point = HEAD.unpack_from(file)
+    return (9, 0, ten, 0, 0, 0, 0, 0) if ten != 10 else (0, 0, 0, width, levels, n, point, 0)
 
 
 # What section 0 is refused for, if it is.
@@ -223,12 +243,21 @@ def look_up(file, width, point, number):
     return Ask(request("pyramid_section", [file], width, point, number), found(file, width, point, number), [])
 
 
+def size_up(width, n, levels):
+    return Ask(f"pyramid_size {width} {n} {levels}", sized(width, n, levels), [])
+
+
+def read_head(file):
+    return Ask(request("pyramid_head", [file]), told(file), [])
+
+
 class Tally:
     def __init__(self):
-        self.files = self.opens = self.refused = self.sections = self.missing = 0
+        self.files = self.opens = self.refused = self.sections = self.missing = self.sizes = self.heads = 0
 
     def count(self, ask, answer):
-        numbers, slices = answer.split(" ")[:3], answer.split(" ")[3:]
+        said = len(ask.said)
+        numbers, slices = answer.split(" ")[:said], answer.split(" ")[said:]
         wanted = [str(number) for number in ask.said]
         if numbers != wanted or not all(self.same(*pair) for pair in zip(ask.lent, slices, strict=True)):
             print("the desk differs from document 01", ask.request, sep="\n  ")
@@ -240,6 +269,10 @@ class Tally:
         elif ask.request.startswith("pyramid_section"):
             self.sections += 1
             self.missing += ask.said[0] != 0
+        elif ask.request.startswith("pyramid_size"):
+            self.sizes += 1
+        elif ask.request.startswith("pyramid_head"):
+            self.heads += 1
         else:
             self.files += ask.said[0] == 0
 
@@ -489,6 +522,28 @@ def heads(random):
                         break
 
 
+# Sizes of files of every width, length and number of levels near a bound.
+def file_sizes(random):
+    for width in 0, 1, 2, 3, 4, 5, 8, 255, 257, 2**31 + 1, LAST_U32:
+        for n in [*HEAD_LENGTHS, 2**32 + 5, 2**62, 2**63, 2**64 - 1]:
+            deep = depth(n) if n <= LIMIT else 23
+            for levels in sorted({0, 1, 2, max(deep - 1, 0), deep, deep + 1, 23, 24, 255, 256, 257, 65_537, LAST_U32}):
+                yield size_up(width, n, levels)
+
+
+# Heads of files and of fronts of files, with any bytes in their fields, and where section 0 has another count.
+def own_heads(random):
+    for width in FORMATS:
+        for n in (3, 5, 20):
+            file = any_file(random, width, n)
+            for cut in range(len(file) + 1):
+                yield read_head(file[:cut])
+    for _ in range(500):
+        fields = random.randbytes(10) + random.randbytes(random.choice((0, 0, 1, 4, 40)))
+        yield read_head(b"\x0a\0\0\0" + fields)
+        yield read_head(struct.pack("<I", random.choice((0, 9, 11, 14, 10 + 256, 10 + 2**31, LAST_U32))) + fields)
+
+
 # The longest recordings and files, and those that are too long.
 def limits(random):
     for width in FORMATS:
@@ -501,9 +556,10 @@ def limits(random):
         yield open_file(random, file, 4, 6, lambda full: [0, 0, 0])
         yield open_file(random, file, 4, 5, lambda full: [0, 0, 0])
         yield open_file(random, file, 4, 5, lambda full: [0, 4, 7])
+        yield read_head(file)
 
 
-PARTS = [figures, files, sections, write_bounds, open_bounds, damaged, other_asked, heads]
+PARTS = [figures, files, sections, write_bounds, open_bounds, damaged, other_asked, heads, file_sizes, own_heads]
 
 
 def main():
@@ -514,7 +570,7 @@ def main():
     os.chdir(os.path.join(os.path.dirname(os.path.abspath(__file__)), ".."))
     source = random.Random(asked.seed)
     tally = compare((ask for part in asked.parts for ask in part(source)), Tally())
-    print(f"ok pyramid: {tally.files} files, {tally.opens} opens, {tally.refused} of them refused, {tally.sections} sections asked for, {tally.missing} of them refused")
+    print(f"ok pyramid: {tally.files} files, {tally.opens} opens, {tally.refused} of them refused, {tally.sections} sections asked for, {tally.missing} of them refused, {tally.sizes} sizes, {tally.heads} heads")
 
 
 if __name__ == "__main__":

@@ -3,7 +3,7 @@
 //
 // A request is `NAME arg arg ..`, one space between. A number is decimal; a slice is `x` and its bytes
 // in lowercase hex, for a lent slice those it has before the call. The answer is `number first second`,
-// then ` x..` for each lent slice after the call, in order. Else one of
+// then for pyramid_head its five fields, then ` x..` for each lent slice after the call, in order. Else one of
 //   unknown NAME     no such function
 //   malformed NAME   the arguments are not of the function's shape
 //   broken NAME      the call wrote beside a slice, or into one that it may only read
@@ -100,6 +100,25 @@ static bk_answer call_rrwnn(function f, const struct arg *a) {
         a[0].bytes, a[0].count, a[1].bytes, a[1].count, (uint32_t)a[2].number, a[3].number, a[4].number);
 }
 
+static bk_answer call_wnw(function f, const struct arg *a) {
+    return ((bk_answer(*)(uint32_t, uint64_t, uint32_t))f)((uint32_t)a[0].number, a[1].number, (uint32_t)a[2].number);
+}
+
+// What the last call returned beside its answer.
+static uint32_t fields[5];
+static size_t fields_used;
+
+static bk_answer call_r(function f, const struct arg *a) {
+    bk_head h = ((bk_head(*)(const uint8_t *, size_t))f)(a[0].bytes, a[0].count);
+    fields[0] = h.width;
+    fields[1] = h.levels;
+    fields[2] = h.samples;
+    fields[3] = h.point;
+    fields[4] = h.rate;
+    fields_used = 5;
+    return h.answer;
+}
+
 static const struct shape shape_n = {"n", call_n};
 static const struct shape shape_rmm = {"rmm", call_rmm};
 static const struct shape shape_rrm = {"rrm", call_rrm};
@@ -110,6 +129,8 @@ static const struct shape shape_rrrmmm = {"rrrmmm", call_rrrmmm};
 static const struct shape shape_rwww = {"rwww", call_rwww};
 static const struct shape shape_nwn = {"nwn", call_nwn};
 static const struct shape shape_rrwnn = {"rrwnn", call_rrwnn};
+static const struct shape shape_wnw = {"wnw", call_wnw};
+static const struct shape shape_r = {"r", call_r};
 
 static const struct row {
     const char *name;
@@ -156,6 +177,8 @@ static const struct row {
     {"pyramid_write_i8", &shape_rwwmmm, (function)bk_pyramid_write_i8},
     {"pyramid_write_i16", &shape_rwwmmm, (function)bk_pyramid_write_i16},
     {"pyramid_write_i32", &shape_rwwmmm, (function)bk_pyramid_write_i32},
+    {"pyramid_size", &shape_wnw, (function)bk_pyramid_size},
+    {"pyramid_head", &shape_r, (function)bk_pyramid_head},
     {"pyramid_open", &shape_rwwmmm, (function)bk_pyramid_open},
     {"pyramid_section", &shape_rwww, (function)bk_pyramid_section},
     {"note_column", &shape_nwn, (function)bk_note_column},
@@ -282,6 +305,7 @@ static void call(const struct row *row, struct arg *args) {
             put_saying("malformed", row->name, strlen(row->name));
             return;
         }
+    fields_used = 0;
     bk_answer said = row->shape->call(row->call, args);
     for (size_t i = 0; i < count; i++)
         if (!is_whole(kinds[i], &args[i])) {
@@ -293,6 +317,10 @@ static void call(const struct row *row, struct arg *args) {
     put_number(said.first);
     put(' ');
     put_number(said.second);
+    for (size_t i = 0; i < fields_used; i++) {
+        put(' ');
+        put_number(fields[i]);
+    }
     for (size_t i = 0; i < count; i++)
         if (kinds[i] == 'm') {
             put(' ');

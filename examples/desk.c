@@ -1,0 +1,489 @@
+/*
+ * A small review desk over Beksanour, in plain C99 (it compiles as C++17 too).
+ *
+ *   cc examples/desk.c $(pkg-config --cflags --libs beksanour) -o desk        (after install.sh)
+ *
+ *   desk          a tour: three recordings are made, kept as pyramid files, cut, opened, drawn and marked with notes, and then
+ *                 the library is made to refuse in every way that it has
+ *   desk FILE     what a pyramid file says of itself, the level that it opens at, and its overview
+ *   desk --help   this
+ *
+ * It ends with 0 when all went well; `desk FILE` ends with the number of the refusal, 1 to 13, where the library refuses the
+ * file. 64: the call is wrong, or the file cannot be read. 70: no memory, or an answer that was not expected.
+ */
+#include <stdio.h>
+#include <stdlib.h>
+#include <string.h>
+
+#include "beksanour.h"
+
+enum { COLUMNS = 64, ROWS = 9, BAD_CALL = 64, BAD_TURN = 70 };
+
+/* ---- small helpers */
+
+/* Room for so many bytes; never null, so that an empty area has a pointer too. */
+static uint8_t *room(size_t bytes) {
+    uint8_t *p = (uint8_t *)malloc(bytes ? bytes : 1);
+    if (!p) {
+        fprintf(stderr, "desk: no memory for %lu bytes\n", (unsigned long)bytes);
+        exit(BAD_TURN);
+    }
+    return p;
+}
+
+/* A sample of 1, 2 or 4 bytes, little-endian, two's complement: as it is stored, and as a number. */
+static void put_sample(uint8_t *p, uint32_t width, int32_t value) {
+    uint32_t i;
+    for (i = 0; i < width; i++) p[i] = (uint8_t)((uint32_t)value >> (8 * i));
+}
+
+static int64_t get_sample(const uint8_t *p, uint32_t width) {
+    int64_t value = 0, half = (int64_t)1 << (8 * width - 1);
+    uint32_t i;
+    for (i = 0; i < width; i++) value |= (int64_t)p[i] << (8 * i);
+    return value < half ? value : value - 2 * half;
+}
+
+/* A refusal in words: what was tried, the number, its two numbers, its name and its sentence. */
+static void say_refused(const char *tried, bk_answer a) {
+    printf("%s: refused %lu (%llu, %llu), %s\n    %s\n", tried, (unsigned long)a.number, (unsigned long long)a.first,
+           (unsigned long long)a.second, bk_refusal_name(a.number), bk_refusal_sentence(a.number));
+}
+
+/* Ends the program where an answer is not the one that this program can count on. */
+static void expect(const char *tried, bk_answer a, uint32_t number) {
+    if (a.number == number) return;
+    say_refused(tried, a);
+    printf("    that was not expected\n");
+    exit(BAD_TURN);
+}
+
+/* ---- recordings: made by integers alone, so that they are the same everywhere */
+
+typedef struct recording {
+    const char *where;
+    uint32_t point, width;
+    size_t n;
+    uint8_t *samples; /* n samples of width bytes each */
+} recording;
+
+/* A wave like a sine: 65,536 phases, values from -16,384 to 16,384, each half a parabola. */
+static int32_t wave(uint64_t phase) {
+    int64_t p = (int64_t)(phase % 32768), y = p * (32768 - p) / 16384;
+    return (int32_t)(phase % 65536 < 32768 ? y : -y);
+}
+
+/* A wave that has so many periods in n samples, at sample k. */
+static int32_t tone(uint64_t k, uint64_t n, uint64_t periods) { return wave(k * periods * 65536 / n); }
+
+/* A bearing: the shaft's slow sway, its turning, and from sample 2,600 on a knock every 850 samples that rings and fades. */
+static int32_t bearing(uint64_t k, uint64_t n) {
+    int32_t value = tone(k, n, 2) / 2 + tone(k, n, 90) / 8;
+    if (k >= 2600) {
+        int32_t since = (int32_t)((k - 2600) % 850);
+        if (since < 120) value += tone((uint64_t)since, 120, 6) / 120 * (120 - since) / 2;
+    }
+    return value;
+}
+
+/* A gear box: two tones that are close to each other beat; 32 bits, since they are large. */
+static int32_t gears(uint64_t k, uint64_t n) { return 20000 * tone(k, n, 3) + 20000 * tone(k, n, 4); }
+
+/* A machine that runs up: it turns faster and faster. */
+static int32_t run_up(uint64_t k, uint64_t n) { return wave(k * k * 8 * 65536 / (n * n)) / 4; }
+
+static recording record(const char *where, uint32_t point, uint32_t width, size_t n, int32_t (*at)(uint64_t, uint64_t)) {
+    recording r;
+    size_t k;
+    r.where = where;
+    r.point = point;
+    r.width = width;
+    r.n = n;
+    r.samples = room(n * width);
+    for (k = 0; k < n; k++) put_sample(r.samples + k * width, width, at(k, n));
+    return r;
+}
+
+/* ---- pyramid files */
+
+typedef struct pyramid_file {
+    uint8_t *bytes;
+    size_t length;
+} pyramid_file;
+
+/* The file of a recording, at as many levels as it has. */
+static pyramid_file keep(const recording *r) {
+    pyramid_file f;
+    uint32_t levels = (uint32_t)bk_cdf53_depth(r->n).first;
+    bk_answer size = bk_pyramid_size(r->width, r->n, levels), done;
+    size_t bytes = r->n * r->width;
+    uint8_t *work1 = room(bytes), *work2 = room(bytes);
+    expect("the size of a file", size, BK_DONE);
+    f.length = (size_t)size.first;
+    f.bytes = room(f.length);
+    if (r->width == 2)
+        done = bk_pyramid_write_i16(r->samples, bytes, levels, r->point, f.bytes, f.length, work1, bytes, work2, bytes);
+    else
+        done = bk_pyramid_write_i32(r->samples, bytes, levels, r->point, f.bytes, f.length, work1, bytes, work2, bytes);
+    expect("writing a file", done, BK_DONE);
+    free(work1);
+    free(work2);
+    printf("point %lu, %s: %lu bits, %lu samples, %lu levels, %lu bytes\n", (unsigned long)r->point, r->where,
+           (unsigned long)r->width * 8, (unsigned long)r->n, (unsigned long)levels, (unsigned long)f.length);
+    return f;
+}
+
+/* What the front of a file lets see. */
+typedef struct opened {
+    bk_head head;
+    uint32_t level;
+    size_t count;
+    uint8_t *samples; /* count samples of head.width bytes each; null where the front does not open */
+} opened;
+
+/* Opens the front of a file for its own width and point. Empty areas first, which tell how much room is needed. */
+static bk_answer open_front(const uint8_t *file, size_t length, opened *o) {
+    uint8_t empty[3], *work1, *work2;
+    bk_answer a;
+    size_t bytes;
+    memset(o, 0, sizeof *o);
+    o->head = bk_pyramid_head(file, length);
+    if (o->head.answer.number != BK_DONE) return o->head.answer;
+    a = bk_pyramid_open(file, length, o->head.width, o->head.point, empty, 0, empty + 1, 0, empty + 2, 0);
+    if (a.number != BK_NO_ROOM) return a;
+    bytes = (size_t)a.second * o->head.width;
+    o->samples = room(bytes);
+    work1 = room(bytes);
+    work2 = room(bytes);
+    a = bk_pyramid_open(file, length, o->head.width, o->head.point, o->samples, bytes, work1, bytes, work2, bytes);
+    expect("opening with the room that was asked for", a, BK_DONE);
+    free(work1);
+    free(work2);
+    o->level = (uint32_t)a.first;
+    o->count = (size_t)a.second;
+    return a;
+}
+
+/* Opens a file at a level from 1 to its levels: only the front through section levels + 1 - level is lent. */
+static bk_answer open_at(const uint8_t *file, size_t length, const bk_head *head, uint32_t level, opened *o) {
+    bk_answer last = bk_pyramid_section(file, length, head->width, head->point, head->levels + 1 - level);
+    memset(o, 0, sizeof *o);
+    if (last.number != BK_DONE) return last;
+    return open_front(file, (size_t)(last.first + last.second), o);
+}
+
+/* Of a file that opens: the finest level, not finer than what is left, whose columns fit the screen; else the deepest. */
+static uint32_t fitting_level(const bk_head *head, uint32_t finest) {
+    uint32_t level = finest;
+    while (level < head->levels && (((uint64_t)head->samples + ((uint64_t)1 << level) - 1) >> level) > COLUMNS) level++;
+    return level;
+}
+
+/* ---- drawing */
+
+typedef struct range {
+    int64_t low, high;
+} range;
+
+/* The least and the greatest of some samples. */
+static range range_of(const uint8_t *samples, uint32_t width, size_t count) {
+    range r;
+    size_t i;
+    r.low = r.high = get_sample(samples, width);
+    for (i = 1; i < count; i++) {
+        int64_t value = get_sample(samples + i * width, width);
+        if (value < r.low) r.low = value;
+        if (value > r.high) r.high = value;
+    }
+    return r;
+}
+
+static int row_of(range all, int64_t value) {
+    return all.high == all.low ? 0 : (int)((all.high - value) * (ROWS - 1) / (all.high - all.low));
+}
+
+/* One row of a drawing, without spaces at its end: a column has a star from the sample before it to its own. */
+static void draw_row(int row, int zero, range all, const uint8_t *samples, uint32_t width, size_t count) {
+    size_t each = (count + COLUMNS - 1) / COLUMNS, columns = (count + each - 1) / each, used = 0, i;
+    char line[COLUMNS];
+    for (i = 0; i < columns; i++) {
+        size_t start = i ? i * each - 1 : 0, end = (i + 1) * each < count ? (i + 1) * each : count;
+        range r = range_of(samples + start * width, width, end - start);
+        line[i] = row_of(all, r.high) <= row && row <= row_of(all, r.low) ? '*' : row == zero ? '-' : ' ';
+        if (line[i] != ' ') used = i + 1;
+    }
+    printf("%.*s\n", (int)used, line);
+}
+
+/* Samples as rows of text, beside their greatest and least value and 0. Where they are too many, a column shows several. */
+static void draw(const uint8_t *samples, uint32_t width, size_t count) {
+    range all = range_of(samples, width, count);
+    int row, zero = all.low < 0 && all.high > 0 ? row_of(all, 0) : -1;
+    for (row = 0; row < ROWS; row++) {
+        if (row == 0 || row == ROWS - 1 || row == zero)
+            printf("%12lld |", (long long)(row == 0 ? all.high : row == zero ? 0 : all.low));
+        else
+            printf("%12s |", "");
+        draw_row(row, zero, all, samples, width, count);
+    }
+}
+
+/* A line below a drawing, with a mark at some columns, which stand in order. */
+static void draw_marks(const uint64_t *columns, size_t count) {
+    uint64_t at = 0;
+    size_t i;
+    printf("%14s", "");
+    for (i = 0; i < count; i++) {
+        for (; at < columns[i]; at++) putchar(' ');
+        if (at == columns[i]) {
+            putchar('^');
+            at++;
+        }
+    }
+    putchar('\n');
+}
+
+static void say_level(const opened *o) {
+    printf("level %lu, %lu columns, %lu samples each\n", (unsigned long)o->level, (unsigned long)o->count,
+           (unsigned long)1 << o->level);
+}
+
+/* ---- the tour */
+
+/* Cuts a file at given places, and says what is left to see. */
+static void tour_cuts(const pyramid_file *f, const size_t *places, size_t count) {
+    size_t i;
+    for (i = 0; i < count; i++) {
+        opened o;
+        char tried[60];
+        bk_answer a = open_front(f->bytes, places[i], &o);
+        snprintf(tried, sizeof tried, "the first %lu of %lu bytes", (unsigned long)places[i], (unsigned long)f->length);
+        if (a.number == BK_DONE)
+            printf("%s: level %lu, %lu samples\n", tried, (unsigned long)o.level, (unsigned long)o.count);
+        else
+            say_refused(tried, a);
+        free(o.samples);
+    }
+}
+
+/* Draws the level of a file that fits the screen, from the front of the file alone. */
+static opened tour_overview(const recording *r, const pyramid_file *f) {
+    bk_head head = bk_pyramid_head(f->bytes, f->length);
+    opened o;
+    expect("reading a head", head.answer, BK_DONE);
+    expect("opening for an overview", open_at(f->bytes, f->length, &head, fitting_level(&head, 0), &o), BK_DONE);
+    printf("point %lu, %s: ", (unsigned long)head.point, r->where);
+    say_level(&o);
+    draw(o.samples, o.head.width, o.count);
+    return o;
+}
+
+/* Where each section of a file is. Nothing is copied: the bytes are read where they stand. */
+static void tour_sections(const pyramid_file *f) {
+    bk_head head = bk_pyramid_head(f->bytes, f->length);
+    uint32_t number;
+    for (number = 1; number <= head.levels + 1; number++) {
+        bk_answer a = bk_pyramid_section(f->bytes, f->length, head.width, head.point, number);
+        range r;
+        expect("looking up a section", a, BK_DONE);
+        r = range_of(f->bytes + a.first, head.width, (size_t)a.second / head.width);
+        printf("section %2lu: %s of level %lu at byte %lu, %lu bytes, from %lld to %lld\n", (unsigned long)number,
+               number == 1 ? "approximations" : "details",
+               (unsigned long)(number == 1 ? head.levels : head.levels + 2 - number), (unsigned long)a.first,
+               (unsigned long)a.second, (long long)r.low, (long long)r.high);
+    }
+}
+
+/* Notes at some samples of a recording: their columns below its overview, and the samples that each column stands for. */
+static void tour_notes(const opened *o, const uint64_t *notes, size_t count) {
+    uint64_t columns[8];
+    size_t i;
+    for (i = 0; i < count; i++) {
+        bk_answer a = bk_note_column(o->head.samples, o->level, notes[i]);
+        expect("placing a note", a, BK_DONE);
+        columns[i] = a.first;
+    }
+    draw_marks(columns, count);
+    for (i = 0; i < count; i++) {
+        bk_answer a = bk_note_span(o->head.samples, o->level, columns[i]);
+        expect("finding a note", a, BK_DONE);
+        printf("the note at sample %lu is in column %lu, which stands for samples %lu to %lu\n", (unsigned long)notes[i],
+               (unsigned long)columns[i], (unsigned long)a.first, (unsigned long)a.second);
+        if (notes[i] < a.first || notes[i] > a.second) exit(BAD_TURN);
+    }
+}
+
+/* A finer level around a sample: a window on the approximations of that level. The window must lie within them. */
+static void tour_zoom(const pyramid_file *f, uint32_t level, uint64_t sample) {
+    bk_head head = bk_pyramid_head(f->bytes, f->length);
+    uint64_t start, mark;
+    uint8_t no_details[1] = {0};
+    bk_answer column, window;
+    opened o;
+    expect("opening for a window", open_at(f->bytes, f->length, &head, level, &o), BK_DONE);
+    column = bk_note_column(head.samples, level, sample);
+    expect("the column of a window", column, BK_DONE);
+    mark = column.first < COLUMNS / 4 ? column.first : COLUMNS / 4;
+    start = column.first - mark;
+    window = bk_band_window_i16(o.samples, o.count * head.width, no_details, 0, BK_APPROXIMATIONS, start, COLUMNS);
+    expect("a window", window, BK_DONE);
+    printf("the note at sample %lu again, at level %lu, columns %lu to %lu\n", (unsigned long)sample, (unsigned long)level,
+           (unsigned long)start, (unsigned long)start + COLUMNS - 1);
+    draw(o.samples + window.first, head.width, (size_t)window.second / head.width);
+    draw_marks(&mark, 1);
+    free(o.samples);
+}
+
+/* Says a refusal that was provoked, and that it is the one that was meant. */
+static void provoked(uint32_t number, const char *tried, bk_answer a) {
+    expect(tried, a, number);
+    say_refused(tried, a);
+}
+
+/* Refusals of the transforms, on a few samples of one byte. */
+static void tour_refused_transforms(void) {
+    uint8_t x[8] = {0, 3, 252, 1, 7, 0, 0, 0}, a[8], d[8], w[8];
+    provoked(BK_MIN_FILTER_SIZE, "one level of 2 samples", bk_cdf53_forward_i8(x, 2, a, 1, d, 1));
+    provoked(BK_APPROX_SIZE_NOT_MATCHES, "room for 2 approximations of 5 samples", bk_cdf53_forward_i8(x, 5, a, 2, d, 2));
+    provoked(BK_OUTPUT_SIZE_IS_NOT_VALID, "5 samples back into room for 4", bk_cdf53_inverse_i8(x, 3, x + 3, 2, d, 4));
+    provoked(BK_BUFFER_WAS_TOO_SMALL_FOR_LEVEL, "3 levels of 5 samples", bk_cdf53_multi_dwt_i8(x, 5, 3, a, 5, d, 5, w, 5));
+    provoked(BK_ZEROED_BASE_SIZE, "many levels back without a length",
+             bk_cdf53_multi_idwt_i8(x, 5, x + 5, 0, x + 6, 0, a, 5, d, 5, w, 5));
+    provoked(BK_TOO_LONG, "the depth of 16,777,217 samples", bk_cdf53_depth(BK_MOST_SAMPLES + 1));
+    provoked(BK_BAD_COUNT, "5 bytes as samples of 2 bytes", bk_cdf53_forward_i16(x, 5, a, 4, d, 2));
+}
+
+/* Refusals of a file: the recording's own file, asked for what it has not, cut too short, or with a byte too many. */
+static void tour_refused_files(const recording *r, const pyramid_file *f) {
+    uint8_t *longer = room(f->length + 1), none[3];
+    size_t bytes = r->n * r->width;
+    memcpy(longer, f->bytes, f->length);
+    longer[f->length] = 0;
+    provoked(BK_NO_ROOM, "writing a file into no room",
+             bk_pyramid_write_i16(r->samples, bytes, 1, r->point, none, 0, none + 1, 0, none + 2, 0));
+    provoked(BK_OTHER_WIDTH, "opening 16 bits as 32",
+             bk_pyramid_open(f->bytes, f->length, 4, r->point, none, 0, none + 1, 0, none + 2, 0));
+    provoked(BK_CUT_SHORT, "opening the first 15 bytes",
+             bk_pyramid_open(f->bytes, 15, r->width, r->point, none, 0, none + 1, 0, none + 2, 0));
+    provoked(BK_OTHER_POINT, "opening it for the next point",
+             bk_pyramid_open(f->bytes, f->length, r->width, r->point + 1, none, 0, none + 1, 0, none + 2, 0));
+    provoked(BK_TRAILING, "opening it with a byte behind it",
+             bk_pyramid_open(longer, f->length + 1, r->width, r->point, none, 0, none + 1, 0, none + 2, 0));
+    provoked(BK_NO_SUCH_PLACE, "a note after the last sample", bk_note_column(r->n, 1, r->n));
+    provoked(BK_NO_SUCH_PLACE, "a column of level 0", bk_note_column(r->n, 0, 0));
+    free(longer);
+}
+
+static int tour(void) {
+    static const uint64_t notes[] = {700, 2600, 5900};
+    recording r[3];
+    pyramid_file f[3];
+    opened seen[3];
+    size_t cuts[5], i;
+    printf("== three recordings, kept as files\n");
+    r[0] = record("bearing", 14, 2, 6000, bearing);
+    r[1] = record("gear box", 15, 4, 20000, gears);
+    r[2] = record("run-up", 16, 2, 601, run_up);
+    for (i = 0; i < 3; i++) f[i] = keep(&r[i]);
+
+    printf("\n== what a cut leaves of point 16\n");
+    cuts[0] = f[2].length;
+    cuts[1] = f[2].length - 1;
+    cuts[2] = 400;
+    cuts[3] = 100;
+    cuts[4] = 20;
+    tour_cuts(&f[2], cuts, 5);
+
+    printf("\n== the sections of point 16\n");
+    tour_sections(&f[2]);
+
+    printf("\n== overviews, and notes\n");
+    for (i = 3; i-- > 0;) seen[i] = tour_overview(&r[i], &f[i]);
+    tour_notes(&seen[0], notes, 3);
+    tour_zoom(&f[0], 2, notes[1]);
+
+    printf("\n== every refusal\n");
+    tour_refused_transforms();
+    tour_refused_files(&r[2], &f[2]);
+    for (i = 0; i < 3; i++) {
+        free(r[i].samples);
+        free(f[i].bytes);
+        free(seen[i].samples);
+    }
+    return 0;
+}
+
+/* ---- one file */
+
+/* A file's bytes, at most one more than the library takes, which it refuses; null where the file cannot be read. */
+static uint8_t *read_file(const char *name, size_t *length) {
+    const size_t most = (size_t)BK_MOST_BYTES + 1;
+    size_t have = 65536, got;
+    uint8_t *bytes;
+    FILE *in = fopen(name, "rb");
+    if (!in) return NULL;
+    bytes = room(have);
+    *length = 0;
+    while (*length < most && (got = fread(bytes + *length, 1, have - *length, in)) > 0) {
+        *length += got;
+        if (*length == have && have < most) {
+            uint8_t *more = room(have = 2 * have < most ? 2 * have : most);
+            memcpy(more, bytes, *length);
+            free(bytes);
+            bytes = more;
+        }
+    }
+    if (ferror(in)) {
+        free(bytes);
+        bytes = NULL;
+    }
+    fclose(in);
+    return bytes;
+}
+
+/* Prints what a file shows; the number of the refusal, or 0. */
+static int show_bytes(const char *name, const uint8_t *bytes, size_t length) {
+    opened o, overview;
+    uint32_t level;
+    bk_answer a = open_front(bytes, length, &o);
+    if (o.head.answer.number == BK_DONE)
+        printf("%s: point %lu, %lu bits, %lu samples, %lu levels\n", name, (unsigned long)o.head.point,
+               (unsigned long)o.head.width * 8, (unsigned long)o.head.samples, (unsigned long)o.head.levels);
+    if (a.number != BK_DONE) {
+        say_refused(name, a);
+        return (int)a.number;
+    }
+    printf("%lu bytes open at level %lu, %lu samples\n", (unsigned long)length, (unsigned long)o.level, (unsigned long)o.count);
+    level = fitting_level(&o.head, o.level);
+    if (level == o.level) {
+        draw(o.samples, o.head.width, o.count);
+    } else {
+        expect("opening for an overview", open_at(bytes, length, &o.head, level, &overview), BK_DONE);
+        say_level(&overview);
+        draw(overview.samples, overview.head.width, overview.count);
+        free(overview.samples);
+    }
+    free(o.samples);
+    return 0;
+}
+
+static int show_file(const char *name) {
+    size_t length;
+    int number;
+    uint8_t *bytes = read_file(name, &length);
+    if (!bytes) {
+        fprintf(stderr, "desk: %s cannot be read\n", name);
+        return BAD_CALL;
+    }
+    number = show_bytes(name, bytes, length);
+    free(bytes);
+    return number;
+}
+
+int main(int argc, char **argv) {
+    if (argc == 1) return tour();
+    if (argc == 2 && argv[1][0] != '-') return show_file(argv[1]);
+    printf("usage: desk          a tour of the library\n"
+           "       desk FILE     what a pyramid file shows; ends with the refusal's number, or 0\n");
+    return argc == 2 && (strcmp(argv[1], "--help") == 0 || strcmp(argv[1], "-h") == 0) ? 0 : BAD_CALL;
+}
