@@ -1,6 +1,6 @@
 -- From "done" to the facts: a call that is done has passed each of its checks.
 use mathlib.Core.Bool.{Bool, true, false, cond, not}
-use mathlib.Core.List.{List, [], _∷_, _++_}
+use mathlib.Core.List.{List, [], _∷_, _++_, append-nil}
 use mathlib.Core.Path.{_≡_, refl, sym, ap, subst, _∙_}
 use Prim.Native.Nat.{ℕ, _*_, _/_, _%_, _≤_}
 use native.Mathlib.Nat.{div-add-mod}
@@ -50,21 +50,28 @@ pub through : (l : List Check) (s : Refusal) → Passing l → firstOf l s ≡ s
 through [] s h = refl
 through (p ∷ rest) s h = ap (λ t. cond t (p .1) (firstOf rest s)) (h .0) ∙ through rest s (h .1)
 
--- checks in two parts: where the first part passes, the second decides; where it refuses, it has decided
-pub then-rest : (l m : List Check) (s : Refusal) → Refusing l → done (firstOf l (Done 0 0)) ≡ true → firstOf (l ++ m) s ≡ firstOf m s
-then-rest [] m s r h = refl
-then-rest (p ∷ l) m s r h =
-    let q = passed (p .0) (p .1) (firstOf l (Done 0 0)) (r .0) h in
-    ap (λ t. cond t (p .1) (firstOf (l ++ m) s)) (q .0) ∙ then-rest l m s (r .1) (q .1)
+-- checks that all pass leave the rest to decide; where one refuses, it has decided, however the list would have ended
+pub pass-on : (l m : List Check) (e : Refusal) → Passing l → firstOf (l ++ m) e ≡ firstOf m e
+pass-on [] m e h = refl
+pass-on (p ∷ l) m e h = ap (λ t. cond t (p .1) (firstOf (l ++ m) e)) (h .0) ∙ pass-on l m e (h .1)
 
-pub then-stop : (l m : List Check) (s : Refusal) → done (firstOf l (Done 0 0)) ≡ false → firstOf (l ++ m) s ≡ firstOf l (Done 0 0)
-then-stop [] m s h = absurd (subst T h tt)
-then-stop (p ∷ l) m s h = pick (p .0) (λ g. then-stop l m s g) h
+pub stop-there : (l m : List Check) (d e : Refusal) → done d ≡ true → done (firstOf l d) ≡ false → firstOf (l ++ m) e ≡ firstOf l d
+stop-there [] m d e z h = let w : true ≡ false = sym z ∙ h in absurd (subst T w tt)
+stop-there (p ∷ l) m d e z h = pick (p .0) (λ g. stop-there l m d e z g) h
   where
-    pick : (t : Bool) → (done (firstOf l (Done 0 0)) ≡ false → firstOf (l ++ m) s ≡ firstOf l (Done 0 0))
-        → done (cond t (p .1) (firstOf l (Done 0 0))) ≡ false → cond t (p .1) (firstOf (l ++ m) s) ≡ cond t (p .1) (firstOf l (Done 0 0))
+    pick : (t : Bool) → (done (firstOf l d) ≡ false → firstOf (l ++ m) e ≡ firstOf l d) → done (cond t (p .1) (firstOf l d)) ≡ false → cond t (p .1) (firstOf (l ++ m) e) ≡ cond t (p .1) (firstOf l d)
     pick true f h = refl
     pick false f h = f h
+
+pub other-end : (l : List Check) (d e : Refusal) → done d ≡ true → done (firstOf l d) ≡ false → firstOf l e ≡ firstOf l d
+other-end l d e z h = ap (λ (m : List Check). firstOf m e) (sym (append-nil l)) ∙ stop-there l [] d e z h
+
+-- the same of a first part that ends with 0, 0
+pub then-rest : (l m : List Check) (s : Refusal) → Refusing l → done (firstOf l (Done 0 0)) ≡ true → firstOf (l ++ m) s ≡ firstOf m s
+then-rest l m s r h = pass-on l m s (passing l (Done 0 0) r h)
+
+pub then-stop : (l m : List Check) (s : Refusal) → done (firstOf l (Done 0 0)) ≡ false → firstOf (l ++ m) s ≡ firstOf l (Done 0 0)
+then-stop l m s h = stop-there l m (Done 0 0) s refl h
 
 -- r is what the first part says: where it passes, the whole list says what the rest says; where it refuses, the whole list says r
 pub say-rest : (l m : List Check) (s : Refusal) {r t : Refusal} → Refusing l → r ≡ firstOf l (Done 0 0) → done r ≡ true → t ≡ firstOf m s → t ≡ firstOf (l ++ m) s

@@ -31,7 +31,7 @@ tight have need = (ltb have need, NoRoom have need)
 abbrev pub twoAreas : ℕ → ℕ → ℕ → List Check
 twoAreas u v need = tight u need ∷ tight v need ∷ []
 
--- "place outside the band": place, limit
+-- "place outside its range": place, limit
 abbrev pub outside : ℕ → ℕ → Check
 outside place limit = (not (ltb place limit), NoSuchPlace place limit)
 

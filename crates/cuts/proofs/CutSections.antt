@@ -10,6 +10,7 @@ use native.Mathlib.Omega.{arith}
 use borrow.Author.Tests.{le-ltb, ne-eqb}
 use lib.ListN.{length, take, drop}
 use lib.Seq.{drop-at}
+use Rattle.answers.proofs.Passed.{pass-on}
 use Rattle.answers.specs.declared.err.Refusal.{Refusal}
 use Rattle.answers.specs.declared.err.Refusal.the-variants.{Done, CutShort}
 use Rattle.answers.specs.Checks.{Check, firstOf}
@@ -28,7 +29,6 @@ use Rattle.pyramid.specs.declared.walk.Way.the-variants.{Went, Short}
 use Rattle.pyramid.specs.Files.{sectionOf, bodyOf, bodySize, fileSize}
 use Rattle.pyramid.specs.Walks.{walkOf, lastCount}
 use Rattle.pyramid.specs.Opens.{headIn, headChecks, wayTo, sectionChecks, numberChecks, lengthOf, endBy, startOf, saySection}
-use Rattle.pyramid.proofs.Opening.{pass-on}
 use Rattle.cuts.specs.Sees.{wholeIn, wayWithin}
 use Rattle.cuts.proofs.Sized.{body-length}
 use Rattle.cuts.proofs.CutWalk.{walk-cut, within-whole, past}

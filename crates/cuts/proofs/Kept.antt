@@ -29,7 +29,7 @@ use Rattle.pyramid.specs.Opens.{Open}
 use Rattle.pyramid.specs.Writes.{writeChecks, sayWrite, Write}
 use Rattle.cuts.specs.Sees.{Openings}
 use Rattle.cuts.proofs.Filed.{Recording, Filed, all-length}
-use Rattle.cuts.proofs.Heads.{filed}
+use Rattle.cuts.proofs.WrittenHead.{filed}
 use Rattle.cuts.proofs.Opened.{openings}
 
 -- samples that were written are a recording

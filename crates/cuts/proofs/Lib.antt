@@ -2,7 +2,7 @@ pub mod Sized
 pub mod CutWalk
 pub mod Restored
 pub mod Filed
-pub mod Heads
+pub mod WrittenHead
 pub mod Whole
 pub mod Survives
 pub mod Answers

@@ -1,4 +1,4 @@
--- A file that was cut anywhere, from document 01: opening its first b bytes is 10 where section 1 is cut, and else gives the deepest level that the whole
+-- A file that was cut anywhere, from document 01: opening its first b bytes is 10 where section 1 is cut, and else gives the finest level that the whole
 -- sections reach, with just the approximations of that level; all of the file gives the samples. Each of the integer filters.
 use mathlib.Core.Bool.{true, false}
 use mathlib.Core.List.{List, [], _++_, append-assoc}
@@ -15,7 +15,7 @@ use Rattle.answers.specs.declared.err.Refusal.the-variants.{Done, CutShort}
 use Rattle.answers.specs.Checks.{Check, firstOf}
 use Rattle.answers.proofs.Chain.{same}
 use Rattle.order.proofs.Order.{lt-or-le}
-use Rattle.answers.proofs.Passed.{Passing, pass-both, through}
+use Rattle.answers.proofs.Passed.{Passing, pass-both, through, pass-on}
 use Rattle.sizes.specs.Levels.{countAt}
 use Rattle.samples.specs.Integers.{isWidth}
 use Rattle.dwt.specs.declared.filter.Filter.{Filter}
@@ -28,7 +28,6 @@ use Rattle.pyramid.specs.declared.walk.Way.{Way}
 use Rattle.pyramid.specs.Files.{bodyOf, bodySize, fileSize}
 use Rattle.pyramid.specs.Walks.{walkOf, restoredAt}
 use Rattle.pyramid.specs.Opens.{headIn, headChecks, wayIn, wayChecks, fileChecks, wholeDetails, levelIn, countIn, samplesIn, areaChecks, roomsFor, sayOpen}
-use Rattle.pyramid.proofs.Opening.{pass-on}
 use Rattle.cuts.specs.Sees.{Sampled, Roomy, OpensTo, needed, wholeOf, wholeIn, levelLeft, wayWithin}
 use Rattle.cuts.proofs.Sized.{body-length}
 use Rattle.cuts.proofs.CutWalk.{walk-cut, within-whole}

@@ -80,7 +80,7 @@ levelLeft z k l n c = l - wholeOf z k l n c
 
 -- the answer r, and the output o′, that opening the first c bytes of the file of x, of l levels and n samples, leaves in the output o
 pub record Opened (z : ℕ) (f : Filter) (l n c : ℕ) (x o : List ℕ) (r : Answer) (o′ : List ℕ) : Type 0 where
-  -- below the end of the coarsest section it is 10 (c, 0), nothing is written, and nowhere else is it 10
+  -- below the end of the coarsest section it is 10 (c, 0), the output is as it was, and nowhere else is it 10
   pub cut : c < needed z (widthOf f) l n → (r ≡ say 10 c 0) × (o′ ≡ o)
   pub only-cut : r .number ≡ 10 → c < needed z (widthOf f) l n
   -- from there on it is done, with the level, its count, and exactly its approximations

@@ -1,4 +1,4 @@
--- `multi_idwt`: what its checks leave, the two ends of the call, and that two results which the statement allows are equal. Looks into no filter.
+-- `multi_idwt`: what its checks leave. Looks into no filter.
 use mathlib.Core.Bool.{true}
 use mathlib.Core.List.{List, [], _∷_, _++_}
 use mathlib.Core.Path.{_≡_, refl, sym, ap, _∙_}

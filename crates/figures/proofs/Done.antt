@@ -25,7 +25,7 @@ use Rattle.dwt.specs.Backward.{total, Rising}
 use Rattle.dwt.proofs.Cuts.{width-pos}
 use Rattle.trips.proofs.Fitting.{lengths-fit, back-fits, multi-fits, dwt-fits}
 use Rattle.cuts.proofs.Filed.{Recording}
-use Rattle.cuts.proofs.Heads.{filed}
+use Rattle.cuts.proofs.WrittenHead.{filed}
 use Rattle.cuts.proofs.Answers.{opens-whole}
 use Rattle.cuts.proofs.WriteFits.{write-fits}
 use Rattle.figures.specs.ShutOut.{Long, twoFour, EachDone}

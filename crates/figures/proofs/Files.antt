@@ -19,7 +19,7 @@ use Rattle.pyramid.specs.Files.{headSize, bodyOf, fileOf}
 use Rattle.pyramid.specs.Opens.{sayOpen}
 use Rattle.cuts.specs.Sees.{firstWhole, wholeOf, Sampled, Roomy, OpensTo}
 use Rattle.cuts.proofs.Filed.{Recording}
-use Rattle.cuts.proofs.Heads.{filed}
+use Rattle.cuts.proofs.WrittenHead.{filed}
 use Rattle.cuts.proofs.Survives.{cut-short, survives}
 use Rattle.cuts.proofs.Answers.{opens-whole}
 use Rattle.figures.specs.Worked.{five, thirtyOne, File}

@@ -26,6 +26,7 @@ use Rattle.dwt.specs.Backward.{total, bandChecks, sayBack, MultiBack}
 use Rattle.cuts.specs.Sees.{OpensTo}
 use Rattle.pyramid.specs.Walks.{oneOf, walkOf}
 use Rattle.pyramid.specs.Opens.{countIn, samplesIn, Open, saySection, sectionIn}
+use Rattle.heads.specs.Heads.{sayHead, saySize}
 use Rattle.figures.specs.Worked.{five, thirtyOne}
 use Rattle.figures.specs.ShutOut.{splitOnly, restSplit, detailsUp, three, one0, two0, three0, five0, lengths, NotAllRefused, ShutOut}
 use Rattle.figures.proofs.Files.{p6-to-p10}
@@ -73,6 +74,14 @@ says-window = refl
 says-section : saySection thirtyOne 1 14 2 ≡ Done 24 1
 unfolding saySection walkOf oneOf leAt afterLevels depthFrom depthWithin
 says-section = refl
+
+says-head : sayHead thirtyOne ≡ Done 0 0
+unfolding sayHead leAt
+says-head = refl
+
+says-size : saySize 1 5 2 ≡ Done 31 0
+unfolding saySize depthFrom depthWithin
+says-size = refl
 
 says-cut : saySection (take 25 thirtyOne) 1 14 2 ≡ Done 24 1
 unfolding saySection walkOf oneOf leAt afterLevels depthFrom depthWithin
@@ -129,7 +138,7 @@ opened {s} e m = (
 )
 
 not-all-refused : NotAllRefused
-not-all-refused = record { calls = each-done; depth = λ w. ap (λ l. Done l 0) (deep w); section = says-section; column = says-column; span = says-span; window = says-window }
+not-all-refused = record { calls = each-done; depth = λ w. ap (λ l. Done l 0) (deep w); section = says-section; head = says-head; size = says-size; column = says-column; span = says-span; window = says-window }
 
 pub shut-out : ShutOut
 unfolding leAt leBytes tabulate wordAt wordsOf bytesOf val residue wrap decode encode detail details approx approxs low high afterLevels evenOf oddOf splitOnly restSplit detailsUp

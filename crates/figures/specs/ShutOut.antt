@@ -28,6 +28,7 @@ use Rattle.pyramid.specs.Files.{headSize, fileSize, fileOf}
 use Rattle.pyramid.specs.Writes.{Write}
 use Rattle.pyramid.specs.Opens.{Open, saySection, sectionIn}
 use Rattle.figures.specs.Worked.{five, thirtyOne}
+use Rattle.heads.specs.Heads.{sayHead, saySize}
 
 -- ---- what the wrong programs would give
 
@@ -133,6 +134,8 @@ pub record NotAllRefused : Type 0 where
   pub calls : (f : Filter) → EachDone f
   pub depth : (w : Wavelet) → sayDepth w 8 ≡ Done 2 0
   pub section : saySection thirtyOne 1 14 2 ≡ Done 24 1
+  pub head : sayHead thirtyOne ≡ Done 0 0
+  pub size : saySize 1 5 2 ≡ Done 31 0
   pub column : sayColumn 5 1 3 ≡ Done 1 0
   pub span : saySpan 5 1 1 ≡ Done 2 3
   pub window : sayWindow 1 2 1 0 1 1 ≡ Done 1 1

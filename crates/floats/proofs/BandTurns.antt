@@ -11,7 +11,7 @@ use Rattle.floats.specs.Steps.{lift, oddAt, evenAt, odds, evens, scaled}
 use Rattle.floats.specs.Loops.{Stored, StoredBands}
 use Rattle.floats.proofs.Midway.{Midway, floatsOf, midway-none, midway-put, midway-later, midway-all, Ready, midway-ready, stored-ready}
 
--- what lift_at stores
+-- what a lifted sample is stored as
 pub put-lifted : (f : Format) (s : List ℕ) (i : ℕ) (c l r : Float) {t : List ℕ} {x y : Float} → t ≡ putFloat f s i y → y ≡ add f (mul f (add f l r) c) x → x ≡ floatAt f s i → t ≡ putFloat f s i (lift f c l r (floatAt f s i))
 unfolding lift
 put-lifted f s i c l r e ey ex = e ∙ rw (ey, ex)

@@ -1,32 +1,36 @@
--- The size that is told is what writing needs: a size that is refused is refused by writing with the same answer, a file area below it with 7 and that number,
--- and with it, and work areas for the samples, writing is done. Each of the integer filters.
+-- The size that is told is what writing needs, where the samples and the work areas are whole samples: a size that is refused is refused by writing with the same
+-- answer, a file area below it with 7 and that number, and with it, and work areas for the samples, writing is done. Each of the integer filters.
 use mathlib.Core.Bool.{true, false, not}
 use mathlib.Core.List.{List, [], _∷_, _++_}
 use mathlib.Core.Path.{_≡_, refl, sym, ap, _∙_}
 use Prim.Native.Nat.{ℕ, _*_, _/_, _≤_, _<_}
+use native.Mathlib.Nat.{mul-le-mul-right}
 use native.Mathlib.Omega.{arith}
 use borrow.Author.Tests.{lt-ltb, le-ltb}
 use lib.ListN.{length}
 use Rattle.answers.specs.declared.err.Answer.{Answer}
 use Rattle.answers.specs.declared.err.Refusal.{Refusal}
-use Rattle.answers.specs.declared.err.Refusal.the-variants.{Done, NoRoom}
+use Rattle.answers.specs.declared.err.Refusal.the-variants.{Done}
 use Rattle.answers.specs.Answers.{answerOf, done, say}
 use Rattle.answers.specs.Checks.{Check, firstOf, ragged, tight, twoAreas}
 use Rattle.answers.proofs.Chain.{by, stop}
 use Rattle.answers.proofs.Endings.{is-done, not-done}
-use Rattle.answers.proofs.Passed.{Passing, passing, pass-both, then-stop, through}
-use Rattle.sizes.specs.Levels.{levelsOf}
+use Rattle.answers.proofs.Passed.{Passing, passing, pass-both, pass-on, other-end, then-stop, through, roomy}
+use Rattle.sizes.specs.declared.Wavelet.{Wavelet}
+use Rattle.sizes.specs.Lengths.{mostSamples}
+use Rattle.sizes.specs.Levels.{depthOf, levelsOf}
+use Rattle.sizes.proofs.Depths.{depth-at-most}
 use Rattle.sizes.proofs.OneLevel.{whole-passes, count-is}
 use Rattle.dwt.specs.declared.filter.Filter.{Filter}
 use Rattle.dwt.specs.declared.filter.Filter.the-variants.{Cdf53I8, Cdf53I16, Cdf53I32, Cdf53F32, Cdf53F64, Cdf97F32, Cdf97F64}
-use Rattle.dwt.specs.Filters.{widthOf, Integers}
+use Rattle.dwt.specs.Filters.{widthOf, waveletOf, Integers}
 use Rattle.dwt.specs.Calls.{depthChecks}
 use Rattle.dwt.proofs.Cuts.{width-pos}
 use Rattle.dwt.proofs.Multi.{depth-refuse}
-use Rattle.pyramid.specs.Files.{headSize, fileSize}
+use Rattle.trips.proofs.Undone.{wavelet-is}
+use Rattle.pyramid.specs.Files.{mostBytes, headSize, fileSize}
 use Rattle.pyramid.specs.Opens.{filterOf}
 use Rattle.pyramid.specs.Writes.{writeChecks, sayWrite, Write}
-use Rattle.pyramid.proofs.Opening.{pass-on, other-end}
 use Rattle.cuts.proofs.Filed.{common}
 use Rattle.heads.specs.Heads.{saySize}
 
@@ -38,6 +42,28 @@ own-filter Cdf53F32 i = absurd i
 own-filter Cdf53F64 i = absurd i
 own-filter Cdf97F32 i = absurd i
 own-filter Cdf97F64 i = absurd i
+
+module _ (f : Filter) (i : Integers f) (l n : ℕ) where
+  size-says : saySize (widthOf f) n l ≡ firstOf (depthChecks f l n) (Done (fileSize headSize (widthOf f) (levelsOf l) n) 0)
+  unfolding saySize
+  size-says =
+      let e = Done (fileSize headSize (widthOf f) (levelsOf l) n) 0 in
+      sym (by _ (ap not (common f i .width)) (ap (λ (g : Filter). firstOf (depthChecks g l n) e) (sym (own-filter f i))))
+
+  size-passes : done (saySize (widthOf f) n l) ≡ true → Passing (depthChecks f l n)
+  size-passes h = passing (depthChecks f l n) (Done (fileSize headSize (widthOf f) (levelsOf l) n) 0) (depth-refuse f l n) (sym (ap done size-says) ∙ h)
+
+  -- a done size call tells the size of the file, which is at most 67,108,974
+  pub size-told : {s : Answer} → s ≡ answerOf (saySize (widthOf f) n l) → s .number ≡ 0 → (s ≡ say 0 (fileSize headSize (widthOf f) (levelsOf l) n) 0) × (s .first ≤ mostBytes)
+  size-told {s} told z =
+      let p = size-passes (is-done (saySize (widthOf f) n l) s told z) in
+      let e = told ∙ ap answerOf (size-says ∙ through (depthChecks f l n) (Done (fileSize headSize (widthOf f) (levelsOf l) n) 0) p) in
+      let most = roomy mostSamples n (p .0) in
+      let few = depth-at-most 23 n most in
+      let deep = roomy (depthOf (waveletOf f) n) (levelsOf l) (p .1 .0) in
+      let same = ap (λ (w : Wavelet). depthOf w n) (wavelet-is f i) in
+      let narrow = mul-le-mul-right n (common f i .narrow) in
+      (e, omega (arith, ap (λ (a : Answer). a .first) e, few, deep, same, most, narrow))
 
 -- n samples in x, a file area b, and work areas u and v of p and q samples
 module _ (f : Filter) (i : Integers f) (l n : ℕ) (x b u v : List ℕ) (p q : ℕ) (ex : length x ≡ widthOf f * n) (eu : length u ≡ widthOf f * p) (ev : length v ≡ widthOf f * q) where
@@ -56,10 +82,6 @@ module _ (f : Filter) (i : Integers f) (l n : ℕ) (x b u v : List ℕ) (p q : �
   abbrev writing : Refusal
   writing = sayWrite f l (length x) (length b) (length u) (length v)
 
-  size-says : saySize k n l ≡ firstOf depth (Done size 0)
-  unfolding saySize
-  size-says = sym (by _ (ap not (common f i .width)) (ap (λ (g : Filter). firstOf (depthChecks g l n) (Done size 0)) (sym (own-filter f i))))
-
   write-says : writing ≡ firstOf (depth ++ rooms) (Done 0 0)
   unfolding sayWrite
   write-says =
@@ -69,35 +91,29 @@ module _ (f : Filter) (i : Integers f) (l n : ℕ) (x b u v : List ℕ) (p q : �
 
   as-refused : done (saySize k n l) ≡ false → writing ≡ saySize k n l
   as-refused h =
-      let g = sym (ap done size-says) ∙ h in
+      let said = size-says f i l n in
+      let g = sym (ap done said) ∙ h in
       let e = other-end depth (Done size 0) (Done 0 0) refl g in
-      write-says ∙ then-stop depth rooms (Done 0 0) (ap done e ∙ g) ∙ e ∙ sym size-says
+      write-says ∙ then-stop depth rooms (Done 0 0) (ap done e ∙ g) ∙ e ∙ sym said
 
-  passes : done (saySize k n l) ≡ true → Passing depth
-  passes h = passing depth (Done size 0) (depth-refuse f l n) (sym (ap done size-says) ∙ h)
-
-  -- about the calls
+  -- about the calls: s is what the size call answered, r what a write of the samples x answered
   module _ (y : ℕ) {s r : Answer} {b′ u′ v′ : List ℕ} (told : s ≡ answerOf (saySize (widthOf f) n l)) (w : Write f l y x b u v r b′ u′ v′) where
     -- a size that is refused: writing gives the same answer
     pub size-refused : (s .number ≡ 0 → ⊥) → r ≡ s
     size-refused z = w .answer ∙ ap answerOf (as-refused (not-done (saySize k n l) s told z)) ∙ sym told
 
-    -- else the size is told
-    pub size-told : s .number ≡ 0 → s ≡ say 0 size 0
-    size-told z = told ∙ ap answerOf (size-says ∙ through depth (Done size 0) (passes (is-done (saySize k n l) s told z)))
-
-    -- a file area that is shorter is refused with it
+    -- else a file area that is shorter than the size is refused with it
     pub size-needed : s .number ≡ 0 → length b < s .first → r ≡ say 7 (length b) (s .first)
     size-needed z h =
-        let e = ap (λ (a : Answer). a .first) (size-told z) in
+        let e = ap (λ (a : Answer). a .first) (size-told f i l n told z .0) in
         let g : length b < size = omega (arith, e, h) in
         w .answer
-        ∙ ap answerOf (write-says ∙ pass-on depth rooms (Done 0 0) (passes (is-done (saySize k n l) s told z)) ∙ sym (stop _ (lt-ltb (length b) size g) refl))
+        ∙ ap answerOf (write-says ∙ pass-on depth rooms (Done 0 0) (size-passes f i l n (is-done (saySize k n l) s told z)) ∙ sym (stop _ (lt-ltb (length b) size g) refl))
         ∙ ap (say 7 (length b)) (sym e)
 
     -- and one that is not, with work areas for n samples, is enough
     pub size-enough : s .number ≡ 0 → s .first ≤ length b → n ≤ p → n ≤ q → r ≡ say 0 0 0
     size-enough z h hp hq =
-        let g : size ≤ length b = omega (arith, ap (λ (a : Answer). a .first) (size-told z), h) in
+        let g : size ≤ length b = omega (arith, ap (λ (a : Answer). a .first) (size-told f i l n told z .0), h) in
         w .answer
-        ∙ ap answerOf (write-says ∙ through (depth ++ rooms) (Done 0 0) (pass-both depth rooms (passes (is-done (saySize k n l) s told z)) (le-ltb (length b) size g, (le-ltb p n hp, (le-ltb q n hq, tt)))))
+        ∙ ap answerOf (write-says ∙ through (depth ++ rooms) (Done 0 0) (pass-both depth rooms (size-passes f i l n (is-done (saySize k n l) s told z)) (le-ltb (length b) size g, (le-ltb p n hp, (le-ltb q n hq, tt)))))

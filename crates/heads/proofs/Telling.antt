@@ -1,28 +1,27 @@
--- What the head of a file tells beside opening and writing: a file that opens tells its width and its point, and the front of a written file tells what was
--- written, cut as it may be.
-use mathlib.Core.Bool.{true, cond}
+-- What the head of a file tells beside opening and writing: a file that opens tells the width and the point that it opens for and the number of samples that its
+-- count comes from, and the front of a written file tells what was written, cut as it may be.
+use mathlib.Core.Bool.{cond}
 use mathlib.Core.List.{List}
-use mathlib.Core.Path.{_≡_, refl, sym, ap, _∙_}
-use Prim.Native.Nat.{ℕ, _/_, _^_, _≤_, _<_}
+use mathlib.Core.Path.{_≡_, sym, ap, subst, _∙_}
+use Prim.Native.Nat.{ℕ, _-_, _/_, _^_, _≤_, _<_}
+use native.Mathlib.Omega.{arith}
 use lib.ListN.{length, take}
 use Rattle.answers.specs.declared.err.Answer.{Answer}
 use Rattle.answers.specs.declared.err.Refusal.the-variants.{Done}
-use Rattle.answers.specs.Answers.{answerOf, done, say}
+use Rattle.answers.specs.Answers.{answerOf, say}
 use Rattle.answers.proofs.Endings.{is-done}
 use Rattle.answers.proofs.Passed.{Passing, both-pass, through, right}
-use Rattle.sizes.specs.Levels.{levelsOf}
+use Rattle.sizes.specs.Levels.{countAt, levelsOf}
 use Rattle.samples.specs.Le.{Bytes}
 use Rattle.dwt.specs.declared.filter.Filter.{Filter}
 use Rattle.dwt.specs.Filters.{widthOf, Integers}
-use Rattle.pyramid.specs.declared.head.Head.{Head}
 use Rattle.pyramid.specs.Files.{headSize, fileOf, fileSize}
-use Rattle.pyramid.specs.Opens.{headIn, startChecks, fieldChecks, sayOpen, Open}
+use Rattle.pyramid.specs.Opens.{headIn, startChecks, fieldChecks, levelIn, sayOpen, Open}
 use Rattle.pyramid.specs.Writes.{Write}
-use Rattle.pyramid.proofs.Opening.{open-head}
-use Rattle.cuts.proofs.Filed.{Filed}
-use Rattle.cuts.proofs.Kept.{written}
+use Rattle.pyramid.proofs.Opening.{open-head, open-says}
+use Rattle.cuts.proofs.Kept.{written, front-in}
 use Rattle.heads.specs.declared.HeadAnswer.{HeadAnswer}
-use Rattle.heads.specs.Heads.{sayHead, stored, Told}
+use Rattle.heads.specs.Heads.{sayHead, toldOf, Told, Tells}
 
 -- two results that the statement allows are equal
 pub told-decides : {s : List ℕ} {r q : HeadAnswer} → Told s r → Told s q → r ≡ q
@@ -35,43 +34,53 @@ told-decides m n = λ i. record {
   rate = (m .rate ∙ sym (n .rate)) i;
 }
 
--- a file whose start passes tells all fields as section 0 has them
-pub record Fields (t : HeadAnswer) (h : Head) : Type 0 where
-  pub answer : t .answer ≡ say 0 0 0
-  pub width : t .width ≡ h .width
-  pub levels : t .levels ≡ h .levels
-  pub samples : t .samples ≡ h .samples
-  pub point : t .point ≡ h .point
-
-pub told-fields : {s : List ℕ} {t : HeadAnswer} → Passing (startChecks s) → Told s t → Fields t (headIn s)
-unfolding sayHead
-told-fields {s} p m =
-    let e : sayHead s ≡ Done 0 0 = through (startChecks s) (Done 0 0) p in
-    let all : (n : ℕ) → stored s n ≡ n = λ n. ap (λ r. cond (done r) n 0) e in
+-- an answer that is done tells all fields as section 0 has them
+pub done-tells : {s : List ℕ} {t : HeadAnswer} → Told s t → t .answer .number ≡ 0 → Tells t (headIn s)
+done-tells {s} {t} m z =
+    let d = is-done (sayHead s) (t .answer) (m .answer) z in
+    let all : (n : ℕ) → toldOf s n ≡ n = λ n. ap (λ b. cond b n 0) d in
     record {
-      answer = m .answer ∙ ap answerOf e;
       width = m .width ∙ all (headIn s .width);
       levels = m .levels ∙ all (headIn s .levels);
       samples = m .samples ∙ all (headIn s .samples);
       point = m .point ∙ all (headIn s .point);
+      rate = m .rate;
     }
 
--- a file that opens tells the width and the point that it opens for
-pub opened-told : {s : List ℕ} {w p : ℕ} {o u v : List ℕ} {r : Answer} {o′ u′ v′ : List ℕ} {t : HeadAnswer} → Open s w p o u v r o′ u′ v′ → r .number ≡ 0 → Told s t
-    → Fields t (headIn s) × (t .width ≡ w) × (t .point ≡ p)
-opened-told {s} {w} {p} {o} {u} {v} {r} call z m =
-    let said = sayOpen s w p (length o) (length u) (length v) in
-    let q = both-pass (startChecks s) (fieldChecks (headIn s) w p) (open-head s w p (length o) (length u) (length v) (is-done said r (call .answer) z)) in
-    let f = told-fields (q .0) m in
-    (f, f .width ∙ right (headIn s .width) w (q .1 .0), f .point ∙ right (headIn s .point) p (q .1 .1 .1 .1 .1 .1 .1 .0))
+-- where the start of the file passes, the answer is done
+start-done : {s : List ℕ} {t : HeadAnswer} → Passing (startChecks s) → Told s t → t .answer ≡ say 0 0 0
+unfolding sayHead
+start-done {s} p m = m .answer ∙ ap answerOf (through (startChecks s) (Done 0 0) p)
 
--- the first c bytes of a written file, 14 or more, tell what was written
+-- a file that opens tells the width and the point that it opens for; the level that it opens at is one of its levels or 0, and the count is that of its samples
+-- at this level
+pub opened-told : {s : List ℕ} {w p : ℕ} {o u v : List ℕ} {r : Answer} {o′ u′ v′ : List ℕ} {t : HeadAnswer} → Open s w p o u v r o′ u′ v′ → r .number ≡ 0 → Told s t
+    → (t .answer ≡ say 0 0 0) × (t .width ≡ w) × (t .point ≡ p) × (r .first ≤ t .levels) × (r .second ≡ countAt (r .first) (t .samples))
+opened-told {s} {w} {p} {o} {u} {v} {r} {t = t} call z m =
+    let said = sayOpen s w p (length o) (length u) (length v) in
+    let d = is-done said r (call .answer) z in
+    let q = both-pass (startChecks s) (fieldChecks (headIn s) w p) (open-head s w p (length o) (length u) (length v) d) in
+    let a = start-done {s = s} {t = t} (q .0) m in
+    let f = done-tells m (ap (λ (b : Answer). b .number) a) in
+    let e = call .answer ∙ ap answerOf (open-says s w p (length o) (length u) (length v) d .0) in
+    let level = ap (λ (b : Answer). b .first) e in
+    let below : levelIn s ≤ headIn s .levels = omega arith in (
+      a,
+      f .width ∙ right (headIn s .width) w (q .1 .0),
+      f .point ∙ right (headIn s .point) p (q .1 .1 .1 .1 .1 .1 .1 .0),
+      omega (arith, level, below, f .levels),
+      ap (λ (b : Answer). b .second) e ∙ ap (λ (n : ℕ). countAt (levelIn s) n) (sym (f .samples)) ∙ ap (λ (l : ℕ). countAt l (t .samples)) (sym level),
+    )
+
+-- the first c bytes of what a done write left, 14 or more, tell what was written
 pub written-told : (f : Filter) (l p : ℕ) (x : List ℕ) → Integers f → Bytes x → p < 2 ^ 32 → (b u v : List ℕ) (a : Answer) (b′ u′ v′ : List ℕ)
     → Write f l p x b u v a b′ u′ v′ → a .number ≡ 0
-    → (c : ℕ) → headSize ≤ c → c ≤ fileSize headSize (widthOf f) (levelsOf l) (length x / widthOf f) → {t : HeadAnswer} → Told (take c (fileOf f (levelsOf l) p x)) t
-    → Fields t (record { width = widthOf f; levels = levelsOf l; samples = length x / widthOf f; point = p; body = headSize })
-written-told f l p x i bx hp b u v a b′ u′ v′ w z c h g {t} m =
+    → (c : ℕ) → headSize ≤ c → c ≤ fileSize headSize (widthOf f) (levelsOf l) (length x / widthOf f) → (t : HeadAnswer) → Told (take c b′) t
+    → (t .answer ≡ say 0 0 0) × Tells t (record { width = widthOf f; levels = levelsOf l; samples = length x / widthOf f; point = p; body = headSize })
+written-told f l p x i bx hp b u v a b′ u′ v′ w z c h g t m =
     let d = written f l p x i bx hp b u v a b′ u′ v′ w z in
     let s = take c (fileOf f (levelsOf l) p x) in
     let q = both-pass (startChecks s) (fieldChecks (headIn s) (widthOf f) p) (d .passes c h g) in
-    rw (d .head c h) at (told-fields {s = s} (q .0) m)
+    let m′ : Told s t = subst (λ (y : List ℕ). Told y t) (front-in f l p x i bx hp b u v a b′ u′ v′ w z c g) m in
+    let k = start-done {s = s} {t = t} (q .0) m′ in
+    (k, rw (d .head c h) at (done-tells m′ (ap (λ (b : Answer). b .number) k)))

@@ -10,6 +10,7 @@ use Rattle.answers.specs.Checks.{firstOf}
 use Rattle.sizes.specs.Levels.{levelsOf}
 use Rattle.samples.specs.Integers.{isWidth}
 use Rattle.dwt.specs.Calls.{depthChecks}
+use Rattle.pyramid.specs.declared.head.Head.{Head}
 use Rattle.pyramid.specs.Files.{headSize, fileSize}
 use Rattle.pyramid.specs.Opens.{headIn, filterOf, startChecks}
 use Rattle.heads.specs.declared.HeadAnswer.{HeadAnswer}
@@ -19,16 +20,24 @@ unfoldable pub sayHead : List ℕ → Refusal
 sayHead s = firstOf (startChecks s) (Done 0 0)
 
 -- "when refused the fields are 0"
-abbrev pub stored : List ℕ → ℕ → ℕ
-stored s n = cond (done (sayHead s)) n 0
+abbrev pub toldOf : List ℕ → ℕ → ℕ
+toldOf s n = cond (done (sayHead s)) n 0
 
 pub record Told (s : List ℕ) (r : HeadAnswer) : Type 0 where
   pub answer : r .answer ≡ answerOf (sayHead s)
-  pub width : r .width ≡ stored s (headIn s .width)
-  pub levels : r .levels ≡ stored s (headIn s .levels)
-  pub samples : r .samples ≡ stored s (headIn s .samples)
-  pub point : r .point ≡ stored s (headIn s .point)
+  pub width : r .width ≡ toldOf s (headIn s .width)
+  pub levels : r .levels ≡ toldOf s (headIn s .levels)
+  pub samples : r .samples ≡ toldOf s (headIn s .samples)
+  pub point : r .point ≡ toldOf s (headIn s .point)
   pub rate : r .rate ≡ 0
+
+-- a done answer t tells what h says
+pub record Tells (t : HeadAnswer) (h : Head) : Type 0 where
+  pub width : t .width ≡ h .width
+  pub levels : t .levels ≡ h .levels
+  pub samples : t .samples ≡ h .samples
+  pub point : t .point ≡ h .point
+  pub rate : t .rate ≡ 0
 
 -- "first is the file's size in bytes; refusals as writing's for that n and levels, and 8 (0, width) first where the width is not 1, 2 or 4"
 unfoldable pub saySize : ℕ → ℕ → ℕ → Refusal

@@ -197,6 +197,6 @@ odd-count n ne = ⊎-elim (λ (z : n % 2 < 1). absurd (ne (omega arith))) (λ (z
 pub carried-three : {f : Format} {t : Set} {x : List ℕ} {p q r : Float} (i : ℕ) → Carried f t x (i + 1) p q r → r ≡ getD (oddsThree f t x) i nan
 carried-three {f} {t} {x} i c = c .three ∙ ap (λ (k : ℕ). getD (oddsThree f t x) k nan) (omega arith)
 
--- and one that is not odd has as many approximations as details
-pub even-ups : (n : ℕ) → (n % 2 ≡ 1 → ⊥) → n / 2 ≡ (n + 1) / 2
-even-ups n ne = ⊎-elim (λ (z : n % 2 < 1). omega arith) (λ (z : 1 ≤ n % 2). absurd (ne (omega arith))) (lt-or-le (n % 2) 1)
+-- a length that is not odd has as many approximations as details
+pub even-halves : (n : ℕ) → (n % 2 ≡ 1 → ⊥) → n / 2 ≡ (n + 1) / 2
+even-halves n ne = ⊎-elim (λ (z : n % 2 < 1). omega arith) (λ (z : 1 ≤ n % 2). absurd (ne (omega arith))) (lt-or-le (n % 2) 1)

@@ -1,12 +1,11 @@
 -- Notes and their spans, from document 01: at which approximation a sample shows, and which samples an approximation spans.
 -- Samples and coefficients are plain numbers here; the code keeps them apart by their types.
-use mathlib.Core.Bool.{not}
 use mathlib.Core.List.{List, [], _∷_, _++_}
 use Prim.Native.Nat.{ℕ, _+_, _-_, _*_, _/_, _^_, _≤_, _<_, min}
 use lib.Dec.{ltb, eqb}
 use Rattle.answers.specs.declared.err.Refusal.{Refusal}
 use Rattle.answers.specs.declared.err.Refusal.the-variants.{Done, TooLong, NoSuchPlace}
-use Rattle.answers.specs.Checks.{Check, firstOf}
+use Rattle.answers.specs.Checks.{Check, firstOf, outside}
 use Rattle.sizes.specs.declared.Wavelet.the-variants.{Cdf53}
 use Rattle.sizes.specs.Lengths.{mostSamples}
 use Rattle.sizes.specs.Levels.{countAt, depthOf}
@@ -29,7 +28,7 @@ levelChecks n l =
 
 -- "13 (place, how many places)"
 abbrev pub placeChecks : ℕ → ℕ → List Check
-placeChecks place limit = (not (ltb place limit), NoSuchPlace place limit) ∷ []
+placeChecks place limit = outside place limit ∷ []
 
 -- "refusals: 6 (n), 13 (level, depth), 13 (place, how many places)"
 abbrev pub noteChecks : ℕ → ℕ → ℕ → ℕ → List Check

@@ -1,19 +1,19 @@
 -- Opening: what each part of the checks leaves when it passes, and that the levels which a cut left can be restored.
 use Rattle.answers.specs.declared.err.Refusal.{Refusal}
 use mathlib.Core.Bool.{Bool, true, false, cond}
-use mathlib.Core.List.{List, [], _∷_, _++_, append-nil}
+use mathlib.Core.List.{List, [], _∷_, _++_}
 use mathlib.Core.Logic.{⊎-elim}
-use mathlib.Core.Path.{_≡_, refl, sym, ap, subst, _∙_}
+use mathlib.Core.Path.{_≡_, refl, sym, ap}
 use Prim.Native.Nat.{ℕ, _+_, _-_, _*_, _/_, _≤_}
 use native.Mathlib.Nat.{mul-le-mul-left}
 use native.Mathlib.Omega.{arith}
 use borrow.Author.Tests.{eqb-false, not-false}
-use lib.Dec.{eqb, T}
+use lib.Dec.{eqb}
 use lib.ListN.{length}
 use Rattle.answers.specs.declared.err.Refusal.the-variants.{Done}
 use Rattle.answers.specs.Answers.{done}
 use Rattle.answers.specs.Checks.{ragged, Check, firstOf}
-use Rattle.answers.proofs.Passed.{Refusing, Passing, passing, both-refuse, both-pass, whole, roomy, right, through}
+use Rattle.answers.proofs.Passed.{Refusing, Passing, passing, both-refuse, both-pass, whole, roomy, right, through, pass-on, stop-there}
 use Rattle.sizes.specs.declared.Wavelet.the-variants.{Cdf53}
 use Rattle.sizes.specs.Lengths.{mostSamples}
 use Rattle.sizes.specs.Levels.{afterLevels, countAt, depthOf}
@@ -98,22 +98,6 @@ way-passes s k l n at (Short j) e h q =
 way-passes s k l n at (Wrong j found) e h q = absurd (let z : _≡_ {A = ℕ} 0 1 = ap (λ b. cond b 0 1) (q .0) in omega arith)
 
 -- ---- the file alone
-
--- checks that all pass leave the rest to decide; where one refuses, it has decided
-pub pass-on : (l m : List Check) (e : Refusal) → Passing l → firstOf (l ++ m) e ≡ firstOf m e
-pass-on [] m e h = refl
-pass-on (p ∷ l) m e h = ap (λ t. cond t (p .1) (firstOf (l ++ m) e)) (h .0) ∙ pass-on l m e (h .1)
-
-stop-there : (l m : List Check) (d e : Refusal) → done d ≡ true → done (firstOf l d) ≡ false → firstOf (l ++ m) e ≡ firstOf l d
-stop-there [] m d e z h = let w : true ≡ false = sym z ∙ h in absurd (subst T w tt)
-stop-there (p ∷ l) m d e z h = pick (p .0) (λ g. stop-there l m d e z g) h
-  where
-    pick : (t : Bool) → (done (firstOf l d) ≡ false → firstOf (l ++ m) e ≡ firstOf l d) → done (cond t (p .1) (firstOf l d)) ≡ false → cond t (p .1) (firstOf (l ++ m) e) ≡ cond t (p .1) (firstOf l d)
-    pick true f h = refl
-    pick false f h = f h
-
-pub other-end : (l : List Check) (d e : Refusal) → done d ≡ true → done (firstOf l d) ≡ false → firstOf l e ≡ firstOf l d
-other-end l d e z h = ap (λ (m : List Check). firstOf m e) (sym (append-nil l)) ∙ stop-there l [] d e z h
 
 module _ (s : List ℕ) (w p : ℕ) where
   pub file-refuses : Refusing (fileChecks s w p)

@@ -1,5 +1,4 @@
--- Writing a file: numbers stored one after the other, sections, sizes, what a done call has passed, its two ends, and that two results which its statement allows are
--- equal, the fronts of the work areas apart.
+-- Writing a file: numbers stored one after the other, sections, sizes, and what a done call has passed.
 -- Looks into no filter but for its width.
 use mathlib.Core.Bool.{true}
 use mathlib.Core.Path.{_≡_, refl, sym, ap, _∙_}

@@ -1,16 +1,15 @@
 -- `size` meets its contract: the width, then the levels, then the size.
 use borrow.Author.Needs.{needs}
 use borrow.Author.Tests.{not-true, not-false}
-use mathlib.Core.Bool.{true, not}
+use mathlib.Core.Bool.{not}
 use mathlib.Core.Path.{_≡_, refl, sym, ap, ap₂, _∙_}
-use Prim.Native.Nat.{ℕ, _≤_, _<_}
-use native.Mathlib.Omega.{arith}
+use Prim.Native.Nat.{ℕ}
 use Rattle.answers.specs.declared.err.Refusal.{Refusal}
-use Rattle.answers.specs.declared.err.Refusal.the-variants.{Done, OtherWidth}
+use Rattle.answers.specs.declared.err.Refusal.the-variants.{Done}
 use Rattle.answers.specs.Answers.{answerOf, done}
 use Rattle.answers.specs.Checks.{firstOf}
 use Rattle.answers.proofs.Chain.{by, stop}
-use Rattle.answers.proofs.Passed.{Passing, passing, through, roomy}
+use Rattle.answers.proofs.Passed.{Passing, passing, through, roomy, other-end}
 use Rattle.sizes.specs.Lengths.{mostSamples}
 use Rattle.sizes.specs.Levels.{levelsOf, depthOf}
 use Rattle.dwt.specs.declared.filter.Filter.{Filter}
@@ -18,8 +17,7 @@ use Rattle.dwt.specs.Filters.{waveletOf, widthOf}
 use Rattle.dwt.specs.Calls.{depthChecks}
 use Rattle.dwt.proofs.Multi.{depth-refuse}
 use Rattle.pyramid.specs.Files.{headSize, fileSize}
-use Rattle.pyramid.specs.Opens.{filterOf}
-use Rattle.pyramid.proofs.Opening.{filter-width, other-end}
+use Rattle.pyramid.proofs.Opening.{filter-width}
 use Rattle.pyramid.proofs.Writing.{few-levels}
 use Rattle.heads.specs.Heads.{saySize}
 use Rattle.heads.proofs.size.Statement.{statement}

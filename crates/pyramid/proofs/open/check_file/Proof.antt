@@ -9,11 +9,11 @@ use Rattle.answers.specs.declared.err.Refusal.{Refusal}
 use Rattle.answers.specs.declared.err.Refusal.the-variants.{Done}
 use Rattle.answers.specs.Answers.{done}
 use Rattle.answers.specs.Checks.{firstOf}
-use Rattle.answers.proofs.Passed.{Passing, passing, through, say-rest, say-stop}
+use Rattle.answers.proofs.Passed.{Passing, passing, through, say-rest, say-stop, other-end}
 use Rattle.sizes.specs.Levels.{countAt}
 use Rattle.pyramid.specs.declared.head.Head.{Head}
 use Rattle.pyramid.specs.Opens.{headIn, headChecks, wayIn, wayChecks, wholeDetails, levelIn, countIn, sayFile}
-use Rattle.pyramid.proofs.Opening.{other-end, Headed, head-refuses, head-passes, way-refuses, way-passes}
+use Rattle.pyramid.proofs.Opening.{Headed, head-refuses, head-passes, way-refuses, way-passes}
 use Rattle.pyramid.proofs.open.check_file.Statement.{statement}
 use Rattle.pyramid.proofs.open.check_file.Tie as tie
 

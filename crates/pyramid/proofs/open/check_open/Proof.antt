@@ -10,10 +10,10 @@ use Rattle.answers.specs.declared.err.Refusal.{Refusal}
 use Rattle.answers.specs.declared.err.Refusal.the-variants.{Done}
 use Rattle.answers.specs.Answers.{answerOf, done}
 use Rattle.answers.specs.Checks.{Check, firstOf}
-use Rattle.answers.proofs.Passed.{passing, through, say-rest, say-stop}
+use Rattle.answers.proofs.Passed.{passing, through, say-rest, say-stop, other-end}
 use Rattle.samples.proofs.IntegerLaws.{width-of}
 use Rattle.pyramid.specs.Opens.{fileChecks, levelIn, countIn, sayFile, areaChecks, roomsFor, sayOpen}
-use Rattle.pyramid.proofs.Opening.{other-end, area-refuses, file-says, file-headed, file-rest, file-stop}
+use Rattle.pyramid.proofs.Opening.{area-refuses, file-says, file-headed, file-rest, file-stop}
 use Rattle.pyramid.proofs.open.check_open.Statement.{statement}
 use Rattle.pyramid.proofs.open.check_open.Tie as tie
 
