@@ -1,15 +1,18 @@
 /*
  * A small review desk over Beksanour, in plain C99 (it compiles as C++17 too).
  *
- *   cc examples/desk.c $(pkg-config --cflags --libs beksanour) -o desk        (after install.sh)
+ *   ./install.sh PREFIX
+ *   export PKG_CONFIG_PATH=PREFIX/lib/pkgconfig LD_LIBRARY_PATH=PREFIX/lib
+ *   cc examples/desk.c $(pkg-config --cflags --libs beksanour) -o desk
  *
  *   desk          a tour: three recordings are made, kept as pyramid files, cut, opened, drawn and marked with notes, and then
- *                 the library is made to refuse in every way that it has
+ *                 the library is made to refuse with every refusal's number
  *   desk FILE     what a pyramid file says of itself, the level that it opens at, and its overview
  *   desk --help   this
  *
  * It ends with 0 when all went well; `desk FILE` ends with the number of the refusal, 1 to 13, where the library refuses the
- * file. 64: the call is wrong, or the file cannot be read. 70: no memory, or an answer that was not expected.
+ * file. 64: the call is wrong, or the file cannot be read. 70: no memory, an answer that was not expected, or what it prints
+ * could not be written.
  */
 #include <stdio.h>
 #include <stdlib.h>
@@ -17,7 +20,7 @@
 
 #include "beksanour.h"
 
-enum { COLUMNS = 64, ROWS = 9, BAD_CALL = 64, BAD_TURN = 70 };
+enum { COLUMNS = 64, ROWS = 9, NOTES = 8, BAD_CALL = 64, BAD_TURN = 70 };
 
 /* ---- small helpers */
 
@@ -294,10 +297,14 @@ static void tour_sections(const pyramid_file *f) {
     }
 }
 
-/* Notes at some samples of a recording: their columns below its overview, and the samples that each column stands for. */
+/* At most NOTES notes at samples of a recording: their columns below its overview, and the samples that each column stands for. */
 static void tour_notes(const opened *o, const uint64_t *notes, size_t count) {
-    uint64_t columns[8];
+    uint64_t columns[NOTES];
     size_t i;
+    if (count > NOTES) {
+        fprintf(stderr, "desk: more than %d notes\n", (int)NOTES);
+        exit(BAD_TURN);
+    }
     for (i = 0; i < count; i++) {
         bk_answer a = bk_note_column(o->head.samples, o->level, notes[i]);
         expect("placing a note", a, BK_DONE);
@@ -480,10 +487,19 @@ static int show_file(const char *name) {
     return number;
 }
 
-int main(int argc, char **argv) {
+static int run(int argc, char **argv) {
     if (argc == 1) return tour();
     if (argc == 2 && argv[1][0] != '-') return show_file(argv[1]);
     printf("usage: desk          a tour of the library\n"
            "       desk FILE     what a pyramid file shows; ends with the refusal's number, or 0\n");
     return argc == 2 && (strcmp(argv[1], "--help") == 0 || strcmp(argv[1], "-h") == 0) ? 0 : BAD_CALL;
+}
+
+int main(int argc, char **argv) {
+    int status = run(argc, argv);
+    if (fflush(stdout) != 0 || ferror(stdout)) {
+        fprintf(stderr, "desk: the output cannot be written\n");
+        return BAD_TURN;
+    }
+    return status;
 }

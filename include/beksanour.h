@@ -7,10 +7,11 @@
  * slice still has a pointer that is not null. Samples are little-endian and need no alignment: on a little-endian machine an
  * array `int16_t x[n]` is lent as `(const uint8_t *)x, sizeof x`.
  *
- * `install.sh PREFIX` installs this header, the library and beksanour.pc, for x86-64: then
- * `cc desk.c $(pkg-config --cflags --libs beksanour)`. Without it, `rt staticlib desk` writes the same library to
- * target/staticlib/libdesk.a. examples/desk.c is a program that uses most of what is here. CHANGELOG.md says what a caller must
- * change from one version to the next.
+ * `install.sh PREFIX` installs this header, the library and beksanour.pc, for x86-64 Linux. Then, with PREFIX/lib/pkgconfig in
+ * PKG_CONFIG_PATH, `cc examples/desk.c $(pkg-config --cflags --libs beksanour)` links the shared library, which a program finds
+ * with PREFIX/lib in LD_LIBRARY_PATH; `cc examples/desk.c -IPREFIX/include PREFIX/lib/libbeksanour.a` links the static one.
+ * Without an installation, `rt staticlib desk` writes the same library to target/staticlib/libdesk.a. examples/desk.c is a
+ * program that uses the files, notes and windows. CHANGELOG.md says what a caller must change from one version to the next.
  *
  * The calls, in the order of this file; T is the kind of a sample, i8, i16, i32, f32 or f64 (9/7: f32 or f64):
  *   bk_refusal_name, bk_refusal_sentence           a refusal in words
@@ -40,8 +41,9 @@
  * that are merely too short.
  *
  * A file whose width and point are not known. bk_pyramid_head reads them; hand them to bk_pyramid_open, which then refuses the
- * file only for what is wrong in it. The head's samples is the n that bk_note_column and bk_note_span ask for: the length of
- * the whole recording, also where the file was cut and opens with fewer.
+ * file only for what is wrong in it, or for the areas (7, 9). A head's width may be any byte, 0 too: bk_pyramid_open refuses it
+ * with 8 if it is not 1, 2 or 4. Check it before you divide by it, or probe with empty areas. The head's samples is the n that
+ * bk_note_column and bk_note_span ask for: the length of the whole recording, also where the file was cut and opens with fewer.
  *
  * Opening at a chosen level l, 1 to the head's levels. Ask bk_pyramid_section for section levels + 1 - l, and lend
  * bk_pyramid_open only the front of the file through that section, which is first + second bytes: it opens at level l, with m
@@ -51,8 +53,11 @@
  * Columns. A column is an approximation of a level from 1 on. Level 0 is the recording itself and has no columns, so
  * bk_note_column and bk_note_span refuse level 0: there sample s stands at place s.
  *
- * Damage. A file has no checksum. That it is short, or that one of its counts is wrong, is found; a bit that flipped among the
- * samples of a section is not, and the file opens as other samples. Keep a checksum beside it where that matters.
+ * Damage. A file has no checksum. That it is short shows in the level that it opens at, or it is refused with 10. A section's
+ * count that is there whole and is wrong, which is not what n and the levels give, is found. What section 0 says is checked only
+ * against itself, what is asked and the counts: in a file that was cut a changed number of samples need not be found, and where
+ * width and point are taken from the head, a changed width need not be found and a changed point never is. A bit that flipped
+ * among the samples of a section is not found, and the file opens as other samples. Keep a checksum beside it where that matters.
  *
  * Floats. The bits that the float calls promise hold while the processor rounds to nearest even and keeps subnormal numbers, as
  * it does unless told otherwise. A program that flushes subnormals to zero changes them; so does one that is linked with
@@ -162,8 +167,10 @@ bk_answer bk_cdf97_depth(uint64_t n);
 
 /*
  * One level of integer 5/3 of the samples in `input`, 8, 16 or 32 bits each, little-endian, two's complement: their ceil(n/2)
- * approximations into `approx`, their floor(n/2) details into `details`. Every coefficient is kept modulo two to the width, and
- * the inverse still gives every sample back.
+ * approximations into `approx`, their floor(n/2) details into `details`. These are d[i] = x[2i+1] - floor((x[2i] + x[2i+2]) / 2),
+ * then a[i] = x[2i] + floor((d[i-1] + d[i] + 2) / 4), where an even sample after the last is the last, d[-1] is d[0], and a detail
+ * after the last is the last. Sums are exact; every coefficient is kept modulo 2^8, 2^16 or 2^32, as a signed number, and a is
+ * made from the details that were kept. The inverse takes the same steps back, and gives every sample back also where one wrapped.
  *
  * Refused, in this order:
  *   9 (0, length)   a slice's byte length is no multiple of the width: the first of input, approx, details
@@ -198,12 +205,19 @@ bk_answer bk_cdf53_inverse_i32(const uint8_t *approx, size_t approx_bytes, const
 
 /*
  * One level of float 5/3 or 9/7 of the samples in `input`, 32 or 64 bits each, IEEE 754, little-endian: their ceil(n/2)
- * approximations into `approx`, their floor(n/2) details into `details`. 5/3 is d[i] = (x[2i] + x[2i+2]) * -0.5 + x[2i+1], then
- * a[i] = (d[i-1] + d[i]) * 0.25 + x[2i], where an even sample after the last is the last, d[-1] is d[0], and a detail after the
- * last is the last; 9/7 is four such steps and then a scaling of both bands, with osclet's six factors. Each addition and each
- * multiplication is rounded once, to nearest even, and none is fused: the bits are what these steps give, the same on every
- * machine. Every bit pattern is taken, and nothing is refused for what a sample is. A result that is NaN is written as 7FC00000
- * or 7FF8000000000000.
+ * approximations into `approx`, their floor(n/2) details into `details`.
+ *
+ * To begin with a[i] is x[2i] and d[i] is x[2i+1]. A step "odds c" makes every d[i] (a[i] + a[i+1]) * c + d[i], a step "evens c"
+ * makes every a[i] (d[i-1] + d[i]) * c + a[i], where an a after the last is the last, d[-1] is d[0], and a d after the last is the
+ * last.
+ *   5/3   odds -0.5, evens 0.25
+ *   9/7   odds alpha, evens beta, odds gamma, evens delta, then every a[i] * k and every d[i] * invk, with osclet's six factors:
+ *         alpha = -1.5861343420693648   beta  = -0.0529801185718856   gamma = 0.8829110755411875
+ *         delta = 0.4435068520511142    k     = 1.1496043988602418    invk  = 0.86986445162478079
+ *         as f64, the nearest to what is written; in f32 these f64 rounded once to f32
+ * Each addition and each multiplication is rounded once, to nearest even, and none is fused: the bits are what these steps give,
+ * the same on every machine. Every bit pattern is taken, and nothing is refused for what a sample is. A result that is NaN is
+ * written as 7FC00000 or 7FF8000000000000.
  *
  * Refused, in this order:
  *   9 (0, length)   a slice's byte length is no multiple of the width: the first of input, approx, details
@@ -438,10 +452,11 @@ bk_head bk_pyramid_head(const uint8_t *file, size_t file_bytes);
  * The samples of the finest level that a pyramid file, or the front of one that was cut, has whole, into `output`: its
  * approximations at that level, or at level 0 the recording itself. `width`, in bytes, and `point` are those that the file
  * must have. A file cut in section 1 is refused; one cut later ends there, and the broken section is ignored.
- * Done: first is the level, second the count of samples, n halved, rounded up, so many times as the level says. Room for
- * file_bytes / width samples is always enough; with empty areas a file that opens is refused with 7 (0, count). Samples in
- * `output` past the count are as they were. `work1` and `work2` are room; what their first count samples hold after a done call
- * is not said, and what is beyond them is as it was.
+ * Done: first is the level, second the count of samples, n halved, rounded up, so many times as the level says. With empty areas
+ * a file that opens is refused with 7 (0, count). Room for file_bytes / width samples is always enough, where the width is 1, 2 or
+ * 4: one that comes from a head may be any byte, so check it before you divide by it. Samples in `output` past the count are as
+ * they were. `work1` and `work2` are room; what their first count samples hold after a done call is not said, and what is beyond
+ * them is as it was.
  *
  * Refused, in this order:
  *   9 (0, length)         a slice's byte length is no multiple of the width asked: the first of output, work1, work2; not asked
