@@ -13,13 +13,13 @@ use Rattle.sizes.specs.Lengths.{mostSamples}
 use Rattle.sizes.specs.Levels.{depthOf, levelsOf}
 use Rattle.sizes.proofs.OneLevel.{count-is}
 use Rattle.samples.specs.Le.{Bytes}
+use Rattle.dwt.proofs.Integers.{own-depth}
 use Rattle.dwt.specs.declared.filter.Filter.{Filter}
 use Rattle.dwt.specs.Filters.{widthOf, Integers}
 use Rattle.dwt.specs.Calls.{Ready}
 use Rattle.dwt.specs.Backward.{Area}
 use Rattle.dwt.proofs.Cuts.{width-pos}
 use Rattle.dwt.proofs.Multi.{levels-pos}
-use Rattle.trips.proofs.Undone.{own-depth}
 use Rattle.pyramid.specs.Files.{headSize, fileSize}
 use Rattle.pyramid.specs.Writes.{sayWrite, Write}
 use Rattle.cuts.specs.Sees.{Openings}

@@ -1,8 +1,7 @@
 -- A file of a recording: a section 0 of z bytes that says so, and the sections of its levels. What the laws of a file that was cut ask of section 0 is here;
 -- `WrittenHead` has that a written file is such a one.
-use mathlib.Core.Bool.{true}
 use mathlib.Core.List.{List, [], _++_, append-nil}
-use mathlib.Core.Path.{_≡_, refl, sym, ap, _∙_}
+use mathlib.Core.Path.{_≡_, sym, ap, _∙_}
 use Prim.Native.Nat.{ℕ, _+_, _-_, _*_, _^_, _≤_, _<_}
 use native.Mathlib.Omega.{arith}
 use lib.ListN.{length, take}
@@ -15,9 +14,7 @@ use Rattle.sizes.specs.declared.Wavelet.the-variants.{Cdf53}
 use Rattle.sizes.specs.Lengths.{mostSamples}
 use Rattle.sizes.specs.Levels.{depthOf}
 use Rattle.samples.specs.Le.{Bytes}
-use Rattle.samples.specs.Integers.{isWidth}
 use Rattle.dwt.specs.declared.filter.Filter.{Filter}
-use Rattle.dwt.specs.declared.filter.Filter.the-variants.{Cdf53I8, Cdf53I16, Cdf53I32, Cdf53F32, Cdf53F64, Cdf97F32, Cdf97F64}
 use Rattle.dwt.specs.Filters.{widthOf, Integers}
 use Rattle.pyramid.specs.Files.{bodyOf, fileSize}
 use Rattle.pyramid.specs.Opens.{headIn, headChecks}
@@ -33,21 +30,6 @@ pub record Recording (f : Filter) (l n p : ℕ) (x : List ℕ) : Type 0 where
   pub some : 1 ≤ l
   pub deep : l ≤ depthOf Cdf53 n
   pub point : p < 2 ^ 32
-
--- what the integer filters have in common
-pub record Common (f : Filter) : Type 0 where
-  pub width : isWidth (widthOf f) ≡ true
-  pub narrow : widthOf f ≤ 4
-
--- each of them has it
-pub common : (f : Filter) → Integers f → Common f
-common Cdf53I8 i = record { width = refl; narrow = omega arith }
-common Cdf53I16 i = record { width = refl; narrow = omega arith }
-common Cdf53I32 i = record { width = refl; narrow = omega arith }
-common Cdf53F32 i = absurd i
-common Cdf53F64 i = absurd i
-common Cdf97F32 i = absurd i
-common Cdf97F64 i = absurd i
 
 -- s is a file of a recording
 pub record Filed (z : ℕ) (f : Filter) (l n p : ℕ) (x s : List ℕ) : Type 0 where

@@ -20,10 +20,10 @@ use Rattle.sizes.specs.Lengths.{mostSamples}
 use Rattle.sizes.specs.Levels.{depthOf, levelsOf}
 use Rattle.sizes.proofs.Depths.{step}
 use Rattle.samples.specs.Le.{Bytes}
+use Rattle.dwt.proofs.Integers.{wavelet-is}
 use Rattle.dwt.specs.declared.filter.Filter.{Filter}
 use Rattle.dwt.specs.Filters.{widthOf, waveletOf, Integers}
 use Rattle.dwt.proofs.Multi.{levels-pos, shallow-refused}
-use Rattle.trips.proofs.Undone.{wavelet-is}
 use Rattle.pyramid.specs.Files.{headSize, fileOf, fileSize}
 use Rattle.pyramid.specs.Opens.{Open}
 use Rattle.pyramid.specs.Writes.{writeChecks, sayWrite, Write}

@@ -13,3 +13,4 @@ pub mod WriteFits
 pub mod Demand3
 pub mod OpenT800
 pub mod SectionCalls
+pub mod HeadCalls

@@ -12,10 +12,10 @@ use Rattle.sizes.specs.Levels.{countAt, depthOf}
 use Rattle.samples.specs.Le.{Bytes}
 use Rattle.samples.specs.Integers.{wrap, decode, encode}
 use Rattle.trips.specs.T800Levels.{lowsAt}
+use Rattle.dwt.proofs.Integers.{own-depth}
 use Rattle.dwt.specs.declared.filter.Filter.{Filter}
 use Rattle.dwt.specs.Filters.{widthOf, waveletOf, Integers}
 use Rattle.dwt.specs.Backward.{Area}
-use Rattle.trips.proofs.Undone.{own-depth}
 use Rattle.trips.proofs.T800Levels.{level-t800}
 use Rattle.pyramid.specs.Files.{headSize, fileSize}
 use Rattle.pyramid.specs.Opens.{Open}

@@ -18,11 +18,11 @@ use Rattle.order.proofs.Order.{lt-or-le}
 use Rattle.answers.proofs.Passed.{Passing, pass-both, through, pass-on}
 use Rattle.sizes.specs.Levels.{countAt}
 use Rattle.samples.specs.Integers.{isWidth}
+use Rattle.dwt.proofs.Integers.{own-depth, common}
 use Rattle.dwt.specs.declared.filter.Filter.{Filter}
 use Rattle.dwt.specs.Filters.{widthOf}
 use Rattle.dwt.specs.Pyramids.{approxAt}
 use Rattle.dwt.proofs.Cuts.{width-pos}
-use Rattle.trips.proofs.Undone.{own-depth}
 use Rattle.pyramid.specs.declared.head.Head.{Head}
 use Rattle.pyramid.specs.declared.walk.Way.{Way}
 use Rattle.pyramid.specs.Files.{bodyOf, bodySize, fileSize}
@@ -32,7 +32,7 @@ use Rattle.cuts.specs.Sees.{Sampled, Roomy, OpensTo, needed, wholeOf, wh
 use Rattle.cuts.proofs.Sized.{body-length}
 use Rattle.cuts.proofs.CutWalk.{walk-cut, within-whole}
 use Rattle.cuts.proofs.Restored.{restored-cut, whole-all}
-use Rattle.cuts.proofs.Filed.{Filed, cut-parts, cut-length, common}
+use Rattle.cuts.proofs.Filed.{Filed, cut-parts, cut-length}
 use Rattle.cuts.proofs.Whole.{first-most, within-none, within-short, whole-is}
 
 areas-pass : (k o u v : ℕ) → isWidth k ≡ true → Sampled k o u v → Passing (areaChecks k o u v)

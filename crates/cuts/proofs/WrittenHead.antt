@@ -19,6 +19,7 @@ use Rattle.sizes.specs.Levels.{depthOf}
 use Rattle.sizes.proofs.Depths.{depth-at-most}
 use Rattle.samples.specs.Le.{leAt, leBytes}
 use Rattle.samples.proofs.LeLaws.{leAt-take}
+use Rattle.dwt.proofs.Integers.{common}
 use Rattle.dwt.specs.declared.filter.Filter.{Filter}
 use Rattle.dwt.specs.Filters.{widthOf}
 use Rattle.pyramid.specs.declared.head.Head.{Head}
@@ -26,7 +27,7 @@ use Rattle.pyramid.specs.Files.{mostBytes, headCount, headOf, headSize, bodyOf,
 use Rattle.pyramid.specs.Opens.{headIn, fieldChecks, headChecks}
 use Rattle.pyramid.proofs.Writing.{head-length, file-parts}
 use Rattle.cuts.proofs.Sized.{file-length}
-use Rattle.cuts.proofs.Filed.{Recording, common, Filed}
+use Rattle.cuts.proofs.Filed.{Recording, Filed}
 
 module _ {f : Filter} {l n p : ℕ} {x : List ℕ} (r : Recording f l n p x) where
   abbrev k : ℕ
@@ -40,7 +41,7 @@ module _ {f : Filter} {l n p : ℕ} {x : List ℕ} (r : Recording f l n p x) whe
 
   -- its levels are few
   few : l ≤ 23
-  few = omega (arith, r .deep, depth-at-most 23 n (r .most))
+  few = omega (arith, r .deep, depth-at-most Cdf53 23 n (r .most))
 
   -- so it is not too long
   most : fileSize headSize k l n ≤ mostBytes

@@ -7,3 +7,4 @@ pub mod Multi
 pub mod LevelsBack
 pub mod Backs
 pub mod LastLevel
+pub mod Integers

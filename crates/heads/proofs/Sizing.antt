@@ -16,22 +16,20 @@ use Rattle.answers.specs.Checks.{Check, firstOf, ragged, tight, twoAreas}
 use Rattle.answers.proofs.Chain.{by, stop}
 use Rattle.answers.proofs.Endings.{is-done, not-done}
 use Rattle.answers.proofs.Passed.{Passing, passing, pass-both, pass-on, other-end, then-stop, through, roomy}
-use Rattle.sizes.specs.declared.Wavelet.{Wavelet}
 use Rattle.sizes.specs.Lengths.{mostSamples}
 use Rattle.sizes.specs.Levels.{depthOf, levelsOf}
 use Rattle.sizes.proofs.Depths.{depth-at-most}
 use Rattle.sizes.proofs.OneLevel.{whole-passes, count-is}
+use Rattle.dwt.proofs.Integers.{common}
 use Rattle.dwt.specs.declared.filter.Filter.{Filter}
 use Rattle.dwt.specs.declared.filter.Filter.the-variants.{Cdf53I8, Cdf53I16, Cdf53I32, Cdf53F32, Cdf53F64, Cdf97F32, Cdf97F64}
 use Rattle.dwt.specs.Filters.{widthOf, waveletOf, Integers}
 use Rattle.dwt.specs.Calls.{depthChecks}
 use Rattle.dwt.proofs.Cuts.{width-pos}
 use Rattle.dwt.proofs.Multi.{depth-refuse}
-use Rattle.trips.proofs.Undone.{wavelet-is}
 use Rattle.pyramid.specs.Files.{mostBytes, headSize, fileSize}
 use Rattle.pyramid.specs.Opens.{filterOf}
 use Rattle.pyramid.specs.Writes.{writeChecks, sayWrite, Write}
-use Rattle.cuts.proofs.Filed.{common}
 use Rattle.heads.specs.Heads.{saySize}
 
 own-filter : (f : Filter) → Integers f → filterOf (widthOf f) ≡ f
@@ -59,11 +57,10 @@ module _ (f : Filter) (i : Integers f) (l n : ℕ) where
       let p = size-passes (is-done (saySize (widthOf f) n l) s told z) in
       let e = told ∙ ap answerOf (size-says ∙ through (depthChecks f l n) (Done (fileSize headSize (widthOf f) (levelsOf l) n) 0) p) in
       let most = roomy mostSamples n (p .0) in
-      let few = depth-at-most 23 n most in
+      let few = depth-at-most (waveletOf f) 23 n most in
       let deep = roomy (depthOf (waveletOf f) n) (levelsOf l) (p .1 .0) in
-      let same = ap (λ (w : Wavelet). depthOf w n) (wavelet-is f i) in
       let narrow = mul-le-mul-right n (common f i .narrow) in
-      (e, omega (arith, ap (λ (a : Answer). a .first) e, few, deep, same, most, narrow))
+      (e, omega (arith, ap (λ (a : Answer). a .first) e, few, deep, most, narrow))
 
 -- n samples in x, a file area b, and work areas u and v of p and q samples
 module _ (f : Filter) (i : Integers f) (l n : ℕ) (x b u v : List ℕ) (p q : ℕ) (ex : length x ≡ widthOf f * n) (eu : length u ≡ widthOf f * p) (ev : length v ≡ widthOf f * q) where

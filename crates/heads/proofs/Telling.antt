@@ -1,25 +1,19 @@
--- What the head of a file tells beside opening and writing: a file that opens tells the width and the point that it opens for and the number of samples that its
--- count comes from, and the front of a written file tells what was written, cut as it may be.
+-- What the head of a file tells beside opening: a file that opens tells the width and the point that it opens for, and the number of samples that its count comes
+-- from.
 use mathlib.Core.Bool.{cond}
 use mathlib.Core.List.{List}
-use mathlib.Core.Path.{_≡_, sym, ap, subst, _∙_}
-use Prim.Native.Nat.{ℕ, _-_, _/_, _^_, _≤_, _<_}
+use mathlib.Core.Path.{_≡_, sym, ap, _∙_}
+use Prim.Native.Nat.{ℕ, _-_, _≤_}
 use native.Mathlib.Omega.{arith}
-use lib.ListN.{length, take}
+use lib.ListN.{length}
 use Rattle.answers.specs.declared.err.Answer.{Answer}
 use Rattle.answers.specs.declared.err.Refusal.the-variants.{Done}
 use Rattle.answers.specs.Answers.{answerOf, say}
 use Rattle.answers.proofs.Endings.{is-done}
 use Rattle.answers.proofs.Passed.{Passing, both-pass, through, right}
-use Rattle.sizes.specs.Levels.{countAt, levelsOf}
-use Rattle.samples.specs.Le.{Bytes}
-use Rattle.dwt.specs.declared.filter.Filter.{Filter}
-use Rattle.dwt.specs.Filters.{widthOf, Integers}
-use Rattle.pyramid.specs.Files.{headSize, fileOf, fileSize}
+use Rattle.sizes.specs.Levels.{countAt}
 use Rattle.pyramid.specs.Opens.{headIn, startChecks, fieldChecks, levelIn, sayOpen, Open}
-use Rattle.pyramid.specs.Writes.{Write}
 use Rattle.pyramid.proofs.Opening.{open-head, open-says}
-use Rattle.cuts.proofs.Kept.{written, front-in}
 use Rattle.heads.specs.declared.HeadAnswer.{HeadAnswer}
 use Rattle.heads.specs.Heads.{sayHead, toldOf, Told, Tells}
 
@@ -48,7 +42,7 @@ done-tells {s} {t} m z =
     }
 
 -- where the start of the file passes, the answer is done
-start-done : {s : List ℕ} {t : HeadAnswer} → Passing (startChecks s) → Told s t → t .answer ≡ say 0 0 0
+pub start-done : {s : List ℕ} {t : HeadAnswer} → Passing (startChecks s) → Told s t → t .answer ≡ say 0 0 0
 unfolding sayHead
 start-done {s} p m = m .answer ∙ ap answerOf (through (startChecks s) (Done 0 0) p)
 
@@ -71,16 +65,3 @@ opened-told {s} {w} {p} {o} {u} {v} {r} {t = t} call z m =
       omega (arith, level, below, f .levels),
       ap (λ (b : Answer). b .second) e ∙ ap (λ (n : ℕ). countAt (levelIn s) n) (sym (f .samples)) ∙ ap (λ (l : ℕ). countAt l (t .samples)) (sym level),
     )
-
--- the first c bytes of what a done write left, 14 or more, tell what was written
-pub written-told : (f : Filter) (l p : ℕ) (x : List ℕ) → Integers f → Bytes x → p < 2 ^ 32 → (b u v : List ℕ) (a : Answer) (b′ u′ v′ : List ℕ)
-    → Write f l p x b u v a b′ u′ v′ → a .number ≡ 0
-    → (c : ℕ) → headSize ≤ c → c ≤ fileSize headSize (widthOf f) (levelsOf l) (length x / widthOf f) → (t : HeadAnswer) → Told (take c b′) t
-    → (t .answer ≡ say 0 0 0) × Tells t (record { width = widthOf f; levels = levelsOf l; samples = length x / widthOf f; point = p; body = headSize })
-written-told f l p x i bx hp b u v a b′ u′ v′ w z c h g t m =
-    let d = written f l p x i bx hp b u v a b′ u′ v′ w z in
-    let s = take c (fileOf f (levelsOf l) p x) in
-    let q = both-pass (startChecks s) (fieldChecks (headIn s) (widthOf f) p) (d .passes c h g) in
-    let m′ : Told s t = subst (λ (y : List ℕ). Told y t) (front-in f l p x i bx hp b u v a b′ u′ v′ w z c g) m in
-    let k = start-done {s = s} {t = t} (q .0) m′ in
-    (k, rw (d .head c h) at (done-tells m′ (ap (λ (b : Answer). b .number) k)))

@@ -6,11 +6,11 @@ use native.Mathlib.Nat.{add-sub-cancel-left}
 use native.Mathlib.Omega.{arith}
 use lib.ListN.{length, take, drop, length-drop}
 use lib.Seq.{length-take-le}
+use Rattle.dwt.proofs.Integers.{each-width}
 use Rattle.dwt.specs.declared.filter.Filter.{Filter}
 use Rattle.sizes.specs.Lengths.{approxLength, detailsLength}
 use Rattle.cdf53i.specs.Bands.{back}
 use Rattle.dwt.specs.Filters.{widthOf, backOf, Integers}
-use Rattle.trips.proofs.Undone.{each-width}
 use Rattle.pyramid.specs.Files.{bodySize}
 use Rattle.pyramid.specs.Walks.{bytesAt, restoredAt}
 

@@ -19,17 +19,15 @@ use Rattle.samples.proofs.Words.{holds}
 use Rattle.samples.proofs.LeLaws.{length-leBytes, length-stored, stored-is}
 use Rattle.sizes.specs.declared.Wavelet.{Wavelet}
 use Rattle.sizes.specs.Lengths.{mostSamples, approxLength, detailsLength}
-use Rattle.sizes.specs.Levels.{countAt, depthOf, levelsOf}
+use Rattle.sizes.specs.Levels.{depthOf, levelsOf}
+use Rattle.sizes.proofs.Depths.{depth-at-most}
 use Rattle.dwt.specs.declared.filter.Filter.{Filter}
 use Rattle.dwt.specs.declared.filter.Filter.the-variants.{Cdf53I8, Cdf53I16, Cdf53I32, Cdf53F32, Cdf53F64, Cdf97F32, Cdf97F64}
 use Rattle.dwt.specs.Filters.{widthOf, waveletOf, lowOf, highOf}
-use Rattle.dwt.specs.Pyramids.{lengthsOf}
 use Rattle.dwt.specs.Calls.{Ready}
 use Rattle.dwt.proofs.Cuts.{width-pos, split-width}
 use Rattle.dwt.proofs.Multi.{levels-pos, shallow-refused}
 use Rattle.dwt.proofs.Lists.{put-end, later}
-use Rattle.trips.proofs.Lengths.{length-lengths, count-at-total}
-use Rattle.trips.proofs.Fitting.{lengths-fit, few-lengths}
 use Rattle.pyramid.specs.Files.{sectionOf, headCount, headOf, headSize, bodyOf, bodySize, fileSize, fileOf}
 use Rattle.pyramid.specs.Writes.{writeChecks, sayWrite}
 
@@ -46,9 +44,7 @@ width-byte Cdf97F64 = omega arith
 
 -- levels within the depth fit a byte
 pub few-levels : (w : Wavelet) (l n : ℕ) → l ≤ depthOf w n → n ≤ mostSamples → l < 256
-few-levels w l n h s =
-    let t = count-at-total l n in
-    omega (arith, length-lengths l n, few-lengths w (countAt l n) (lengthsOf l n) (lengths-fit w l n h) (omega arith))
+few-levels w l n h s = omega (arith, h, depth-at-most w 23 n s)
 
 -- ---- numbers stored one after the other
 

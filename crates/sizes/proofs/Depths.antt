@@ -88,6 +88,10 @@ pub two-below : (w : Wavelet) → 2 ≤ smallestOf w
 two-below Cdf53 = omega arith
 two-below Cdf97 = omega arith
 
+three-below : (w : Wavelet) → 3 ≤ smallestOf w
+three-below Cdf53 = omega arith
+three-below Cdf97 = omega arith
+
 -- the 5/3 depth of a power of two
 pub depth-power : (k : ℕ) → depthOf Cdf53 (2 ^ suc k) ≡ k
 depth-power zero = too-short 3 (omega arith) 2 (omega arith)
@@ -98,14 +102,14 @@ depth-power (suc k) =
     one-more 3 (omega arith) (2 ^ suc (suc k)) (omega arith) ∙ ap (λ n. suc (depthFrom 3 n)) h ∙ ap suc (depth-power k)
 
 -- no number of samples has more levels than the power of two above it
-pub depth-at-most : (k n : ℕ) → n ≤ 2 ^ suc k → depthOf Cdf53 n ≤ k
-depth-at-most zero n h = omega (arith, too-short 3 (omega arith) n (omega arith))
-depth-at-most (suc k) n h =
+pub depth-at-most : (w : Wavelet) (k n : ℕ) → n ≤ 2 ^ suc k → depthOf w n ≤ k
+depth-at-most w zero n h = omega (arith, too-short (smallestOf w) (two-below w) n (omega (arith, h, three-below w)))
+depth-at-most w (suc k) n h =
     let e : 2 ^ suc (suc k) ≡ 2 * 2 ^ suc k = pow-succ' 2 (suc k) in
     ⊎-elim
-    (λ (g : n < 3). omega (arith, too-short 3 (omega arith) n g))
-    (λ (g : 3 ≤ n). omega (arith, one-more 3 (omega arith) n g, depth-at-most k (approxLength n) (omega arith)))
-    (lt-or-le n 3)
+    (λ (g : n < smallestOf w). omega (arith, too-short (smallestOf w) (two-below w) n g))
+    (λ (g : smallestOf w ≤ n). omega (arith, one-more (smallestOf w) (two-below w) n g, depth-at-most w k (approxLength n) (omega (arith, h, e))))
+    (lt-or-le n (smallestOf w))
 
 -- levels within the depth: those that are left after i of them are within the depth of what is left
 pub depth-rest : (w : Wavelet) (i l n : ℕ) → i ≤ l → l ≤ depthOf w n → l - i ≤ depthOf w (countAt i n)

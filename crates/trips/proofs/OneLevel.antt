@@ -23,12 +23,13 @@ use Rattle.cdf53i.specs.T800.{highs, lows, backs}
 use Rattle.cdf53i.specs.Within.{AllWithin, Holding}
 use Rattle.cdf53i.proofs.T800.{low-is, high-is, back-is}
 use Rattle.cdf53i.proofs.Read.{low-read, back-read, low-own, high-own, back-own}
+use Rattle.dwt.proofs.Integers.{each-width}
 use Rattle.dwt.specs.declared.filter.Filter.{Filter}
 use Rattle.dwt.specs.Filters.{widthOf, waveletOf, lowOf, highOf, backOf, Integers}
 use Rattle.dwt.specs.Calls.{LevelOf, OneForward, OneInverse}
 use Rattle.dwt.proofs.Cuts.{width-pos}
 use Rattle.trips.proofs.Lengths.{length-low, length-high, length-back}
-use Rattle.trips.proofs.Undone.{each-width, undoes}
+use Rattle.trips.proofs.Undone.{undoes}
 
 -- a level of k bytes a sample is T.800's, of 2 samples or more: its bytes, and what they are read as
 pub record Kept (k : ℕ) (low high : List ℕ → List ℕ) (back : List ℕ → List ℕ → List ℕ) : Type 0 where

@@ -12,6 +12,7 @@ use Rattle.sizes.specs.Lengths.{mostSamples, approxLength, detailsLength}
 use Rattle.sizes.specs.Levels.{countAt, depthOf, levelsOf}
 use Rattle.samples.specs.Integers.{wrap, decode, encode}
 use Rattle.trips.specs.T800Levels.{lowsAt, highsAfter, allHighs, backsAt}
+use Rattle.dwt.proofs.Integers.{own-depth}
 use Rattle.dwt.specs.declared.filter.Filter.{Filter}
 use Rattle.dwt.specs.Filters.{widthOf, waveletOf, Integers}
 use Rattle.dwt.specs.Pyramids.{lengthsOf}
@@ -20,7 +21,6 @@ use Rattle.dwt.specs.Backward.{total, sayBack, MultiBack, Area, LengthsIn}
 use Rattle.dwt.proofs.Multi.{levels-pos}
 use Rattle.trips.proofs.Lengths.{count-at-total}
 use Rattle.trips.proofs.Fitting.{lengths-fit, back-fits, multi-fits, dwt-fits}
-use Rattle.trips.proofs.Undone.{own-depth}
 use Rattle.trips.proofs.T800Levels.{dwt-t800, multi-t800, back-t800}
 
 -- n samples in x, levels within the depth, 0 as 1, and two work areas with room

@@ -2,27 +2,24 @@
 -- such, for samples of every value, also where coefficients wrap.
 use mathlib.Core.List.{List, [], _∷_, _++_}
 use mathlib.Core.Logic.{⊎-elim}
-use mathlib.Core.Path.{_≡_, refl, sym, ap, ap₂, subst, _∙_}
+use mathlib.Core.Path.{_≡_, refl, ap, ap₂, _∙_}
 use Prim.Native.Nat.{ℕ, zero, suc, _+_, _-_, _*_, _≤_, _<_}
 use native.Mathlib.Nat.{mul-add, mul-zero}
 use native.Mathlib.Omega.{arith}
 use lib.ListN.{length, getD, take, drop, length-take, length-drop, take-append-drop, List·getD-eq-default}
 use lib.Seq.{length-take-le, getD-take, getD-drop}
 use Rattle.order.proofs.Order.{lt-or-le}
-use Rattle.sizes.specs.declared.Wavelet.{Wavelet}
-use Rattle.sizes.specs.declared.Wavelet.the-variants.{Cdf53}
 use Rattle.sizes.specs.Lengths.{approxLength, detailsLength, smallestOf}
 use Rattle.sizes.specs.Levels.{afterLevels, thereAndBack, depthOf}
 use Rattle.sizes.proofs.Depths.{step, two-below}
 use Rattle.samples.specs.Le.{Bytes}
 use Rattle.samples.specs.Integers.{Width}
 use Rattle.samples.proofs.Words.{holds}
-use Rattle.samples.proofs.IntegerLaws.{width-1, width-2, width-4}
 use Rattle.cdf53i.specs.Bands as integer
 use Rattle.cdf53i.proofs.Round.{there-and-back, back-and-low, back-and-high}
 use Rattle.cdf53i.proofs.Lengths.{bytes-low, bytes-back}
+use Rattle.dwt.proofs.Integers.{each-width}
 use Rattle.dwt.specs.declared.filter.Filter.{Filter}
-use Rattle.dwt.specs.declared.filter.Filter.the-variants.{Cdf53I8, Cdf53I16, Cdf53I32, Cdf53F32, Cdf53F64, Cdf97F32, Cdf97F64}
 use Rattle.dwt.specs.Filters.{widthOf, waveletOf, lowOf, highOf, backOf, Integers}
 use Rattle.dwt.specs.Pyramids.{approxAt, pyramid, samplesOf, detailsAt, roundTrip}
 use Rattle.dwt.specs.Backward.{total, Fits}
@@ -46,30 +43,6 @@ abbrev pub Undoes : Filter → Type 0
 Undoes f = Undoing (widthOf f) (lowOf f) (highOf f) (backOf f)
 
 -- ---- the integer filters
-
--- what the integer 5/3 of every width is, each of the three is
-pub each-width : (P : ℕ → (List ℕ → List ℕ) → (List ℕ → List ℕ) → (List ℕ → List ℕ → List ℕ) → Type 0) → ((k : ℕ) → Width k → P k (integer.low k) (integer.high k) (integer.back k))
-    → (f : Filter) → Integers f → P (widthOf f) (lowOf f) (highOf f) (backOf f)
-each-width P h Cdf53I8 i = h 1 width-1
-each-width P h Cdf53I16 i = h 2 width-2
-each-width P h Cdf53I32 i = h 4 width-4
-each-width P h Cdf53F32 i = absurd i
-each-width P h Cdf53F64 i = absurd i
-each-width P h Cdf97F32 i = absurd i
-each-width P h Cdf97F64 i = absurd i
-
--- their lengths are those of the 5/3
-pub wavelet-is : (f : Filter) → Integers f → waveletOf f ≡ Cdf53
-wavelet-is Cdf53I8 i = refl
-wavelet-is Cdf53I16 i = refl
-wavelet-is Cdf53I32 i = refl
-wavelet-is Cdf53F32 i = absurd i
-wavelet-is Cdf53F64 i = absurd i
-wavelet-is Cdf97F32 i = absurd i
-wavelet-is Cdf97F64 i = absurd i
-
-pub own-depth : (f : Filter) → Integers f → (l n : ℕ) → l ≤ depthOf Cdf53 n → l ≤ depthOf (waveletOf f) n
-own-depth f i l n h = subst (λ (w : Wavelet). l ≤ depthOf w n) (sym (wavelet-is f i)) h
 
 undoes-width : (k : ℕ) → Width k → Undoing k (integer.low k) (integer.high k) (integer.back k)
 undoes-width k w = record {

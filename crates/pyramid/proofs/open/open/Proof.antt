@@ -10,8 +10,8 @@ use Rattle.answers.specs.declared.err.Answer.{Answer}
 use Rattle.answers.specs.declared.err.Refusal.the-variants.{Done}
 use Rattle.answers.specs.Answers.{answerOf, done}
 use Rattle.answers.proofs.Endings.{call-done, call-refused}
+use Rattle.dwt.proofs.Integers.{wavelet-is}
 use Rattle.dwt.specs.Filters.{widthOf}
-use Rattle.trips.proofs.Undone.{wavelet-is}
 use Rattle.pyramid.specs.declared.head.Head.{Head}
 use Rattle.pyramid.specs.Walks.{restoredAt}
 use Rattle.pyramid.specs.Opens.{filterOf, headIn, wayIn, wholeDetails, levelIn, countIn, samplesIn, sayOpen}
