@@ -2,7 +2,7 @@
 ghost use mathlib.Core.Path.{_≡_};
 ghost use Prim.Native.Nat.{_+_, _-_, _≤_, _<_};
 
-// The turns that a block of 9/7 has at most; its local arrays have an entry more. A contract cannot name it, and says 256.
+// The turns that a block of 9/7 has at most; its local arrays have an entry more. The contracts say 256.
 pub const BLOCK: usize = 256;
 
 // m - n, or 0 where n is more.
