@@ -1,4 +1,4 @@
-// The inverse of 9/7 at f32, one level block by block. double.rt has the same at f64.
+// The inverse of 9/7 at f32, one level block by block. back97_f64 has the same at f64.
 ghost use mathlib.Core.Path.{_≡_};
 ghost use Prim.Native.Nat.{_+_, _-_, _/_, _≤_, _<_};
 ghost use lib.Ieee.{binary32};
@@ -10,8 +10,8 @@ ghost use Rattle.floats.specs.Loops.{Lent};
 ghost use Rattle.small.specs.Small.{SmallIf, BothSmallIf};
 ghost use Rattle.small.specs.Pieces.{Piece, Rooms};
 ghost use Rattle.back97.specs.Back.{timesOf, oddsTwo, evensThree, Bands97, Carried, Pair, Restoring};
-use floats::cdf97f;
-use floats::cdf97f::Factors32;
+use floats::single::Factors32;
+use schedules::cdf97f;
 use sizes::Wavelet;
 use sizes::lesser;
 use small::single::Carry32;

@@ -8,7 +8,7 @@ use answers::err::Answer;
 use answers::err::is_done;
 use answers::err::numbers;
 use cdf53i::cdf53i as integer;
-use floats::cdf97f;
+use schedules::cdf97f;
 use sizes::Wavelet;
 use sizes::checks::check_forward;
 use sizes::checks::check_inverse;
@@ -63,7 +63,7 @@ pub fn wavelet(f: Filter) -> Wavelet
 }
 
 // One level forward of any filter, of bands that fit.
-pub(crate) fn forward(f: Filter, input: &[u8], approx: &mut [u8], details: &mut [u8])
+pub fn forward(f: Filter, input: &[u8], approx: &mut [u8], details: &mut [u8])
     requires { ⌜ LevelOf f (length (now input)) (length (now approx)) (length (now details)) ⌝ }
     ensures { λ _. ⌜ Parted f (now (input .entry)) (now (approx .exit)) (now (details .exit)) ⌝ }
 {
@@ -72,14 +72,14 @@ pub(crate) fn forward(f: Filter, input: &[u8], approx: &mut [u8], details: &mut 
         Filter::Cdf53I16 => integer::forward(2, input, approx, details),
         Filter::Cdf53I32 => integer::forward(4, input, approx, details),
         Filter::Cdf53F32 => lift53::single::forward_f32(input, approx, details),
-        Filter::Cdf53F64 => lift53::double::forward_f64(input, approx, details),
+        Filter::Cdf53F64 => lift53_f64::double::forward_f64(input, approx, details),
         Filter::Cdf97F32 => lift97::single::forward_f32(
             cdf97f::factors_f32(),
             input,
             approx,
             details,
         ),
-        Filter::Cdf97F64 => lift97::double::forward_f64(
+        Filter::Cdf97F64 => lift97_f64::double::forward_f64(
             cdf97f::factors_f64(),
             input,
             approx,
@@ -89,7 +89,7 @@ pub(crate) fn forward(f: Filter, input: &[u8], approx: &mut [u8], details: &mut 
 }
 
 // The approximations of one level of any filter alone, of a band that fits.
-pub(crate) fn approximate(f: Filter, x: &[u8], a: &mut [u8])
+pub fn approximate(f: Filter, x: &[u8], a: &mut [u8])
     requires { ⌜ LowOf f (length (now x)) (length (now a)) ⌝ }
     ensures { λ _. ⌜ now (a .exit) ≡ lowOf f (now (x .entry)) ⌝ }
 {
@@ -98,9 +98,9 @@ pub(crate) fn approximate(f: Filter, x: &[u8], a: &mut [u8])
         Filter::Cdf53I16 => integer::approximate(2, x, a),
         Filter::Cdf53I32 => integer::approximate(4, x, a),
         Filter::Cdf53F32 => lift53::single::approximate_f32(x, a),
-        Filter::Cdf53F64 => lift53::double::approximate_f64(x, a),
+        Filter::Cdf53F64 => lift53_f64::double::approximate_f64(x, a),
         Filter::Cdf97F32 => lift97::single::approximate_f32(cdf97f::factors_f32(), x, a),
-        Filter::Cdf97F64 => lift97::double::approximate_f64(cdf97f::factors_f64(), x, a),
+        Filter::Cdf97F64 => lift97_f64::double::approximate_f64(cdf97f::factors_f64(), x, a),
     }
 }
 
@@ -114,14 +114,14 @@ fn inverse(f: Filter, approx: &[u8], details: &[u8], output: &mut [u8])
         Filter::Cdf53I16 => integer::inverse(2, approx, details, output),
         Filter::Cdf53I32 => integer::inverse(4, approx, details, output),
         Filter::Cdf53F32 => lift53::single::inverse_f32(approx, details, output),
-        Filter::Cdf53F64 => lift53::double::inverse_f64(approx, details, output),
+        Filter::Cdf53F64 => lift53_f64::double::inverse_f64(approx, details, output),
         Filter::Cdf97F32 => {
             let t = cdf97f::turned_f32(cdf97f::factors_f32());
             back97::single::inverse_f32(t, approx, details, output)
         }
         Filter::Cdf97F64 => {
             let t = cdf97f::turned_f64(cdf97f::factors_f64());
-            back97::double::inverse_f64(t, approx, details, output)
+            back97_f64::double::inverse_f64(t, approx, details, output)
         }
     }
 }

@@ -3,8 +3,8 @@ use Rattle.floats.specs.declared.single.Step32.{Step32}
 use Rattle.floats.specs.declared.single.Step32.the-variants as s32
 use Rattle.floats.specs.declared.double.Step64.{Step64}
 use Rattle.floats.specs.declared.double.Step64.the-variants as s64
-use Rattle.floats.specs.declared.cdf97f.Factors32.{Factors32}
-use Rattle.floats.specs.declared.cdf97f.Factors64.{Factors64}
+use Rattle.floats.specs.declared.single.Factors32.{Factors32}
+use Rattle.floats.specs.declared.double.Factors64.{Factors64}
 use Rattle.floats.specs.Steps.{Step, oddly, evenly, scaling}
 use Rattle.floats.specs.Filters.{Set}
 

@@ -22,6 +22,16 @@ pub enum Step64 {
     Scale(f64, f64),
 }
 
+// The six factors of 9/7, which travel together as one set.
+pub struct Factors64 {
+    pub alpha: f64,
+    pub beta: f64,
+    pub gamma: f64,
+    pub delta: f64,
+    pub k: f64,
+    pub invk: f64,
+}
+
 // The evens of the samples in x, into a, and the odds, into d.
 pub fn split_f64(x: &[u8], a: &mut [u8], d: &mut [u8])
     requires { ⌜ Lent binary64 (now x) (now a) (now d) ⌝ }

@@ -1,6 +1,4 @@
-// Float 5/3 and 9/7, one level, both ways, at f32 and f64. Ported from osclet's src/cdf53f.rs and src/cdf97f.rs.
-pub mod cdf53f;
-pub mod cdf97f;
-mod double;
+// The steps of float 5/3 and 9/7 at f32 and f64. Ported from osclet's src/cdf97f.rs and src/mla.rs.
+pub mod double;
 mod mla;
-mod single;
+pub mod single;

@@ -22,6 +22,16 @@ pub enum Step32 {
     Scale(f32, f32),
 }
 
+// The six factors of 9/7, which travel together as one set.
+pub struct Factors32 {
+    pub alpha: f32,
+    pub beta: f32,
+    pub gamma: f32,
+    pub delta: f32,
+    pub k: f32,
+    pub invk: f32,
+}
+
 // The evens of the samples in x, into a, and the odds, into d.
 pub fn split_f32(x: &[u8], a: &mut [u8], d: &mut [u8])
     requires { ⌜ Lent binary32 (now x) (now a) (now d) ⌝ }

@@ -1,4 +1,4 @@
-// 5/3 at f32, one level block by block. double.rt has the same at f64.
+// 5/3 at f32, one level block by block. lift53_f64 has the same at f64.
 ghost use mathlib.Core.Bool.{true};
 ghost use mathlib.Core.Path.{_≡_};
 ghost use Prim.Native.Nat.{_+_, _-_, _*_, _/_, _≤_, _<_, min};
@@ -9,7 +9,7 @@ ghost use Rattle.floats.specs.Loops.{Lent, LentLow};
 ghost use Rattle.small.specs.Small.{SmallIf, BothSmallIf};
 ghost use Rattle.lift53.specs.Ahead.{Ahead, Splitting, Split};
 ghost use Rattle.lift53.specs.Back.{Given, Restoring};
-use floats::cdf53f;
+use schedules::cdf53f;
 use sizes::Wavelet;
 use sizes::lesser;
 use small::single::get_f32;

@@ -1,4 +1,4 @@
-// 9/7 forward at f32, one level block by block: a block of small floats is read and written without a test. double.rt has the same at f64.
+// 9/7 forward at f32, one level block by block: a block of small floats is read and written without a test. lift97_f64 has the same at f64.
 ghost use mathlib.Core.Bool.{true};
 ghost use mathlib.Core.Path.{_≡_};
 ghost use Prim.Native.Nat.{_+_, _-_, _*_, _/_, _≤_, _<_, min};
@@ -12,8 +12,8 @@ ghost use Rattle.small.specs.Lists.{evenIn, oddIn};
 ghost use Rattle.small.specs.Pieces.{Piece, Rooms};
 ghost use Rattle.small.specs.Small.{SmallIf};
 ghost use Rattle.lift97.specs.Ahead.{oddsOne, evensTwo, oddsThree, Samples, Ahead, Carried, Handed, Splitting, Split};
-use floats::cdf97f;
-use floats::cdf97f::Factors32;
+use floats::single::Factors32;
+use schedules::cdf97f;
 use sizes::Wavelet;
 use sizes::lesser;
 use small::single::Carry32;

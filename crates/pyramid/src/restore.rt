@@ -8,7 +8,7 @@ ghost use Rattle.dwt.specs.Filters.{Integers, widthOf, waveletOf, backOf};
 ghost use Rattle.dwt.specs.Calls.{Room};
 ghost use Rattle.pyramid.specs.Files.{bodySize};
 ghost use Rattle.pyramid.specs.Walks.{bytesAt, restoredAt};
-use dwt::back;
+use backward::back;
 use dwt::filter::Filter;
 use dwt::filter::bytes_of;
 use dwt::levels::cut_of;

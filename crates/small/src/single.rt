@@ -1,4 +1,4 @@
-// Small floats at f32. double.rt has the same at f64.
+// Small floats at f32. small_f64 has the same at f64.
 ghost use mathlib.Core.Bool.{true, not, cond};
 ghost use mathlib.Core.Path.{_≡_};
 ghost use Prim.Native.Nat.{_+_, _/_, _≤_, _<_};
