@@ -3,14 +3,14 @@ ghost use mathlib.Core.Path.{_≡_};
 ghost use Rattle.answers.specs.Answers.{answerOf};
 ghost use lib.ListN.{length};
 ghost use Rattle.notes.specs.Notes.{sayColumn, saySpan};
-ghost use Rattle.notes.specs.Windows.{sayWindow};
+ghost use Rattle.windows.specs.Windows.{sayWindow};
 use answers::err::Answer;
 use notes::notes::CoefficientNumber;
 use notes::notes::SampleNumber;
 use notes::notes::note_column;
 use notes::notes::note_span;
-use notes::window::SampleWidth;
-use notes::window::band_window_answer;
+use windows::window::SampleWidth;
+use windows::window::band_window_answer;
 
 // Notes: the column of a sample, and the span of a column.
 #[no_mangle]

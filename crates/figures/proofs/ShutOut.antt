@@ -12,7 +12,7 @@ use Rattle.sizes.specs.declared.Wavelet.the-variants.{Cdf53}
 use Rattle.sizes.specs.Calls.{sayForward, sayInverse}
 use Rattle.sizes.specs.Levels.{afterLevels, countAt, depthWithin, depthFrom}
 use Rattle.notes.specs.Notes.{spanOf, sayColumn, saySpan}
-use Rattle.notes.specs.Windows.{sayWindow}
+use Rattle.windows.specs.Windows.{sayWindow}
 use Rattle.samples.specs.Le.{leAt, leBytes}
 use Rattle.samples.specs.Words.{tabulate, wordAt, wordsOf, bytesOf}
 use Rattle.samples.specs.Halves.{evenOf, oddOf}

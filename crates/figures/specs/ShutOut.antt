@@ -12,7 +12,7 @@ use Rattle.sizes.specs.declared.Wavelet.{Wavelet}
 use Rattle.sizes.specs.declared.Wavelet.the-variants.{Cdf97}
 use Rattle.sizes.specs.Levels.{sayDepth}
 use Rattle.notes.specs.Notes.{sayColumn, saySpan}
-use Rattle.notes.specs.Windows.{sayWindow}
+use Rattle.windows.specs.Windows.{sayWindow}
 use Rattle.samples.specs.Halves.{evenOf, oddOf}
 use Rattle.samples.specs.Le.{Bytes}
 use Rattle.samples.specs.Floats.{decodeFloats, encodeFloats}

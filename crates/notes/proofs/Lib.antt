@@ -1,4 +1,3 @@
 pub mod Spans
 pub mod Answered
-pub mod Windows
 pub mod Figures

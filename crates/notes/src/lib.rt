@@ -1,3 +1,2 @@
-// What the desk asks of a drawn recording: where a note shows, what a column spans, and a stretch of a band to draw.
+// What the desk asks of a drawn recording: where a note shows, and what a column spans.
 pub mod notes;
-pub mod window;

@@ -5,7 +5,7 @@ use mathlib.Core.Path.{_≡_}
 use Prim.Native.Nat.{ℕ}
 use lib.Dec.{eqb}
 use denote.Ref.{RefT}
-use Rattle.notes.specs.Windows.{windowAt}
+use Rattle.windows.specs.Windows.{windowAt}
 
 either : (b : Bool) (x y : RefT (List ℕ)) (m : ℕ) → x .ptr .0 ≡ m → y .ptr .0 ≡ m → cond b x y .ptr .0 ≡ m
 either true x y m p q = p

@@ -1,12 +1,12 @@
 // A pyramid file of 8 bits and point 14 on standard input: the bytes of its sections, and windows of the deepest level's two bands. Each is a part of the file itself.
 ghost use mathlib.Core.Path.{_≡_};
-ghost use Rattle.notes.specs.Windows.{windowIn};
+ghost use Rattle.windows.specs.Windows.{windowIn};
 ghost use Rattle.pyramid.specs.Opens.{sectionIn};
 use libc::STDIN_FILENO;
 use libc::STDOUT_FILENO;
-use notes::window::SampleWidth;
-use notes::window::band_window;
 use pyramid::section::section;
+use windows::window::SampleWidth;
+use windows::window::band_window;
 
 // The file's width and point.
 const WIDTH: usize = 1;

@@ -1,10 +1,8 @@
 // A pyramid file on standard input: what its section 0 says, and the samples that opening it for its own width and point gives.
-ghost use mathlib.Core.Path.{_≡_};
-ghost use Prim.Native.Nat.{_/_, _^_, _≤_, _<_};
+ghost use Prim.Native.Nat.{_/_, _≤_};
 ghost use lib.ListN.{length};
-ghost use Rattle.samples.specs.Integers.{Width, val};
+ghost use Rattle.samples.specs.Integers.{Width};
 ghost use Rattle.pyramid.specs.Opens.{Open, ownWidth, ownPoint};
-ghost use Rattle.show.specs.Numbers.{numberOf};
 use answers::err::Answer;
 use libc::STDIN_FILENO;
 use libc::STDOUT_FILENO;
@@ -14,52 +12,14 @@ use pyramid::open::open;
 use pyramid::open::own_point;
 use pyramid::open::own_width;
 use samples::integers::get;
+use signs::Number;
+use signs::signed;
 
 // The longest input.
 const MOST: usize = 65536;
 
 // The number of an input that is longer.
 const TOO_LONG: u32 = 6;
-
-// A signed number: its size, and whether it is below 0.
-struct Number {
-    negative: bool,
-    size: u64,
-}
-
-// Half of the words of k bytes: the negative numbers start there.
-fn half(k: usize) -> u64
-    requires { ⌜ Width k ⌝ }
-    ensures { λ r. ⌜ r ≡ 256 ^ k / 2 ⌝ }
-{
-    if k == 1 {
-        return 128;
-    }
-    if k == 2 {
-        return 32768;
-    }
-    2147483648
-}
-
-// The number that a word of k bytes stands for.
-fn signed(k: usize, word: u32) -> Number
-    requires { ⌜ Width k ⌝ }
-    requires { ⌜ word < 256 ^ k ⌝ }
-    ensures { λ r. ⌜ numberOf r ≡ val (256 ^ k) word ⌝ }
-{
-    let u = word as u64;
-    let middle = half(k);
-    if u < middle {
-        return Number {
-            negative: false,
-            size: u,
-        };
-    }
-    Number {
-        negative: true,
-        size: 2 * middle - u,
-    }
-}
 
 // A word before a number, and the number.
 fn print_named(name: &[u8], n: u64) {

@@ -1,7 +1,7 @@
 -- `window` meets its contract: it is a window of what two lookups of sections give.
 use borrow.Author.Needs.{needs}
 use mathlib.Core.Path.{ap, ap₂, _∙_}
-use Rattle.notes.specs.Windows.{windowIn}
+use Rattle.windows.specs.Windows.{windowIn}
 use Rattle.pyramid.specs.Opens.{sectionAt}
 use Rattle.parts.proofs.Own.{own-block}
 use Rattle.parts.proofs.window.Statement.{statement}

@@ -3,10 +3,10 @@ use mathlib.Core.Path.{ap, _∙_}
 use Prim.Native.Nat.{ℕ}
 use lib.ListN.{length}
 use Rattle.answers.specs.Answers.{answerOf}
-use Rattle.notes.specs.Windows.{sayWindow}
+use Rattle.windows.specs.Windows.{sayWindow}
 use borrow.Author.Needs.{needs}
-use Rattle.notes.proofs.window.band_window_answer.Statement.{statement}
-use Rattle.notes.proofs.window.band_window_answer.Tie as tie
+use Rattle.windows.proofs.window.band_window_answer.Statement.{statement}
+use Rattle.windows.proofs.window.band_window_answer.Tie as tie
 
 returns : tie.Need-returns
 returns c =

@@ -1,8 +1,8 @@
 -- `signed` meets its contract: the lower half of the words, and the upper.
 use borrow.Author.Needs.{needs}
-use Rattle.show.proofs.Signs.{lower, upper}
-use Rattle.show.proofs.signed.Statement.{statement}
-use Rattle.show.proofs.signed.Tie as tie
+use Rattle.signs.proofs.Signs.{lower, upper}
+use Rattle.signs.proofs.signed.Statement.{statement}
+use Rattle.signs.proofs.signed.Tie as tie
 
 returns : tie.Need-returns
 returns c = lower _ _ _ (c .before .half .ensures) (c .if1 .taken)

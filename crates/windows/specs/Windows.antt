@@ -10,8 +10,8 @@ use Rattle.answers.specs.declared.err.Refusal.{Refusal}
 use Rattle.answers.specs.declared.err.Refusal.the-variants.{Done, NoSuchPlace}
 use Rattle.answers.specs.Answers.{done}
 use Rattle.answers.specs.Checks.{Check, firstOf, ragged}
-use Rattle.notes.specs.declared.window.SampleWidth.{SampleWidth}
-use Rattle.notes.specs.declared.window.SampleWidth.the-variants.{One, Two, Four, Eight}
+use Rattle.windows.specs.declared.window.SampleWidth.{SampleWidth}
+use Rattle.windows.specs.declared.window.SampleWidth.the-variants.{One, Two, Four, Eight}
 
 -- how many bytes a sample has: integers of 8, 16 and 32 bits, floats of 32 and 64
 abbrev pub bytesEach : SampleWidth → ℕ

@@ -1,8 +1,8 @@
 -- `half` meets its contract, one case for each width.
 use mathlib.Core.Path.{refl}
 use Rattle.samples.proofs.IntegerLaws.{four}
-use Rattle.show.proofs.half.Statement.{statement}
-use Rattle.show.proofs.half.Tie as tie
+use Rattle.signs.proofs.half.Statement.{statement}
+use Rattle.signs.proofs.half.Tie as tie
 
 pub half-spec : {M : Type 1} → statement M
 half-spec =

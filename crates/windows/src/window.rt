@@ -4,7 +4,7 @@ ghost use Prim.Native.Nat.{_*_, _^_, _<_};
 ghost use lib.ListN.{length};
 ghost use Rattle.answers.specs.Answers.{answerOf};
 ghost use Rattle.answers.specs.Checks.{firstOf};
-ghost use Rattle.notes.specs.Windows.{bytesEach, bandOf, stretchChecks, sayWindow, windowIn, windowAt};
+ghost use Rattle.windows.specs.Windows.{bytesEach, bandOf, stretchChecks, sayWindow, windowIn, windowAt};
 use answers::err::Answer;
 use answers::err::Refusal;
 use answers::err::numbers;

@@ -3,11 +3,11 @@ use mathlib.Core.Path.{_≡_, ap, _∙_}
 use Prim.Native.Nat.{_+_, _-_, _≤_}
 use native.Mathlib.Omega.{arith}
 use lib.ListN.{length, take, drop}
-use Rattle.notes.specs.Windows.{bytesEach, windowIn}
-use Rattle.notes.proofs.Windows.{band-of, told, untold, placed, unplaced}
+use Rattle.windows.specs.Windows.{bytesEach, windowIn}
+use Rattle.windows.proofs.Windows.{band-of, told, untold, placed, unplaced}
 use borrow.Author.Needs.{needs}
-use Rattle.notes.proofs.window.band_window.Statement.{statement}
-use Rattle.notes.proofs.window.band_window.Tie as tie
+use Rattle.windows.proofs.window.band_window.Statement.{statement}
+use Rattle.windows.proofs.window.band_window.Tie as tie
 
 -- the answer's numbers are a part of the band that was asked for, and it is the window
 part : (c : tie.Then1)

@@ -6,10 +6,10 @@ use native.Mathlib.Omega.{arith}
 use Rattle.answers.specs.declared.err.Refusal.the-variants.{Done}
 use Rattle.answers.specs.Checks.{firstOf}
 use Rattle.answers.proofs.Chain.{by, stop, same, other}
-use Rattle.notes.specs.Windows.{stretchChecks, sayWindow}
+use Rattle.windows.specs.Windows.{stretchChecks, sayWindow}
 use borrow.Author.Needs.{needs}
-use Rattle.notes.proofs.window.say_window.Statement.{statement}
-use Rattle.notes.proofs.window.say_window.Tie as tie
+use Rattle.windows.proofs.window.say_window.Statement.{statement}
+use Rattle.windows.proofs.window.say_window.Tie as tie
 
 returns : tie.Need-returns
 unfolding sayWindow

@@ -5,8 +5,8 @@ use Prim.Native.Nat.{_+_, _≤_, _<_}
 use native.Mathlib.Nat.{mul-le-mul-left}
 use native.Mathlib.Omega.{arith}
 use Rattle.answers.proofs.Chain.{by, stop}
-use Rattle.notes.proofs.window.check_stretch.Statement.{statement}
-use Rattle.notes.proofs.window.check_stretch.Tie as tie
+use Rattle.windows.proofs.window.check_stretch.Statement.{statement}
+use Rattle.windows.proofs.window.check_stretch.Tie as tie
 
 returns-2 : tie.Need-returns-2
 returns-2 c =

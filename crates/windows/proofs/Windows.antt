@@ -19,7 +19,7 @@ use Rattle.answers.proofs.Passed.{passing, through, whole}
 use Rattle.answers.proofs.Chain.{by, stop}
 use Rattle.answers.proofs.Endings.{is-done, not-done}
 use Rattle.sizes.proofs.OneLevel.{whole-passes}
-use Rattle.notes.specs.Windows.{bandOf, stretchChecks, sayWindow, windowIn, windowAt}
+use Rattle.windows.specs.Windows.{bandOf, stretchChecks, sayWindow, windowIn, windowAt}
 
 -- which of the two was asked for: the approximations by 0, the details by any other number
 pub asked-approx : {A : Type 0} (band : ℕ) (a d : A) → band ≡ 0 → a ≡ bandOf band a d
