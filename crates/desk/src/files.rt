@@ -11,7 +11,7 @@ use heads::head;
 use heads::size;
 use pyramid::open::open;
 use pyramid::section::section_answer;
-use pyramid::write::write;
+use writes::write::write;
 
 // The pyramid file.
 

@@ -11,7 +11,7 @@ use pyramid::head::head_in;
 use pyramid::open::check_start;
 use pyramid::open::filter_of;
 use pyramid::open::is_width;
-use pyramid::write::file_size;
+use pyramid::size::file_size;
 use sizes::at_least_one;
 
 // The answer, and what section 0 says as it is stored: zeros where the call is refused. No file has a rate yet.

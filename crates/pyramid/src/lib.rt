@@ -1,10 +1,10 @@
-// The pyramid file: writing, opening, and looking a section up. Document 01, "The pyramid file".
+// The pyramid file: its head and its size, opening, and looking a section up; writes has the writing, by the definitions and laws here. Document 01, "The pyramid file".
 pub mod head;
 pub mod open;
 pub mod restore;
 pub mod section;
+pub mod size;
 pub mod walk;
-pub mod write;
 
 // The most bytes of a pyramid file.
 pub const MOST_BYTES: usize = 67108974;

@@ -7,10 +7,8 @@ ghost use Rattle.answers.specs.Checks.{firstOf};
 ghost use Rattle.sizes.specs.Lengths.{mostSamples, approxLength, detailsLength, smallestOf};
 ghost use Rattle.dwt.specs.Filters.{Integers, widthOf, waveletOf, lowOf, highOf};
 ghost use Rattle.dwt.specs.Calls.{Room, Ready};
 ghost use Rattle.pyramid.specs.Files.{sectionOf, headSize, bodyOf, bodySize, fileSize, fileOf};
 ghost use Rattle.pyramid.specs.Writes.{writeChecks, sayWrite, Write};
-use crate::head::HEAD_SIZE;
-use crate::head::lay_head;
 use answers::err::Answer;
 use answers::err::Refusal;
 use answers::err::is_done;
@@ -21,28 +19,16 @@ use dwt::filter::execute_forward;
 use dwt::filter::width;
 use dwt::levels::check_depth;
 use dwt::levels::cut_of;
+use pyramid::head::HEAD_SIZE;
+use pyramid::head::lay_head;
+use pyramid::size::body_size;
+use pyramid::size::file_size;
 use samples::le::write_u32;
 use sizes::approx_length;
 use sizes::at_least_one;
 use sizes::checks::check_whole;
 use sizes::checks::two_areas;
 use sizes::details_length;
-
-// The bytes of the sections after the head.
-fn body_size(f: Filter, levels: usize, n: usize) -> usize
-    requires { ⌜ (levels < 256) × (n ≤ mostSamples) ⌝ }
-    ensures { λ r. ⌜ r ≡ bodySize (widthOf f) levels n ⌝ }
-{
-    4 * (levels + 1) + bytes_of(f, n)
-}
-
-// The bytes of the whole file.
-pub fn file_size(f: Filter, levels: usize, n: usize) -> usize
-    requires { ⌜ (levels < 256) × (n ≤ mostSamples) ⌝ }
-    ensures { λ r. ⌜ r ≡ fileSize headSize (widthOf f) levels n ⌝ }
-{
-    HEAD_SIZE + body_size(f, levels, n)
-}
 
 // Section 1: the deepest approximations after their count.
 fn lay_deepest(n: usize, x: &[u8], out: &mut [u8])

@@ -12,20 +12,20 @@ use Rattle.sizes.proofs.Depths.{step, two-below}
 use Rattle.dwt.specs.Filters.{widthOf, waveletOf, lowOf}
 use Rattle.dwt.proofs.Cuts.{width-room, split-width}
 use Rattle.dwt.proofs.Lists.{later}
 use Rattle.pyramid.specs.Files.{bodyOf, bodySize}
 use Rattle.pyramid.proofs.Writing.{few-levels, body-none, body-more, size-more}
 use borrow.Fn.Kinds.{In}
 use borrow.Fn.PlainCycle.{Measures, is, falls, and}
-use Rattle.pyramid.proofs.write.lay.Reads as lay
-use Rattle.pyramid.proofs.write.lay.Kinds as lay-kinds
-use Rattle.pyramid.proofs.write.+lay.Lts-lay as lay-lts
+use Rattle.writes.proofs.write.lay.Reads as lay
+use Rattle.writes.proofs.write.lay.Kinds as lay-kinds
+use Rattle.writes.proofs.write.+lay.Lts-lay as lay-lts
 use Rattle.dwt.proofs.filter.bytes_of.Reads as bytes-of-reads
-use Rattle.pyramid.proofs.write.body_size.Reads as body-size-reads
+use Rattle.pyramid.proofs.size.body_size.Reads as body-size-reads
 use Rattle.sizes.proofs.approx_length.Reads as approx-length-reads
-use Rattle.pyramid.proofs.write.lay_deepest.Reads as lay-deepest-reads
-use Rattle.pyramid.proofs.write.lay_level.Reads as lay-level-reads
-use Rattle.pyramid.proofs.write.+lay.{statement}
-use Rattle.pyramid.proofs.write.+lay.Tie.{close}
+use Rattle.writes.proofs.write.lay_deepest.Reads as lay-deepest-reads
+use Rattle.writes.proofs.write.lay_level.Reads as lay-level-reads
+use Rattle.writes.proofs.write.+lay.{statement}
+use Rattle.writes.proofs.write.+lay.Tie.{close}
 
 abbrev μ-lay : Measures 3 lay-kinds.ps ℕ
 μ-lay κs a = a .1 .0

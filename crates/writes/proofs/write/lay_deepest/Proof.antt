@@ -7,9 +7,9 @@ use native.Mathlib.Omega.{arith}
 use lib.ListN.{length, take, drop}
 use Rattle.samples.specs.Le.{leBytes}
 use Rattle.dwt.proofs.Lists.{copied, length-end}
 use Rattle.pyramid.proofs.Writing.{section-laid}
-use Rattle.pyramid.proofs.write.lay_deepest.Statement.{statement}
-use Rattle.pyramid.proofs.write.lay_deepest.Tie as tie
+use Rattle.writes.proofs.write.lay_deepest.Statement.{statement}
+use Rattle.writes.proofs.write.lay_deepest.Tie as tie
 
 returns : tie.Need-returns
 returns c =

@@ -13,9 +13,9 @@ use Rattle.sizes.proofs.OneLevel.{forward-ran}
 use Rattle.dwt.specs.Filters.{widthOf, waveletOf, lowOf, highOf}
 use Rattle.dwt.proofs.Cuts.{width-pos}
 use Rattle.dwt.proofs.Lists.{length-end}
 use Rattle.pyramid.proofs.Writing.{section-laid}
-use Rattle.pyramid.proofs.write.lay_level.Statement.{statement}
-use Rattle.pyramid.proofs.write.lay_level.Tie as tie
+use Rattle.writes.proofs.write.lay_level.Statement.{statement}
+use Rattle.writes.proofs.write.lay_level.Tie as tie
 
 returns : tie.Need-returns
 returns c =

@@ -17,11 +17,11 @@ use Rattle.sizes.specs.Levels.{depthOf, levelsOf}
 use Rattle.dwt.specs.Filters.{widthOf, waveletOf}
 use Rattle.dwt.specs.Calls.{depthChecks}
 use Rattle.dwt.proofs.Multi.{depth-refuse}
 use Rattle.pyramid.specs.Files.{headSize, fileSize}
 use Rattle.pyramid.specs.Writes.{writeChecks}
 use Rattle.pyramid.proofs.Writing.{few-levels}
-use Rattle.pyramid.proofs.write.write_lengths.Statement.{statement}
-use Rattle.pyramid.proofs.write.write_lengths.Tie as tie
+use Rattle.writes.proofs.write.write_lengths.Statement.{statement}
+use Rattle.writes.proofs.write.write_lengths.Tie as tie
 
 returns : tie.Need-returns
 returns c =

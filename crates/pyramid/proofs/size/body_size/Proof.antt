@@ -2,8 +2,8 @@
 use borrow.Author.Needs.{needs}
 use native.Mathlib.Omega.{arith}
 use Rattle.dwt.proofs.Cuts.{width-room}
-use Rattle.pyramid.proofs.write.body_size.Statement.{statement}
-use Rattle.pyramid.proofs.write.body_size.Tie as tie
+use Rattle.pyramid.proofs.size.body_size.Statement.{statement}
+use Rattle.pyramid.proofs.size.body_size.Tie as tie
 
 pub body-size-spec : {M : Type 1} → statement M
 body-size-spec =

@@ -7,10 +7,10 @@ use lib.ListN.{length, drop}
 use Rattle.answers.proofs.Endings.{call-done, call-refused}
 use Rattle.sizes.specs.Levels.{levelsOf}
 use Rattle.dwt.specs.Filters.{widthOf}
 use Rattle.pyramid.specs.Files.{headSize, fileSize, fileOf}
 use Rattle.pyramid.proofs.Writing.{write-ready, ready-for}
-use Rattle.pyramid.proofs.write.write.Statement.{statement}
-use Rattle.pyramid.proofs.write.write.Tie as tie
+use Rattle.writes.proofs.write.write.Statement.{statement}
+use Rattle.writes.proofs.write.write.Tie as tie
 
 lay-file-requires : tie.Need-lay-file-requires
 lay-file-requires c κs =

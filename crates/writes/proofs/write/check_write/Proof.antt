@@ -6,10 +6,10 @@ use Prim.Native.Nat.{ℕ, _/_}
 use Rattle.answers.specs.declared.err.Refusal.the-variants.{Done}
 use Rattle.answers.specs.Checks.{Check, ragged}
 use Rattle.answers.proofs.Passed.{say-rest, say-stop}
 use Rattle.pyramid.specs.Writes.{writeChecks}
 use Rattle.pyramid.proofs.Writing.{say-width}
-use Rattle.pyramid.proofs.write.check_write.Statement.{statement}
-use Rattle.pyramid.proofs.write.check_write.Tie as tie
+use Rattle.writes.proofs.write.check_write.Statement.{statement}
+use Rattle.writes.proofs.write.check_write.Tie as tie
 
 -- the byte lengths of the signal and the work areas
 abbrev front : ℕ → ℕ → ℕ → ℕ → List Check

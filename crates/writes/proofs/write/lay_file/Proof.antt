@@ -7,10 +7,10 @@ use native.Mathlib.Omega.{arith}
 use lib.ListN.{take, drop}
 use Rattle.dwt.specs.Filters.{widthOf, waveletOf}
 use Rattle.dwt.proofs.Lists.{copied-front, copied-after}
 use Rattle.pyramid.specs.Files.{headSize, bodyOf}
 use Rattle.pyramid.proofs.Writing.{width-byte, few-levels, file-laid}
-use Rattle.pyramid.proofs.write.lay_file.Statement.{statement}
-use Rattle.pyramid.proofs.write.lay_file.Tie as tie
+use Rattle.writes.proofs.write.lay_file.Statement.{statement}
+use Rattle.writes.proofs.write.lay_file.Tie as tie
 
 lay-head-requires : tie.Need-lay-head-requires
 lay-head-requires c κs =

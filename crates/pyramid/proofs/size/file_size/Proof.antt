@@ -5,8 +5,8 @@ use Prim.Native.Nat.{ℕ, _+_}
 use native.Mathlib.Omega.{arith}
 use Rattle.dwt.proofs.Cuts.{width-room}
 use Rattle.pyramid.specs.Files.{headSize}
-use Rattle.pyramid.proofs.write.file_size.Statement.{statement}
-use Rattle.pyramid.proofs.write.file_size.Tie as tie
+use Rattle.pyramid.proofs.size.file_size.Statement.{statement}
+use Rattle.pyramid.proofs.size.file_size.Tie as tie
 
 pub file-size-spec : {M : Type 1} → statement M
 file-size-spec =
