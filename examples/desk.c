@@ -297,8 +297,11 @@ static void tour_sections(const pyramid_file *f) {
     }
 }
 
-/* At most NOTES notes at samples of a recording: their columns below its overview, and the samples that each column stands for. */
-static void tour_notes(const opened *o, const uint64_t *notes, size_t count) {
+/*
+ * At most NOTES notes at samples of a recording whose whole file is f: their columns below its overview o, the samples that each
+ * column stands for, and the sample under each note, which is read from the file without opening it again.
+ */
+static void tour_notes(const pyramid_file *f, const opened *o, const uint64_t *notes, size_t count) {
     uint64_t columns[NOTES];
     size_t i;
     if (count > NOTES) {
@@ -313,9 +316,12 @@ static void tour_notes(const opened *o, const uint64_t *notes, size_t count) {
     draw_marks(columns, count);
     for (i = 0; i < count; i++) {
         bk_answer a = bk_note_span(o->head.samples, o->level, columns[i]);
+        bk_sample s = bk_pyramid_sample(f->bytes, f->length, o->head.width, o->head.point, notes[i]);
         expect("finding a note", a, BK_DONE);
-        printf("the note at sample %lu is in column %lu, which stands for samples %lu to %lu\n", (unsigned long)notes[i],
-               (unsigned long)columns[i], (unsigned long)a.first, (unsigned long)a.second);
+        expect("reading a sample", s.answer, BK_DONE);
+        printf("the note at sample %lu, whose value is %lld, is in column %lu, which stands for samples %lu to %lu\n",
+               (unsigned long)notes[i], (long long)s.sample, (unsigned long)columns[i], (unsigned long)a.first,
+               (unsigned long)a.second);
         if (notes[i] < a.first || notes[i] > a.second) exit(BAD_TURN);
     }
 }
@@ -378,6 +384,8 @@ static void tour_refused_files(const recording *r, const pyramid_file *f) {
              bk_pyramid_open(longer, f->length + 1, r->width, r->point, none, 0, none + 1, 0, none + 2, 0));
     provoked(BK_NO_SUCH_PLACE, "a note after the last sample", bk_note_column(r->n, 1, r->n));
     provoked(BK_NO_SUCH_PLACE, "a column of level 0", bk_note_column(r->n, 0, 0));
+    provoked(BK_NO_SUCH_PLACE, "the sample after the last",
+             bk_pyramid_sample(f->bytes, f->length, r->width, r->point, r->n).answer);
     free(longer);
 }
 
@@ -406,7 +414,7 @@ static int tour(void) {
 
     printf("\n== overviews, and notes\n");
     for (i = 3; i-- > 0;) seen[i] = tour_overview(&r[i], &f[i]);
-    tour_notes(&seen[0], notes, 3);
+    tour_notes(&f[0], &seen[0], notes, 3);
     tour_zoom(&f[0], 2, notes[1]);
 
     printf("\n== every refusal\n");

@@ -25,6 +25,7 @@
  *   bk_pyramid_write_i8, _i16, _i32                a recording as a pyramid file
  *   bk_pyramid_head                                what a file says of itself
  *   bk_pyramid_open                                what a file, or the front of one, still lets see
+ *   bk_pyramid_sample                              one sample of it, with no room lent
  *   bk_pyramid_section                             where a section of a file stands
  *   bk_note_column, bk_note_span                   the column of a sample, the samples of a column
  *   bk_band_window_T                               where a part of a band stands
@@ -32,7 +33,7 @@
  * Good to know, said once:
  *
  * Bytes or samples. A parameter whose name ends in _bytes is a length in bytes, and a width is a sample's size in bytes. n,
- * sample, start and count are numbers of samples. In an answer bytes are: what bk_pyramid_size, bk_pyramid_section and
+ * sample, place, start and count are numbers of samples; the sample of a bk_sample is its value. In an answer bytes are: what bk_pyramid_size, bk_pyramid_section and
  * bk_band_window_T give when done; the numbers of 10 and 12; the length of 9 (0, length) and the count of section 0; and of 7
  * those of the file that is written. All other lengths and counts in an answer are samples.
  *
@@ -48,7 +49,8 @@
  * Opening at a chosen level l, 1 to the head's levels. Ask bk_pyramid_section for section levels + 1 - l, and lend
  * bk_pyramid_open only the front of the file through that section, which is first + second bytes: it opens at level l, with m
  * samples, m being n halved, rounded up, l times. That front is 14 + 4(levels + 1 - l) + width m bytes, so a program that has
- * read the head need not read more of the file. The whole file opens at level 0.
+ * read the head need not read more of the file. The whole file opens at level 0. bk_pyramid_sample of that front gives one sample
+ * of level l in the same way.
  *
  * Columns. A column is an approximation of a level from 1 on. Level 0 is the recording itself and has no columns, so
  * bk_note_column and bk_note_span refuse level 0: there sample s stands at place s.
@@ -75,7 +77,7 @@ extern "C" {
 
 /* The version of this header and of the library that is installed with it; CHANGELOG.md has what changed. */
 #define BK_VERSION_MAJOR 0
-#define BK_VERSION_MINOR 3
+#define BK_VERSION_MINOR 4
 #define BK_VERSION_PATCH 0
 
 /*
@@ -481,6 +483,28 @@ bk_head bk_pyramid_head(const uint8_t *file, size_t file_bytes);
  */
 bk_answer bk_pyramid_open(const uint8_t *file, size_t file_bytes, uint32_t width, uint32_t point, uint8_t *output,
                           size_t output_bytes, uint8_t *work1, size_t work1_bytes, uint8_t *work2, size_t work2_bytes);
+
+/* What bk_pyramid_sample returns: the answer, and the sample as a signed number. When refused the sample is 0. */
+typedef struct bk_sample {
+    bk_answer answer;
+    int64_t sample;
+} bk_sample;
+
+/*
+ * One sample of a pyramid file, or of the front of one that was cut: the number that bk_pyramid_open with the same `width` and
+ * `point` would put at `place` of its output. So `place` counts in what is given back: in the samples of the recording where the
+ * file is whole, in the approximations of the finest whole level where it was cut. No room is lent and nothing is restored: a
+ * sample takes a few bytes of each level, however long the recording is. Done: first and second are 0, and the sample stands
+ * beside them; look at the number first, since 0 is a sample too.
+ *
+ * Refused, in this order: as bk_pyramid_open from 6 (over 67,108,974 bytes) to 12, then
+ *   13 (place, count)   place is not one of 0 to count - 1; count is what bk_pyramid_open would give back
+ * There is no 7, and 9 with 0 is section 0's count: there is no area here. 8 with two equal numbers as in bk_pyramid_open.
+ *
+ * For example, of the 31 bytes that bk_pyramid_write_i8 makes of 0, 3, -4, 1, 7 at 2 levels for point 14, place 2 is -4. Of
+ * their first 27 bytes, which open at level 1 with 3 samples, place 1 is -3, and place 3 is refused with 13 (3, 3).
+ */
+bk_sample bk_pyramid_sample(const uint8_t *file, size_t file_bytes, uint32_t width, uint32_t point, uint64_t place);
 
 /*
  * Where section `number` of a pyramid file has its bytes, after its count: nothing is copied, the caller reads its own file

@@ -196,6 +196,16 @@ def opened(file, width, point):
     return (0, levels - len(details), len(samples)), packed(samples, width)
 
 
+# The answer to asking for one sample, and the sample: what opening would put there.
+def sampled(file, width, point, place):
+    said, samples = opened(file, width, point)
+    if said[0]:
+        return *said, 0
+    if place >= said[2]:
+        return 13, place, said[2], 0
+    return 0, 0, 0, unpacked(samples, width)[place]
+
+
 # ---- asking
 
 # A request, the numbers of its answer, and for each lent slice how many bytes at its front nobody knows, and all of it.
@@ -243,6 +253,10 @@ def look_up(file, width, point, number):
     return Ask(request("pyramid_section", [file], width, point, number), found(file, width, point, number), [])
 
 
+def read_sample(file, width, point, place):
+    return Ask(request("pyramid_sample", [file], width, point, place), sampled(file, width, point, place), [])
+
+
 def size_up(width, n, levels):
     return Ask(f"pyramid_size {width} {n} {levels}", sized(width, n, levels), [])
 
@@ -253,7 +267,7 @@ def read_head(file):
 
 class Tally:
     def __init__(self):
-        self.files = self.opens = self.refused = self.sections = self.missing = self.sizes = self.heads = 0
+        self.files = self.opens = self.refused = self.sections = self.missing = self.sizes = self.heads = self.samples = 0
 
     def count(self, ask, answer):
         said = len(ask.said)
@@ -273,6 +287,8 @@ class Tally:
             self.sizes += 1
         elif ask.request.startswith("pyramid_head"):
             self.heads += 1
+        elif ask.request.startswith("pyramid_sample"):
+            self.samples += 1
         else:
             self.files += ask.said[0] == 0
 
@@ -399,6 +415,33 @@ def sections(random):
                 for asked in (0, 3, 5, 8, width ^ 3):
                     yield look_up(file, asked, point, 1)
                 yield look_up(file, width, point ^ 1, 1)
+
+
+# Samples of fronts of files at any place, of P6 whole and cut, of files with a byte changed, and asked for another width or point.
+def samples(random):
+    figure = {27: [3, -3, 7], 31: [0, 3, -4, 1, 7]}
+    for cut in range(32):
+        for place in range(7):
+            ask = read_sample(P6[:cut], 1, 14, place)
+            if cut in figure:
+                values = figure[cut]
+                assert ask.said == ((0, 0, 0, values[place]) if place < len(values) else (13, place, len(values), 0))
+            yield ask
+    for width in FORMATS:
+        for n in [*range(3, 21), 33, 64, 65, 257, 1025]:
+            for _ in range(4):
+                file = any_file(random, width, n)
+                point = own(file)[3]
+                for cut in {len(file), len(file) - 1, *random.choices(range(len(file)), k=4)}:
+                    for place in {0, 1, 2, n - 1, n, *random.choices(range(n), k=4), random.choice((2**31, 2**32, 2**63, 2**64 - 1))}:
+                        yield read_sample(file[:cut], width, point, place)
+                for at in random.choices(range(len(file)), k=8):
+                    changed = file[:at] + bytes([random.randrange(256)]) + file[at + 1:]
+                    yield read_sample(changed, width, point, random.randrange(n))
+                yield read_sample(file + b"\0", width, point, 0)
+                for asked in (0, 3, 5, 8, width ^ 3, 256 + width):
+                    yield read_sample(file, asked, point, 0)
+                yield read_sample(file, width, point ^ 1, 0)
 
 
 # Writes that are refused, and those that just are not.
@@ -557,9 +600,11 @@ def limits(random):
         yield open_file(random, file, 4, 5, lambda full: [0, 0, 0])
         yield open_file(random, file, 4, 5, lambda full: [0, 4, 7])
         yield read_head(file)
+        yield read_sample(file, 4, 6, 0)
+        yield read_sample(file, 4, 5, 0)
 
 
-PARTS = [figures, files, sections, write_bounds, open_bounds, damaged, other_asked, heads, file_sizes, own_heads]
+PARTS = [figures, files, sections, samples, write_bounds, open_bounds, damaged, other_asked, heads, file_sizes, own_heads]
 
 
 def main():
@@ -570,7 +615,7 @@ def main():
     os.chdir(os.path.join(os.path.dirname(os.path.abspath(__file__)), ".."))
     source = random.Random(asked.seed)
     tally = compare((ask for part in asked.parts for ask in part(source)), Tally())
-    print(f"ok pyramid: {tally.files} files, {tally.opens} opens, {tally.refused} of them refused, {tally.sections} sections asked for, {tally.missing} of them refused, {tally.sizes} sizes, {tally.heads} heads")
+    print(f"ok pyramid: {tally.files} files, {tally.opens} opens, {tally.refused} of them refused, {tally.sections} sections asked for, {tally.missing} of them refused, {tally.sizes} sizes, {tally.heads} heads, {tally.samples} samples")
 
 
 if __name__ == "__main__":

@@ -3,7 +3,7 @@
 //
 // A request is `NAME arg arg ..`, one space between. A number is decimal; a slice is `x` and its bytes
 // in lowercase hex, for a lent slice those it has before the call. The answer is `number first second`,
-// then for pyramid_head its five fields, then ` x..` for each lent slice after the call, in order. Else one of
+// then for pyramid_head its five fields, for pyramid_sample the sample, then ` x..` for each lent slice after the call, in order. Else one of
 //   unknown NAME     no such function
 //   malformed NAME   the arguments are not of the function's shape
 //   broken NAME      the call wrote beside a slice, or into one that it may only read
@@ -105,7 +105,7 @@ static bk_answer call_wnw(function f, const struct arg *a) {
 }
 
 // What the last call returned beside its answer.
-static uint32_t fields[5];
+static int64_t fields[5];
 static size_t fields_used;
 
 static bk_answer call_r(function f, const struct arg *a) {
@@ -117,6 +117,14 @@ static bk_answer call_r(function f, const struct arg *a) {
     fields[4] = h.rate;
     fields_used = 5;
     return h.answer;
+}
+
+static bk_answer call_rwwn(function f, const struct arg *a) {
+    bk_sample s = ((bk_sample(*)(const uint8_t *, size_t, uint32_t, uint32_t, uint64_t))f)(
+        a[0].bytes, a[0].count, (uint32_t)a[1].number, (uint32_t)a[2].number, a[3].number);
+    fields[0] = s.sample;
+    fields_used = 1;
+    return s.answer;
 }
 
 static const struct shape shape_n = {"n", call_n};
@@ -131,6 +139,7 @@ static const struct shape shape_nwn = {"nwn", call_nwn};
 static const struct shape shape_rrwnn = {"rrwnn", call_rrwnn};
 static const struct shape shape_wnw = {"wnw", call_wnw};
 static const struct shape shape_r = {"r", call_r};
+static const struct shape shape_rwwn = {"rwwn", call_rwwn};
 
 static const struct row {
     const char *name;
@@ -180,6 +189,7 @@ static const struct row {
     {"pyramid_size", &shape_wnw, (function)bk_pyramid_size},
     {"pyramid_head", &shape_r, (function)bk_pyramid_head},
     {"pyramid_open", &shape_rwwmmm, (function)bk_pyramid_open},
+    {"pyramid_sample", &shape_rwwn, (function)bk_pyramid_sample},
     {"pyramid_section", &shape_rwww, (function)bk_pyramid_section},
     {"note_column", &shape_nwn, (function)bk_note_column},
     {"note_span", &shape_nwn, (function)bk_note_span},
@@ -319,7 +329,8 @@ static void call(const struct row *row, struct arg *args) {
     put_number(said.second);
     for (size_t i = 0; i < fields_used; i++) {
         put(' ');
-        put_number(fields[i]);
+        if (fields[i] < 0) put('-');
+        put_number(fields[i] < 0 ? 0 - (uint64_t)fields[i] : (uint64_t)fields[i]);
     }
     for (size_t i = 0; i < count; i++)
         if (kinds[i] == 'm') {

@@ -1,18 +1,16 @@
 -- What follows of a file that was cut anywhere: opening it is done, 7 or 10, so never 8, 9, 11 or 12; the whole file gives the samples, and
 -- nothing less does. Each of the integer
 -- filters.
-use mathlib.Core.Bool.{Bool, true, false, cond}
 use mathlib.Core.List.{List}
 use mathlib.Core.Logic.{_⊎_, inl, inr, ⊎-elim}
 use mathlib.Core.Path.{_≡_, refl, sym, ap, subst, _∙_}
-use Prim.Native.Nat.{ℕ, zero, suc, _-_, _/_, _≤_, _<_}
+use Prim.Native.Nat.{ℕ, zero, suc, _-_, _≤_, _<_}
 use native.Mathlib.Omega.{arith}
-use lib.Dec.{ltb}
 use lib.ListN.{take}
 use lib.Seq.{take-all}
 use Rattle.answers.specs.declared.err.Answer.{Answer}
 use Rattle.answers.specs.declared.err.Refusal.{Refusal}
-use Rattle.answers.specs.declared.err.Refusal.the-variants.{Done, NoRoom, CutShort}
+use Rattle.answers.specs.declared.err.Refusal.the-variants.{Done, CutShort}
 use Rattle.answers.specs.Answers.{answerOf}
 use Rattle.answers.specs.Checks.{firstOf}
 use Rattle.order.proofs.Order.{lt-or-le}
@@ -23,6 +21,7 @@ use Rattle.dwt.specs.Filters.{widthOf}
 use Rattle.dwt.specs.Pyramids.{approxAt}
 use Rattle.pyramid.specs.Files.{bodySize, fileSize}
 use Rattle.pyramid.specs.Opens.{roomsFor, sayOpen}
+use Rattle.pyramid.proofs.Opening.{rooms-say}
 use Rattle.cuts.specs.Sees.{needed, wholeOf, wholeIn, levelLeft, Sampled, Roomy, OpensTo}
 use Rattle.cuts.proofs.Restored.{whole-all, whole-less, whole-most}
 use Rattle.cuts.proofs.Filed.{Filed, all-length}
@@ -56,14 +55,7 @@ plain-is : (s t : Refusal) → s ≡ t → Plain (answerOf t) → Plain (answerO
 plain-is s t e h = subst (λ (a : Refusal). Plain (answerOf a)) (sym e) h
 
 rooms-plain : (k c o u v i : ℕ) → Plain (answerOf (firstOf (roomsFor k c o u v) (Done i c)))
-rooms-plain k c o u v i = first (ltb (o / k) c) (ltb (u / k) c) (ltb (v / k) c)
-  where
-    first : (a b d : Bool)
-        → Plain (answerOf (cond a (NoRoom (o / k) c) (cond b (NoRoom (u / k) c) (cond d (NoRoom (v / k) c) (Done i c)))))
-    first true b d = inr (inl refl)
-    first false true d = inr (inl refl)
-    first false false true = inr (inl refl)
-    first false false false = inl refl
+rooms-plain k c o u v i = ⊎-elim inl (λ e. inr (inl e)) (rooms-say k c o u v i)
 
 module _ {z : ℕ} {f : Filter} {l n p : ℕ} {x s : List ℕ} (d : Filed z f l n p x s) {o u v : ℕ} (a : Sampled (widthOf f) o u v) where
   abbrev k : ℕ

@@ -14,3 +14,4 @@ pub mod Demand3
 pub mod OpenT800
 pub mod SectionCalls
 pub mod HeadCalls
+pub mod PeekCalls

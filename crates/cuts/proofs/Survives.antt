@@ -1,10 +1,10 @@
 -- A file that was cut anywhere, from document 01: opening its first b bytes is 10 where section 1 is cut, and else gives the finest level that the whole
 -- sections reach, with just the approximations of that level; all of the file gives the samples. Each of the integer filters.
-use mathlib.Core.Bool.{true, false}
+use mathlib.Core.Bool.{false}
 use mathlib.Core.List.{List, [], _++_, append-assoc}
 use mathlib.Core.Logic.{⊎-elim}
 use mathlib.Core.Path.{_≡_, sym, ap, ap₂, subst, _∙_}
-use Prim.Native.Nat.{ℕ, _+_, _-_, _*_, _/_, _%_, _≤_, _<_}
+use Prim.Native.Nat.{ℕ, _+_, _-_, _*_, _/_, _≤_, _<_}
 use native.Mathlib.Nat.{le-div-iff-mul-le, mul-comm}
 use native.Mathlib.Omega.{arith}
 use borrow.Author.Tests.{le-ltb, ne-eqb}
@@ -13,12 +13,10 @@ use lib.ListN.{length, take, length-append}
 use Rattle.answers.specs.declared.err.Refusal.{Refusal}
 use Rattle.answers.specs.declared.err.Refusal.the-variants.{Done, CutShort}
 use Rattle.answers.specs.Checks.{Check, firstOf}
-use Rattle.answers.proofs.Chain.{same}
 use Rattle.order.proofs.Order.{lt-or-le}
 use Rattle.answers.proofs.Passed.{Passing, pass-both, through, pass-on}
 use Rattle.sizes.specs.Levels.{countAt}
-use Rattle.samples.specs.Integers.{isWidth}
-use Rattle.dwt.proofs.Integers.{own-depth, common}
+use Rattle.dwt.proofs.Integers.{own-depth}
 use Rattle.dwt.specs.declared.filter.Filter.{Filter}
 use Rattle.dwt.specs.Filters.{widthOf}
 use Rattle.dwt.specs.Pyramids.{approxAt}
@@ -28,15 +26,13 @@ use Rattle.pyramid.specs.declared.walk.Way.{Way}
 use Rattle.pyramid.specs.Files.{bodyOf, bodySize, fileSize}
 use Rattle.pyramid.specs.Walks.{walkOf, restoredAt}
 use Rattle.pyramid.specs.Opens.{headIn, headChecks, wayIn, wayChecks, fileChecks, wholeDetails, levelIn, countIn, samplesIn, areaChecks, roomsFor, sayOpen}
+use Rattle.pyramid.proofs.Opening.{whole-areas-pass}
 use Rattle.cuts.specs.Sees.{Sampled, Roomy, OpensTo, needed, wholeOf, wholeIn, levelLeft, wayWithin}
 use Rattle.cuts.proofs.Sized.{body-length}
 use Rattle.cuts.proofs.CutWalk.{walk-cut, within-whole}
 use Rattle.cuts.proofs.Restored.{restored-cut, whole-all}
 use Rattle.cuts.proofs.Filed.{Filed, cut-parts, cut-length}
 use Rattle.cuts.proofs.Whole.{first-most, within-none, within-short, whole-is}
-
-areas-pass : (k o u v : ℕ) → isWidth k ≡ true → Sampled k o u v → Passing (areaChecks k o u v)
-areas-pass k o u v e a = rw e (same (o % k) 0 (a .output), (same (u % k) 0 (a .first), (same (v % k) 0 (a .second), tt)))
 
 enough : (k c o : ℕ) → 0 < k → k * c ≤ o → ltb (o / k) c ≡ false
 enough k c o kp h = le-ltb (o / k) c (le-div-iff-mul-le kp .1 (omega (arith, mul-comm k c)))
@@ -134,7 +130,7 @@ module _ {z : ℕ} {f : Filter} {l n p : ℕ} {x s : List ℕ} (d : Filed z f l 
 
   module _ {o u v : ℕ} (a : Sampled (widthOf f) o u v) where
     areas-by : (m : List Check) (e : Refusal) → firstOf (areaChecks k o u v ++ m) e ≡ firstOf m e
-    areas-by m e = pass-on (areaChecks k o u v) m e (areas-pass k o u v (common f (d .recording .integers) .width) a)
+    areas-by m e = pass-on (areaChecks k o u v) m e (whole-areas-pass k o u v (λ _. (a .output, a .first, a .second)))
 
     -- cut in section 0 or 1: "10"
     pub cut-short : (b : ℕ) → b < needed z k l n → sayOpen (take b s) k p o u v ≡ CutShort b

@@ -3,14 +3,17 @@
 use mathlib.Core.Bool.{cond}
 use mathlib.Core.List.{List, [], _∷_, _++_}
 use mathlib.Core.Path.{_≡_}
-use Prim.Native.Nat.{ℕ, zero, suc, _+_, _-_, _*_, _%_, _≤_, _<_}
+use Prim.Native.Nat.{ℕ, zero, suc, _+_, _-_, _*_, _%_, _^_, _≤_, _<_}
 use lib.Dec.{leb}
+use lib.IntN.{pos}
 use lib.ListN.{length, take, drop}
 use Rattle.answers.specs.declared.err.Answer.{Answer}
 use Rattle.answers.specs.declared.err.Refusal.the-variants.{Done}
 use Rattle.answers.specs.Answers.{say}
 use Rattle.sizes.specs.Lengths.{approxLength}
 use Rattle.sizes.specs.Levels.{countAt}
+use Rattle.samples.specs.Words.{wordAt}
+use Rattle.samples.specs.Integers.{val}
 use Rattle.dwt.specs.declared.filter.Filter.{Filter}
 use Rattle.dwt.specs.Filters.{widthOf}
 use Rattle.dwt.specs.Pyramids.{approxAt, lengthsOf}
@@ -18,6 +21,8 @@ use Rattle.pyramid.specs.declared.walk.Way.{Way}
 use Rattle.pyramid.specs.declared.walk.Way.the-variants.{Went, Short, Wrong}
 use Rattle.pyramid.specs.Files.{bodySize, fileSize}
 use Rattle.pyramid.specs.Opens.{sayOpen, samplesIn, Open}
+use Rattle.peek.specs.declared.PeekAnswer.{PeekAnswer}
+use Rattle.peek.specs.Peeks.{Peek}
 
 -- ---- how much is whole
 
@@ -103,3 +108,21 @@ Openings z f l n p x s =
     (c : ℕ) → c ≤ fileSize z (widthOf f) l n → (o g h : List ℕ) → Sampled (widthOf f) (length o) (length g) (length h)
     → (needed z (widthOf f) l n ≤ c → Roomy (widthOf f) (countAt (levelLeft z (widthOf f) l n c) n) (length o) (length g) (length h))
     → (r : Answer) (o′ g′ h′ : List ℕ) → Open (take c s) (widthOf f) p o g h r o′ g′ h′ → Opened z f l n c x o r o′
+
+-- ---- one sample
+
+-- the answer q to asking the first c bytes of the file of x, of l levels and n samples, for the sample at place j
+pub record Peeked (z : ℕ) (f : Filter) (l n c : ℕ) (x : List ℕ) (j : ℕ) (q : PeekAnswer) : Type 0 where
+  -- below the end of the coarsest section it is 10 (c, 0)
+  pub cut : c < needed z (widthOf f) l n → (q .answer ≡ say 10 c 0) × (q .sample ≡ pos 0)
+  -- from there on it is done at each place of the level that is left, with the number of its approximation there
+  pub level : needed z (widthOf f) l n ≤ c → j < countAt (levelLeft z (widthOf f) l n c) n
+      → (q .answer ≡ say 0 0 0) × (q .sample ≡ val (256 ^ widthOf f) (wordAt (widthOf f) (approxAt f (levelLeft z (widthOf f) l n c) x) j))
+  -- and 13 at every other
+  pub past : needed z (widthOf f) l n ≤ c → countAt (levelLeft z (widthOf f) l n c) n ≤ j → (q .answer ≡ say 13 j (countAt (levelLeft z (widthOf f) l n c) n)) × (q .sample ≡ pos 0)
+  -- the whole file gives the recording's own sample
+  pub all : c ≡ fileSize z (widthOf f) l n → j < n → (q .answer ≡ say 0 0 0) × (q .sample ≡ val (256 ^ widthOf f) (wordAt (widthOf f) x j))
+
+-- every asking, for the same width and point, of the first c bytes of s
+abbrev pub Peeks : ℕ → Filter → ℕ → ℕ → ℕ → List ℕ → List ℕ → Type 0
+Peeks z f l n p x s = (c : ℕ) → c ≤ fileSize z (widthOf f) l n → (j : ℕ) (q : PeekAnswer) → Peek (take c s) (widthOf f) p j q → Peeked z f l n c x j q

@@ -1,14 +1,17 @@
-// Pyramid files: writing, opening, where a section is, what a file says of itself, and its size.
+// Pyramid files: writing, opening, one sample, where a section is, what a file says of itself, and its size.
 ghost use mathlib.Core.Path.{_≡_};
 ghost use Rattle.answers.specs.Answers.{answerOf};
 ghost use Rattle.pyramid.specs.Writes.{Write};
 ghost use Rattle.pyramid.specs.Opens.{Open, saySection};
 ghost use Rattle.heads.specs.Heads.{Told, saySize};
+ghost use Rattle.peek.specs.Peeks.{Peek};
 use answers::err::Answer;
 use dwt::filter::Filter;
 use heads::HeadAnswer;
 use heads::head;
 use heads::size;
+use peek::PeekAnswer;
+use peek::peek;
 use pyramid::open::open;
 use pyramid::section::section_answer;
 use writes::write::write;
@@ -69,6 +72,14 @@ pub extern "C" fn bk_pyramid_open(
     ensures { λ r. ⌜ Open (now (file .entry)) width point (now (out .entry)) (now (one .entry)) (now (two .entry)) r (now (out .exit)) (now (one .exit)) (now (two .exit)) ⌝ }
 {
     open(file, width as usize, point as usize, out, one, two)
+}
+
+// One sample of what opening would give back.
+#[no_mangle]
+pub extern "C" fn bk_pyramid_sample(file: &[u8], width: u32, point: u32, place: u64) -> PeekAnswer
+    ensures { λ r. ⌜ Peek (now (file .entry)) width point place r ⌝ }
+{
+    peek(file, width as usize, point as usize, place as usize)
 }
 
 // Where a section starts after its count, and how long it is: a part of the caller's own file.

@@ -1,12 +1,15 @@
 -- Each program that document 01 names to be shut out differs from the statement on an input: by computing.
 use mathlib.Core.List.{List, [], _∷_, _++_}
 use mathlib.Core.Path.{_≡_, refl, sym, ap, _∙_}
-use Prim.Native.Nat.{ℕ, _*_}
+use Prim.Native.Nat.{ℕ, _*_, _≤_, _<_}
 use native.Mathlib.Omega.{arith}
+use mathlib.Core.Bool.{true}
+use lib.IntN.{pos}
 use lib.ListN.{getD, take, drop}
 use Rattle.answers.specs.declared.err.Answer.{Answer}
+use Rattle.answers.specs.declared.err.Refusal.{Refusal}
 use Rattle.answers.specs.declared.err.Refusal.the-variants.{Done, MinFilterSize, BufferWasTooSmallForLevel}
-use Rattle.answers.specs.Answers.{answerOf}
+use Rattle.answers.specs.Answers.{say, answerOf, done}
 use Rattle.answers.specs.Checks.{left}
 use Rattle.sizes.specs.declared.Wavelet.the-variants.{Cdf53}
 use Rattle.sizes.specs.Calls.{sayForward, sayInverse}
@@ -25,7 +28,11 @@ use Rattle.dwt.specs.Calls.{sayDwt, sayMulti, OneForward, OneInverse, Dwt, Mult
 use Rattle.dwt.specs.Backward.{total, bandChecks, sayBack, MultiBack}
 use Rattle.cuts.specs.Sees.{OpensTo}
 use Rattle.pyramid.specs.Walks.{oneOf, walkOf}
-use Rattle.pyramid.specs.Opens.{countIn, samplesIn, Open, saySection, sectionIn}
+use Rattle.pyramid.specs.Opens.{countIn, samplesIn, sayFile, Open, saySection, sectionIn}
+use Rattle.pyramid.proofs.Opening.{open-taken, open-says}
+use Rattle.peek.specs.declared.PeekAnswer.{PeekAnswer}
+use Rattle.peek.specs.Peeks.{sayPeek, Peek}
+use Rattle.peek.proofs.Peeking.{say-past, say-done, peek-none, peek-some}
 use Rattle.heads.specs.Heads.{sayHead, saySize}
 use Rattle.figures.specs.Worked.{five, thirtyOne}
 use Rattle.figures.specs.ShutOut.{splitOnly, restSplit, detailsUp, three, one0, two0, three0, five0, lengths, NotAllRefused, ShutOut}
@@ -137,8 +144,29 @@ opened {s} e m = (
   m .output ∙ ap (λ t. left t (samplesIn s ++ drop (1 * countIn s) five0) five0) (e .says) ∙ ap (λ (y : List ℕ). y ++ drop (1 * countIn s) five0) (e .samples),
 )
 
+-- one sample of a file that opens so: at a place of what it gives back, and past it
+module _ {s : List ℕ} {l c : ℕ} {x : List ℕ} (e : OpensTo s 1 14 5 5 5 l c x) where
+  taken : done (sayFile s 1 14) ≡ true
+  taken = ap done (open-taken s 1 14 5 5 5 (ap done (e .says)))
+
+  count : countIn s ≡ c
+  count = ap (λ (r : Refusal). answerOf r .second) (sym (open-says s 1 14 5 5 5 (ap done (e .says)) .0) ∙ e .says)
+
+  says-sample : (j : ℕ) → j < c → sayPeek s 1 14 j ≡ Done 0 0
+  says-sample j h = say-done s 1 14 j taken (omega (arith, count))
+
+  one-at : (j : ℕ) {q : PeekAnswer} → j < c → Peek s 1 14 j q → (q .answer ≡ say 0 0 0) × (q .sample ≡ val 256 (wordAt 1 x j))
+  one-at j h m =
+      let d = says-sample j h in
+      (m .answer ∙ ap answerOf d, m .sample ∙ peek-some s 1 14 j d ∙ ap (λ (y : List ℕ). val 256 (wordAt 1 y j)) (e .samples))
+
+  none-at : (j : ℕ) {q : PeekAnswer} → c ≤ j → Peek s 1 14 j q → (q .answer ≡ say 13 j c) × (q .sample ≡ pos 0)
+  none-at j h m =
+      let d = say-past s 1 14 j taken (omega (arith, count)) in
+      (m .answer ∙ ap answerOf d ∙ ap (say 13 j) count, m .sample ∙ peek-none s 1 14 j (ap done d))
+
 not-all-refused : NotAllRefused
-not-all-refused = record { calls = each-done; depth = λ w. ap (λ l. Done l 0) (deep w); section = says-section; head = says-head; size = says-size; column = says-column; span = says-span; window = says-window }
+not-all-refused = record { calls = each-done; depth = λ w. ap (λ l. Done l 0) (deep w); section = says-section; head = says-head; size = says-size; sample = says-sample (p6-to-p10 .p10) 2 (omega arith); column = says-column; span = says-span; window = says-window }
 
 pub shut-out : ShutOut
 unfolding leAt leBytes tabulate wordAt wordsOf bytesOf val residue wrap decode encode detail details approx approxs low high afterLevels evenOf oddOf splitOnly restSplit detailsUp
@@ -156,6 +184,9 @@ shut-out =
       invented = λ m. let q = opened (p6-to-p10 .p9 27 (omega arith) (omega arith)) m in (ap (λ (r : Answer). r .first) (q .0), ap (λ (r : Answer). r .second) (q .0), ap (take 3) (q .1));
       no-further = says-cut;
       section-is = section-two;
+      one-sample = λ m. one-at (p6-to-p10 .p10) 2 (omega arith) m;
+      one-of-cut = λ m. one-at (p6-to-p10 .p9 27 (omega arith) (omega arith)) 1 (omega arith) m;
+      none-past-cut = λ m. none-at (p6-to-p10 .p9 27 (omega arith) (omega arith)) 3 (omega arith) m;
       toward-zero = λ m e. differ 0 (λ h. omega arith) (sym (ap (take 2) (levels m)) ∙ e);
       before-the-wrap = λ m e. differ 0 (λ h. omega arith) (sym (wrapped m) ∙ e);
       fused = fused-differs;

@@ -4,10 +4,11 @@ use mathlib.Core.List.{List, [], _∷_, _++_}
 use mathlib.Core.Path.{_≡_}
 use Prim.Native.Nat.{ℕ, zero, suc, _*_}
 use lib.Ieee.{Float, nan, inf, fin, binary32, unlike, add, mul}
-use lib.IntN.{_+ℤ_}
+use lib.IntN.{pos, _+ℤ_}
 use lib.ListN.{length, take}
 use Rattle.answers.specs.declared.err.Answer.{Answer}
 use Rattle.answers.specs.declared.err.Refusal.the-variants.{Done, MinFilterSize, BufferWasTooSmallForLevel}
+use Rattle.answers.specs.Answers.{say}
 use Rattle.sizes.specs.declared.Wavelet.{Wavelet}
 use Rattle.sizes.specs.declared.Wavelet.the-variants.{Cdf97}
 use Rattle.sizes.specs.Levels.{sayDepth}
@@ -27,8 +28,10 @@ use Rattle.dwt.specs.Backward.{MultiBack}
 use Rattle.pyramid.specs.Files.{headSize, fileSize, fileOf}
 use Rattle.pyramid.specs.Writes.{Write}
 use Rattle.pyramid.specs.Opens.{Open, saySection, sectionIn}
-use Rattle.figures.specs.Worked.{five, thirtyOne}
+use Rattle.figures.specs.Worked.{neg, five, thirtyOne}
 use Rattle.heads.specs.Heads.{sayHead, saySize}
+use Rattle.peek.specs.declared.PeekAnswer.{PeekAnswer}
+use Rattle.peek.specs.Peeks.{sayPeek, Peek}
 
 -- ---- what the wrong programs would give
 
@@ -136,6 +139,7 @@ pub record NotAllRefused : Type 0 where
   pub section : saySection thirtyOne 1 14 2 ≡ Done 24 1
   pub head : sayHead thirtyOne ≡ Done 0 0
   pub size : saySize 1 5 2 ≡ Done 31 0
+  pub sample : sayPeek thirtyOne 1 14 2 ≡ Done 0 0
   pub column : sayColumn 5 1 3 ≡ Done 1 0
   pub span : saySpan 5 1 1 ≡ Done 2 3
   pub window : sayWindow 1 2 1 0 1 1 ≡ Done 1 1
@@ -164,6 +168,11 @@ pub record ShutOut : Type 0 where
   -- a lookup that looks further than its section, or hands back the count too: 25 bytes have section 2 whole, and it is -8 alone
   pub no-further : saySection (take 25 thirtyOne) 1 14 2 ≡ Done 24 1
   pub section-is : sectionIn thirtyOne 1 14 2 ≡ 248 ∷ []
+  -- one sample that is a byte of the file at its place, 0, or a deepest approximation: the whole file has -4 at place 2
+  pub one-sample : {q : PeekAnswer} → Peek thirtyOne 1 14 2 q → (q .answer ≡ say 0 0 0) × (q .sample ≡ neg 4)
+  -- or the recording's own, 3, of a file that was cut: its first 27 bytes have level 1, -3 at place 1, and no place 3
+  pub one-of-cut : {q : PeekAnswer} → Peek (take 27 thirtyOne) 1 14 1 q → (q .answer ≡ say 0 0 0) × (q .sample ≡ neg 3)
+  pub none-past-cut : {q : PeekAnswer} → Peek (take 27 thirtyOne) 1 14 3 q → (q .answer ≡ say 13 3 3) × (q .sample ≡ pos 0)
   -- "dividing toward zero where floor is meant: P5's level 2 comes out wrong", as 0, 4
   pub toward-zero : {r : Answer} {o u v : List ℕ} → Multi Cdf53I8 2 five five0 five0 five0 r o u v → take 2 o ≡ 0 ∷ 4 ∷ [] → ⊥
   -- "updating evens from details before they wrapped": P3's -255 would leave 127 - 127, 0

@@ -2,17 +2,18 @@
 use Rattle.answers.specs.declared.err.Refusal.{Refusal}
 use mathlib.Core.Bool.{Bool, true, false, cond}
 use mathlib.Core.List.{List, [], _∷_, _++_}
-use mathlib.Core.Logic.{⊎-elim}
+use mathlib.Core.Logic.{_⊎_, inl, inr, ⊎-elim}
 use mathlib.Core.Path.{_≡_, refl, sym, ap}
-use Prim.Native.Nat.{ℕ, _+_, _-_, _*_, _/_, _≤_}
+use Prim.Native.Nat.{ℕ, _+_, _-_, _*_, _/_, _%_, _≤_}
 use native.Mathlib.Nat.{mul-le-mul-left}
 use native.Mathlib.Omega.{arith}
 use borrow.Author.Tests.{eqb-false, not-false}
-use lib.Dec.{eqb}
+use lib.Dec.{ltb, eqb}
 use lib.ListN.{length}
-use Rattle.answers.specs.declared.err.Refusal.the-variants.{Done}
-use Rattle.answers.specs.Answers.{done}
+use Rattle.answers.specs.declared.err.Refusal.the-variants.{Done, NoRoom}
+use Rattle.answers.specs.Answers.{answerOf, done}
 use Rattle.answers.specs.Checks.{ragged, Check, firstOf}
+use Rattle.answers.proofs.Chain.{same}
 use Rattle.answers.proofs.Passed.{Refusing, Passing, passing, both-refuse, both-pass, whole, roomy, right, through, pass-on, stop-there}
 use Rattle.sizes.specs.declared.Wavelet.the-variants.{Cdf53}
 use Rattle.sizes.specs.Lengths.{mostSamples}
@@ -99,6 +100,14 @@ way-passes s k l n at (Wrong j found) e h q = absurd (let z : _≡_ {A = ℕ} 0 
 
 -- ---- the file alone
 
+-- what its checks leave: section 0, and that the detail sections which are whole can be restored
+pub record Restorable (s : List ℕ) (w : ℕ) : Type 0 where
+  pub head : Headed s w
+  pub some : wholeDetails (wayIn s (headIn s)) (headIn s .levels) ≤ headIn s .levels
+  pub deep : wholeDetails (wayIn s (headIn s)) (headIn s .levels) ≤ depthOf Cdf53 (countIn s)
+  pub short : countIn s ≤ mostSamples
+  pub held : headIn s .body + bodySize w (wholeDetails (wayIn s (headIn s)) (headIn s .levels)) (countIn s) ≤ length s
+
 module _ (s : List ℕ) (w p : ℕ) where
   pub file-refuses : Refusing (fileChecks s w p)
   file-refuses = both-refuse (headChecks s w p) (wayChecks (wayIn s (headIn s)) (length s)) (head-refuses s w p) (way-refuses (wayIn s (headIn s)) (length s))
@@ -107,13 +116,31 @@ module _ (s : List ℕ) (w p : ℕ) where
   unfolding sayFile
   file-passes h = passing (fileChecks s w p) (Done (levelIn s) (countIn s)) file-refuses h
 
-  -- a file that is taken: what is said of it, what its section 0 tells, and that the rest of a list decides
+  -- a file that is taken: what is said of it, what is known of it, and that the rest of a list decides
   pub file-says : done (sayFile s w p) ≡ true → sayFile s w p ≡ Done (levelIn s) (countIn s)
   unfolding sayFile
   file-says h = through (fileChecks s w p) (Done (levelIn s) (countIn s)) (file-passes h)
 
-  pub file-headed : done (sayFile s w p) ≡ true → Headed s w
-  file-headed h = head-passes s w p (both-pass (headChecks s w p) (wayChecks (wayIn s (headIn s)) (length s)) (file-passes h) .0)
+  pub restorable : Passing (fileChecks s w p) → Restorable s w
+  restorable q =
+      let qw = both-pass (headChecks s w p) (wayChecks (wayIn s (headIn s)) (length s)) q in
+      let hd = head-passes s w p (qw .0) in
+      let l = headIn s .levels in
+      let n = headIn s .samples in
+      let m = wholeDetails (wayIn s (headIn s)) l in
+      let wy = way-passes s (headIn s .width) l n (headIn s .body) (wayIn s (headIn s)) refl (hd .there) (qw .1) in
+      let left : l - (l - m) ≡ m = omega (arith, wy .0) in
+      let dp = depth-rest Cdf53 (l - m) l n (omega arith) (hd .deep) in
+      record {
+        head = hd;
+        some = wy .0;
+        deep = omega (arith, left, dp);
+        short = omega (arith, count-at-le (l - m) n, hd .short);
+        held = omega (arith, ap (λ (j : ℕ). bodySize j m (countIn s)) (hd .width), wy .1);
+      }
+
+  pub file-restorable : done (sayFile s w p) ≡ true → Restorable s w
+  file-restorable h = restorable (file-passes h)
 
   pub file-rest : (m : List Check) (e : Refusal) → done (sayFile s w p) ≡ true → firstOf (fileChecks s w p ++ m) e ≡ firstOf m e
   file-rest m e h = pass-on (fileChecks s w p) m e (file-passes h)
@@ -134,13 +161,32 @@ area-refuses w o u v = pick (isWidth w)
 pub area-passes : (w o u v : ℕ) → isWidth w ≡ true → Passing (areaChecks w o u v) → (o ≡ w * (o / w)) × (u ≡ w * (u / w)) × (v ≡ w * (v / w))
 area-passes w o u v h q = let r = rw h at q in (whole w o (r .0), whole w u (r .1 .0), whole w v (r .1 .1 .0))
 
+pub whole-areas-pass : (w o u v : ℕ) → (isWidth w ≡ true → (o % w ≡ 0) × (u % w ≡ 0) × (v % w ≡ 0)) → Passing (areaChecks w o u v)
+whole-areas-pass w o u v h = pick (isWidth w) refl
+  where
+    pick : (b : Bool) → isWidth w ≡ b → Passing (cond b (ragged w o ∷ ragged w u ∷ ragged w v ∷ []) [])
+    pick true e = let a = h e in (same (o % w) 0 (a .0), (same (u % w) 0 (a .1), (same (v % w) 0 (a .2), tt)))
+    pick false e = tt
+
+-- what is said of room is done or 7, and tells the count
+rooms-by : (w c o u v l : ℕ) (P : Refusal → Type 0) → ((have : ℕ) → P (NoRoom have c)) → P (Done l c) → P (firstOf (roomsFor w c o u v) (Done l c))
+rooms-by w c o u v l P tight full = pick (ltb (o / w) c) (ltb (u / w) c) (ltb (v / w) c)
+  where
+    pick : (a b d : Bool) → P (cond a (NoRoom (o / w) c) (cond b (NoRoom (u / w) c) (cond d (NoRoom (v / w) c) (Done l c))))
+    pick true b d = tight (o / w)
+    pick false true d = tight (u / w)
+    pick false false true = tight (v / w)
+    pick false false false = full
+
+pub rooms-say : (w c o u v l : ℕ) → let r = answerOf (firstOf (roomsFor w c o u v) (Done l c)) in (r .number ≡ 0) ⊎ (r .number ≡ 7)
+rooms-say w c o u v l = rooms-by w c o u v l (λ r. (answerOf r .number ≡ 0) ⊎ (answerOf r .number ≡ 7)) (λ _. inr refl) (inl refl)
+
+pub rooms-count : (w c o u v l : ℕ) → answerOf (firstOf (roomsFor w c o u v) (Done l c)) .second ≡ c
+rooms-count w c o u v l = rooms-by w c o u v l (λ r. answerOf r .second ≡ c) (λ _. refl) refl
+
 -- what all checks leave: the levels can be restored, and there is room
 pub record Opening (s : List ℕ) (w o u v : ℕ) : Type 0 where
-  pub head : Headed s w
-  pub some : wholeDetails (wayIn s (headIn s)) (headIn s .levels) ≤ headIn s .levels
-  pub deep : wholeDetails (wayIn s (headIn s)) (headIn s .levels) ≤ depthOf Cdf53 (countIn s)
-  pub short : countIn s ≤ mostSamples
-  pub held : headIn s .body + bodySize w (wholeDetails (wayIn s (headIn s)) (headIn s .levels)) (countIn s) ≤ length s
+  pub file : Restorable s w
   pub output : w * countIn s ≤ o
   pub first : w * countIn s ≤ u
   pub second : w * countIn s ≤ v
@@ -170,28 +216,17 @@ module _ (s : List ℕ) (w p o u v : ℕ) (h : done (sayOpen s w p o u v) ≡ tr
       let qa = both-pass areas (file ++ rooms) passed in
       let qf = both-pass file rooms (qa .1) in
       let room = qf .1 in
-      let qw = both-pass (headChecks s w p) (wayChecks (wayIn s (headIn s)) (length s)) (qf .0) in
-      let hd = head-passes s w p (qw .0) in
-      let l = headIn s .levels in
-      let n = headIn s .samples in
-      let m = wholeDetails (wayIn s (headIn s)) l in
-      let wy = way-passes s (headIn s .width) l n (headIn s .body) (wayIn s (headIn s)) refl (hd .there) (qw .1) in
-      let ar = area-passes w o u v (hd .known) (qa .0) in
-      let left : l - (l - m) ≡ m = omega (arith, wy .0) in
-      let dp = depth-rest Cdf53 (l - m) l n (omega arith) (hd .deep) in
+      let rs = restorable s w p (qf .0) in
+      let ar = area-passes w o u v (rs .head .known) (qa .0) in
       let lo = mul-le-mul-left w (roomy (o / w) (countIn s) (room .0)) in
       let lu = mul-le-mul-left w (roomy (u / w) (countIn s) (room .1 .0)) in
       let lv = mul-le-mul-left w (roomy (v / w) (countIn s) (room .1 .1 .0)) in
-      record {
-        head = hd;
-        some = wy .0;
-        deep = omega (arith, left, dp);
-        short = omega (arith, count-at-le (l - m) n, hd .short);
-        held = omega (arith, ap (λ (j : ℕ). bodySize j m (countIn s)) (hd .width), wy .1);
-        output = omega (arith, lo, ar .0);
-        first = omega (arith, lu, ar .1);
-        second = omega (arith, lv, ar .2);
-      }
+      record { file = rs; output = omega (arith, lo, ar .0); first = omega (arith, lu, ar .1); second = omega (arith, lv, ar .2) }
+
+  -- the file is taken
+  pub open-taken : sayFile s w p ≡ Done (levelIn s) (countIn s)
+  unfolding sayFile
+  open-taken = through file (Done (levelIn s) (countIn s)) (both-pass file rooms (both-pass areas (file ++ rooms) passed .1) .0)
 
   -- a call that is done says the level and the count, for which there is room
   pub open-says : (sayOpen s w p o u v ≡ Done (levelIn s) (countIn s)) × (countIn s ≤ o / w)

@@ -25,7 +25,7 @@ shown s w p {o} {u} {v} {r} h z =
     let d = is-done (sayOpen s w p (length o) (length u) (length v)) r (h .answer) z in
     let i = open-says s w p (length o) (length u) (length v) d in
     let n : r .second ≡ countIn s = ap (λ (a : Answer). a .second) (h .answer) ∙ ap (λ t. answerOf t .second) (i .0) in
-    let y = open-ready s w p (length o) (length u) (length v) d .head in
+    let y = open-ready s w p (length o) (length u) (length v) d .file .head in
     record {
       there = y .there;
       known = λ k e. subst Width (sym (e ∙ y .width)) (width-of w (y .known));

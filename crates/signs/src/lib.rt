@@ -1,6 +1,6 @@
-// The signed number that a stored word stands for, as it is printed: a sign and a size.
+// The signed number that a stored word stands for: as a sign and a size, as it is printed, and as one number.
 ghost use mathlib.Core.Path.{_≡_};
-ghost use Prim.Native.Nat.{_/_, _^_, _<_};
+ghost use Prim.Native.Nat.{_/_, _^_, _≤_, _<_};
 ghost use Rattle.samples.specs.Integers.{Width, val};
 ghost use Rattle.signs.specs.Numbers.{numberOf};
 
@@ -28,7 +28,7 @@ fn half(k: usize) -> u64
 pub fn signed(k: usize, word: u32) -> Number
     requires { ⌜ Width k ⌝ }
     requires { ⌜ word < 256 ^ k ⌝ }
-    ensures { λ r. ⌜ numberOf r ≡ val (256 ^ k) word ⌝ }
+    ensures { λ r. ⌜ (numberOf r ≡ val (256 ^ k) word) × (r .size ≤ 4294967296) ⌝ }
 {
     let u = word as u64;
     let middle = half(k);
@@ -42,4 +42,15 @@ pub fn signed(k: usize, word: u32) -> Number
         negative: true,
         size: 2 * middle - u,
     }
+}
+
+// The same as one number.
+pub fn value(k: usize, word: u32) -> i64
+    requires { ⌜ Width k ⌝ }
+    requires { ⌜ word < 256 ^ k ⌝ }
+    ensures { λ r. ⌜ r ≡ val (256 ^ k) word ⌝ }
+{
+    let n = signed(k, word);
+    let size = n.size as i64;
+    if n.negative { 0 - size } else { size }
 }

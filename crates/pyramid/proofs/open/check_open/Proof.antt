@@ -13,7 +13,7 @@ use Rattle.answers.specs.Checks.{Check, firstOf}
 use Rattle.answers.proofs.Passed.{passing, through, say-rest, say-stop, other-end}
 use Rattle.samples.proofs.IntegerLaws.{width-of}
 use Rattle.pyramid.specs.Opens.{fileChecks, levelIn, countIn, sayFile, areaChecks, roomsFor, sayOpen}
-use Rattle.pyramid.proofs.Opening.{area-refuses, file-says, file-headed, file-rest, file-stop}
+use Rattle.pyramid.proofs.Opening.{area-refuses, file-says, file-restorable, file-rest, file-stop}
 use Rattle.pyramid.proofs.open.check_open.Statement.{statement}
 use Rattle.pyramid.proofs.open.check_open.Tie as tie
 
@@ -79,5 +79,5 @@ check-open-spec =
     tie.close
     (tie.spec
     (λ c κs. search needs) (λ c κs. search needs) returns (λ c κs. search needs) (λ c κs. search needs) returns-2
-    (λ c κs. search needs) (λ c κs. let a = c .before .before .before .before .before .before .before .before .args in width-of _ (file-headed (a .s .now) (a .w) (a .p) (taken (c .before)) .known) .some)
+    (λ c κs. search needs) (λ c κs. let a = c .before .before .before .before .before .before .before .before .args in width-of _ (file-restorable (a .s .now) (a .w) (a .p) (taken (c .before)) .head .known) .some)
     (λ c κs. search needs) returns-3 returns-4)

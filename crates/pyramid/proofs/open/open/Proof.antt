@@ -33,7 +33,7 @@ answer c = let a = c .before .before .before .before .before .before .before .be
 details : (c : tie.After-head-in) → let s = c .before .before .before .before .before .before .before .before .before .args .s .now in c .head-in .result .levels - c .before .before .before .numbers .result .first ≡ wholeDetails (wayIn s (headIn s)) (headIn s .levels)
 details c =
     let e = ap (λ (r : Answer). r .first) (answer (c .before)) in
-    omega (arith, e, ap (λ (h : Head). h .levels) (c .head-in .ensures .0), ready (c .before) .some)
+    omega (arith, e, ap (λ (h : Head). h .levels) (c .head-in .ensures .0), ready (c .before) .file .some)
 
 count : (c : tie.Then1) → c .before .before .numbers .result .second ≡ countIn (c .before .before .before .before .before .before .before .before .args .s .now)
 count c = ap (λ (r : Answer). r .second) (answer c)
@@ -42,10 +42,10 @@ restore-requires : tie.Need-restore-requires
 restore-requires c κs =
     let a = c .before .before .before .before .before .before .before .before .before .before .before .before .before .args in
     let r = ready (c .before .before .before .before .before) in
-    let w = filter-width (a .w) (r .head .known) in
+    let w = filter-width (a .w) (r .file .head .known) in
     let i = filter-integers (a .w) in
     rw (c .before .before .filter-of .ensures, details (c .before .before .before .before), count (c .before .before .before .before .before), ap (λ (h : Head). h .body) (c .before .before .before .before .head-in .ensures .0))
-    (i, (record { deep = rw (wavelet-is (filterOf (a .w)) i) (r .deep); short = r .short; first = rw w (r .output); second = rw w (r .first) }, rw w (r .held)))
+    (i, (record { deep = rw (wavelet-is (filterOf (a .w)) i) (r .file .deep); short = r .file .short; first = rw w (r .output); second = rw w (r .first) }, rw w (r .file .held)))
 
 returns : tie.Need-returns
 unfolding samplesIn
@@ -59,10 +59,10 @@ returns c =
     let h = c .before .before .before .before .before .before .before .before .before .head-in in
     let m = h .result .levels - then .before .before .numbers .result .first in
     let n = then .before .before .numbers .result .second in
-    let wide : widthOf (g .result) ≡ a .w = ap widthOf (g .ensures) ∙ filter-width (a .w) (r .head .known) in
+    let wide : widthOf (g .result) ≡ a .w = ap widthOf (g .ensures) ∙ filter-width (a .w) (r .file .head .known) in
     let size : widthOf (g .result) * n ≡ a .w * countIn s = ap₂ (λ (k j : ℕ). k * j) wide (count then) in
     let all : restoredAt (widthOf (g .result)) s m n (h .result .body) ≡ samplesIn s =
-    rw (wide ∙ sym (r .head .width), details (c .before .before .before .before .before .before .before .before .before), count then) (ap (λ (i : Head). restoredAt (headIn s .width) s (wholeDetails (wayIn s (headIn s)) (headIn s .levels)) (countIn s) (i .body)) (h .ensures .0)) in
+    rw (wide ∙ sym (r .file .head .width), details (c .before .before .before .before .before .before .before .before .before), count then) (ap (λ (i : Head). restoredAt (headIn s .width) s (wholeDetails (wayIn s (headIn s)) (headIn s .levels)) (countIn s) (i .body)) (h .ensures .0)) in
     call-done (then .before .before .before .check-open .ensures) (then .before .before .numbers .ensures) (sym (then .before .is-done .ensures) ∙ then .if1 .taken)
     (e .0 ∙ ap₂ (λ (x : List ℕ) (j : ℕ). x ++ drop j (a .out .now)) all size)
     (rw size at (e .1 .0)) refl
@@ -72,7 +72,7 @@ open-spec =
     tie.close
     (tie.spec
     (λ c κs. search needs) (λ c κs. search needs) (λ c κs. search needs)
-    (λ c κs. ready c .head .there)
+    (λ c κs. ready c .file .head .there)
     (λ c. omega (arith, ap (λ (r : Answer). r .first) (answer (c .before .before)), ap (λ (h : Head). h .levels) (c .before .head-in .ensures .0))) (λ c κs. search needs)
     restore-requires (λ c. search needs) (λ c. search needs) returns
     (λ c. call-refused (c .before .before .before .check-open .ensures) (c .before .before .numbers .ensures) (sym (c .before .is-done .ensures) ∙ c .if1 .left)))

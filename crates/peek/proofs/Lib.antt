@@ -1,0 +1,3 @@
+pub mod OneSample
+pub mod Peeking
+pub mod AsOpened

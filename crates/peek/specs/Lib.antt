@@ -1,0 +1,2 @@
+pub mod Peeks
+pub mod Neighbours
