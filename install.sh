@@ -122,8 +122,11 @@ if [ -n "$library" ]; then
     echo "install.sh: nothing is proved now: $library is installed as it is"
 else
     library=target/staticlib/libdesk.a
-    echo "install.sh: proving the library, whose last crate is desk (target/install.log has all of it)"
-    tests/desk/prove target/install.log staticlib desk || exit 1
+    echo "install.sh: proving the library, whose last crate is desk (target/install.log and target/install-desk.log have all of it)"
+    # what desk stands on first, side by side: rt staticlib would prove one crate after the other
+    # shellcheck disable=SC2046
+    tests/desk/prove target/install.log check $(sed -n 's/^desk://p' crates.txt) || exit 1
+    tests/desk/prove target/install-desk.log staticlib desk || exit 1
     holds_all "$library"
 fi
 
