@@ -124,8 +124,10 @@ else
     library=target/staticlib/libdesk.a
     echo "install.sh: proving the library, whose last crate is desk (target/install.log and target/install-desk.log have all of it)"
     # what desk stands on first, side by side: rt staticlib would prove one crate after the other
-    # shellcheck disable=SC2046
-    tests/desk/prove target/install.log check $(sed -n 's/^desk://p' crates.txt) || exit 1
+    below=''
+    for crate in $(sed -n 's/^desk://p' crates.txt); do [ ! -d "crates/$crate" ] || below="$below $crate"; done
+    # shellcheck disable=SC2086
+    tests/desk/prove target/install.log check $below || exit 1
     tests/desk/prove target/install-desk.log staticlib desk || exit 1
     holds_all "$library"
 fi

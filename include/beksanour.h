@@ -33,9 +33,10 @@
  * Good to know, said once:
  *
  * Bytes or samples. A parameter whose name ends in _bytes is a length in bytes, and a width is a sample's size in bytes. n,
- * sample, place, start and count are numbers of samples; the sample of a bk_sample is its value. In an answer bytes are: what bk_pyramid_size, bk_pyramid_section and
- * bk_band_window_T give when done; the numbers of 10 and 12; the length of 9 (0, length) and the count of section 0; and of 7
- * those of the file that is written. All other lengths and counts in an answer are samples.
+ * sample, place, start and count, as parameters, are numbers of samples; the sample of a bk_sample is its value. In an answer
+ * bytes are: what bk_pyramid_size, bk_pyramid_section and bk_band_window_T give when done; the numbers of 10 and 12; the length
+ * of 9 (0, length) and the count of section 0; and of 7 those of the file that is written. All other lengths and counts in an
+ * answer are samples.
  *
  * How much room. A slice may be lent with length 0 to ask. bk_pyramid_open with three empty areas answers 7 (0, count) for a
  * file that opens, and a write with an empty file answers 7 (0, size); nothing is changed. The same refusal comes for areas
@@ -496,6 +497,10 @@ typedef struct bk_sample {
  * file is whole, in the approximations of the finest whole level where it was cut. No room is lent and nothing is restored: a
  * sample takes a few bytes of each level, however long the recording is. Done: first and second are 0, and the sample stands
  * beside them; look at the number first, since 0 is a sample too.
+ *
+ * The answer does not tell the level. It is the recording's own sample where the file is whole, that is where file_bytes is what
+ * bk_pyramid_size says of the head's width, samples and levels. Where the file was cut, ask bk_pyramid_open once which level is
+ * left, and then here for the column that bk_note_column gives at that level.
  *
  * Refused, in this order: as bk_pyramid_open from 6 (over 67,108,974 bytes) to 12, then
  *   13 (place, count)   place is not one of 0 to count - 1; count is what bk_pyramid_open would give back

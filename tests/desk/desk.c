@@ -3,7 +3,8 @@
 //
 // A request is `NAME arg arg ..`, one space between. A number is decimal; a slice is `x` and its bytes
 // in lowercase hex, for a lent slice those it has before the call. The answer is `number first second`,
-// then for pyramid_head its five fields, for pyramid_sample the sample, then ` x..` for each lent slice after the call, in order. Else one of
+// then for pyramid_head its five fields, for pyramid_sample the sample, then ` x..` for each lent slice
+// after the call, in order. Else one of
 //   unknown NAME     no such function
 //   malformed NAME   the arguments are not of the function's shape
 //   broken NAME      the call wrote beside a slice, or into one that it may only read

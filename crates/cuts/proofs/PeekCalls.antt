@@ -1,6 +1,7 @@
 -- One sample of a file that was cut anywhere: 10 where section 1 is not whole, and else the approximation of the level that the whole sections reach, which demand 3
 -- speaks of. Each of the integer filters.
 use mathlib.Core.List.{List, [], _∷_}
+use mathlib.Core.Logic.{⊎-elim}
 use mathlib.Core.Path.{_≡_, ap, subst, _∙_}
 use Prim.Native.Nat.{ℕ, _*_, _/_, _^_, _≤_, _<_}
 use native.Mathlib.Omega.{arith}
@@ -12,6 +13,7 @@ use Rattle.answers.specs.declared.err.Refusal.the-variants.{Done, CutShort}
 use Rattle.answers.specs.Answers.{say, answerOf, done}
 use Rattle.answers.specs.Checks.{outside}
 use Rattle.answers.proofs.Passed.{through}
+use Rattle.order.proofs.Order.{lt-or-le}
 use Rattle.sizes.specs.declared.Wavelet.the-variants.{Cdf53}
 use Rattle.sizes.specs.Lengths.{mostSamples}
 use Rattle.sizes.specs.Levels.{afterLevels, countAt, depthOf, levelsOf}
@@ -30,7 +32,7 @@ use Rattle.pyramid.specs.Writes.{Write}
 use Rattle.peek.specs.declared.PeekAnswer.{PeekAnswer}
 use Rattle.peek.specs.Peeks.{sayPeek, Peek}
 use Rattle.peek.proofs.Peeking.{say-past, say-done, peek-none, peek-some}
-use Rattle.cuts.specs.Sees.{needed, levelLeft, Peeked, Peeks}
+use Rattle.cuts.specs.Sees.{needed, levelLeft, Peeked, Peekings}
 use Rattle.cuts.proofs.Filed.{Filed}
 use Rattle.cuts.proofs.Whole.{first-most}
 use Rattle.cuts.proofs.Survives.{count-left, samples-are, file-short, file-passes}
@@ -74,21 +76,37 @@ module _ {z : ℕ} {f : Filter} {l n p : ℕ} {x s : List ℕ} (d : Filed z f l 
       subst (λ (o : ℕ). j < countAt o n → (q .answer ≡ say 0 0 0) × (q .sample ≡ val (256 ^ k) (wordAt k (approxAt f o x) j))) none (within (omega (arith, first-most k l n))) h
 
   peeked : Peeked z f l n c x j q
-  peeked = record { cut = below; level = within; past = beyond; all = whole-file }
+  peeked =
+      record {
+        cut = below;
+        only-cut = λ ten.
+            ⊎-elim
+            (λ e. e)
+            (λ (e : needed z k l n ≤ c).
+            absurd
+            (⊎-elim
+            (λ (h : j < countAt i n). let y : q .answer .number ≡ 0 = ap (λ (a : Answer). a .number) (within e h .0) in omega arith)
+            (λ (h : countAt i n ≤ j). let y : q .answer .number ≡ 13 = ap (λ (a : Answer). a .number) (beyond e h .0) in omega arith)
+            (lt-or-le j (countAt i n))))
+            (lt-or-le c (needed z k l n));
+        level = within;
+        past = beyond;
+        all = whole-file;
+      }
 
 -- the first bytes of what a done write left
 pub written-peeks : (f : Filter) (l p : ℕ) (x : List ℕ) → Integers f → Bytes x → p < 2 ^ 32 → (b u v : List ℕ) (a : Answer) (b′ u′ v′ : List ℕ)
-    → Write f l p x b u v a b′ u′ v′ → a .number ≡ 0 → Peeks headSize f (levelsOf l) (length x / widthOf f) p x b′
+    → Write f l p x b u v a b′ u′ v′ → a .number ≡ 0 → Peekings headSize f (levelsOf l) (length x / widthOf f) p x b′
 written-peeks f l p x i bx hp b u v a b′ u′ v′ w z = λ c e j q m.
     peeked (written f l p x i bx hp b u v a b′ u′ v′ w z) c e j q (subst (λ (s : List ℕ). Peek s (widthOf f) p j q) (front-in f l p x i bx hp b u v a b′ u′ v′ w z c e) m)
 
--- demand 3, one sample at a time: with room the write is done, and each front of what it wrote is asked as `Peeks` says
+-- demand 3, one sample at a time: with room the write is done, and each front of what it wrote is asked as `Peekings` says
 pub demand3-peeks : (f : Filter) → Integers f → (L n p : ℕ) → 1 ≤ L → L ≤ depthOf Cdf53 n → n ≤ mostSamples → p < 2 ^ 32 → (x : List ℕ) → Bytes x → length x ≡ widthOf f * n
     → (b u v : List ℕ) → fileSize headSize (widthOf f) L n ≤ length b → Area (widthOf f) (length x) u → Area (widthOf f) (length x) v
-    → (a : Answer) (b′ u′ v′ : List ℕ) → Write f L p x b u v a b′ u′ v′ → (a ≡ say 0 0 0) × Peeks headSize f L n p x b′
+    → (a : Answer) (b′ u′ v′ : List ℕ) → Write f L p x b u v a b′ u′ v′ → (a ≡ say 0 0 0) × Peekings headSize f L n p x b′
 demand3-peeks f i L n p some deep most hp x bx size b u v file first second a b′ u′ v′ w =
     let el : levelsOf L ≡ L = rw (ne-eqb L 0 (λ z. omega arith)) in
     let en : length x / widthOf f ≡ n = count-is (widthOf f) n (length x) (width-pos f) size in
     let t = demand3-calls f i L n p some deep most hp x bx size b u v file first second a b′ u′ v′ w .0 in
     let all = written-peeks f L p x i bx hp b u v a b′ u′ v′ w (ap (λ (q : Answer). q .number) t) in
-    (t, subst (λ (m : ℕ). Peeks headSize f L m p x b′) en (subst (λ (m : ℕ). Peeks headSize f m (length x / widthOf f) p x b′) el all))
+    (t, subst (λ (m : ℕ). Peekings headSize f L m p x b′) en (subst (λ (m : ℕ). Peekings headSize f m (length x / widthOf f) p x b′) el all))

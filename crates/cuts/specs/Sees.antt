@@ -113,8 +113,9 @@ Openings z f l n p x s =
 
 -- the answer q to asking the first c bytes of the file of x, of l levels and n samples, for the sample at place j
 pub record Peeked (z : ℕ) (f : Filter) (l n c : ℕ) (x : List ℕ) (j : ℕ) (q : PeekAnswer) : Type 0 where
-  -- below the end of the coarsest section it is 10 (c, 0)
+  -- below the end of the coarsest section it is 10 (c, 0), and nowhere else is it 10
   pub cut : c < needed z (widthOf f) l n → (q .answer ≡ say 10 c 0) × (q .sample ≡ pos 0)
+  pub only-cut : q .answer .number ≡ 10 → c < needed z (widthOf f) l n
   -- from there on it is done at each place of the level that is left, with the number of its approximation there
   pub level : needed z (widthOf f) l n ≤ c → j < countAt (levelLeft z (widthOf f) l n c) n
       → (q .answer ≡ say 0 0 0) × (q .sample ≡ val (256 ^ widthOf f) (wordAt (widthOf f) (approxAt f (levelLeft z (widthOf f) l n c) x) j))
@@ -124,5 +125,5 @@ pub record Peeked (z : ℕ) (f : Filter) (l n c : ℕ) (x : List ℕ) (j : ℕ) 
   pub all : c ≡ fileSize z (widthOf f) l n → j < n → (q .answer ≡ say 0 0 0) × (q .sample ≡ val (256 ^ widthOf f) (wordAt (widthOf f) x j))
 
 -- every asking, for the same width and point, of the first c bytes of s
-abbrev pub Peeks : ℕ → Filter → ℕ → ℕ → ℕ → List ℕ → List ℕ → Type 0
-Peeks z f l n p x s = (c : ℕ) → c ≤ fileSize z (widthOf f) l n → (j : ℕ) (q : PeekAnswer) → Peek (take c s) (widthOf f) p j q → Peeked z f l n c x j q
+abbrev pub Peekings : ℕ → Filter → ℕ → ℕ → ℕ → List ℕ → List ℕ → Type 0
+Peekings z f l n p x s = (c : ℕ) → c ≤ fileSize z (widthOf f) l n → (j : ℕ) (q : PeekAnswer) → Peek (take c s) (widthOf f) p j q → Peeked z f l n c x j q

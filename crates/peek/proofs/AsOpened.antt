@@ -162,8 +162,10 @@ module _ (s : List ℕ) (w p : ℕ) {o u v : List ℕ} {r : Answer} {o′ u′ v
         let f = no-room-file s w p (length o) (length u) (length v) (ap (λ (a : Answer). a .number) (sym (call .answer)) ∙ z) in
         (f .0, ap (λ (a : Answer). a .second) (call .answer) ∙ f .1)
 
-    pub as-probed : (j : ℕ) → j < r .second → (q : PeekAnswer) → Peek s w p j q → q .answer ≡ say 0 0 0
-    as-probed j h q m = m .answer ∙ ap answerOf (say-done s w p j (probed .0) (rw (probed .1) at h))
+    pub as-probed : (j : ℕ) → j < r .second → (q : PeekAnswer) → Peek s w p j q → (q .answer ≡ say 0 0 0) × (q .sample ≡ val (256 ^ w) (wordAt w (samplesIn s) j))
+    as-probed j h q m =
+        let d = say-done s w p j (probed .0) (rw (probed .1) at h) in
+        (m .answer ∙ ap answerOf d, m .sample ∙ peek-some s w p j d)
 
     pub past-probed : (j : ℕ) → r .second ≤ j → (q : PeekAnswer) → Peek s w p j q → (q .answer ≡ say 13 j (r .second)) × (q .sample ≡ pos 0)
     past-probed j h q m = past (probed .0) (probed .1) j h q m

@@ -36,8 +36,8 @@ fn before(i: usize) -> usize
     if i == 0 { 0 } else { i - 1 }
 }
 
-// The word of sample i of the section of `count` samples at `at`.
-fn word_in(s: &[u8], k: usize, count: usize, at: usize, i: usize) -> u32
+// The word of sample i that is stored in the section of `count` samples at `at`.
+fn stored_word(s: &[u8], k: usize, count: usize, at: usize, i: usize) -> u32
     requires { ⌜ Width k ⌝ }
     requires { ⌜ (at + (4 + k * count) ≤ length (now s)) × (i < count) ⌝ }
     ensures { λ r. ⌜ (r ≡ wordAt k (bytesAt k (now (s .entry)) count at) i) × (r < 256 ^ k) ⌝ }
@@ -53,7 +53,7 @@ fn detail_in(s: &[u8], k: usize, n: usize, at: usize, i: usize) -> u32
     requires { ⌜ (at + (4 + k * detailsLength n) ≤ length (now s)) × (i < detailsLength n) ⌝ }
     ensures { λ r. ⌜ (r ≡ wordAt k (bytesAt k (now (s .entry)) (detailsLength n) at) i) × (r < 256 ^ k) ⌝ }
 {
-    word_in(s, k, details_length(n), at, i)
+    stored_word(s, k, details_length(n), at, i)
 }
 
 // Even sample i of that level, whose approximation is the word x.
@@ -105,8 +105,8 @@ fn deepest_evens(s: &[u8], k: usize, n: usize, at: usize, r: usize) -> TwoWords
 {
     let next = lesser(r + 1, approx_length(n) - 1);
     TwoWords {
-        here: word_in(s, k, n, at, 2 * r),
-        after: word_in(s, k, n, at, 2 * next),
+        here: stored_word(s, k, n, at, 2 * r),
+        after: stored_word(s, k, n, at, 2 * next),
     }
 }
 
@@ -145,7 +145,7 @@ fn odd_between(s: &[u8], k: usize, levels: usize, n: usize, at: usize, r: usize,
         return e.here;
     }
     if levels == 0 {
-        return word_in(s, k, n, at, 2 * r + 1);
+        return stored_word(s, k, n, at, 2 * r + 1);
     }
     let place = details_at(k, levels, n, at);
     let d = detail_in(s, k, n, place, r);

@@ -14,10 +14,10 @@ returns c =
     let none = word-none (a .k) (a .n) (a .at) (a .s .now) 0 in
     let next : c .before .before .lesser .result ≡ min (a .r + 1) (approxLength (a .n) - 1) = c .before .before .lesser .ensures ∙ ap (λ (m : ℕ). min (a .r + 1) (m - 1)) (c .before .before .before .approx-length .ensures) in
     record {
-      here = c .before .word-in .ensures .0 ∙ none (2 * a .r) refl;
-      after = c .word-in2 .ensures .0 ∙ none (2 * c .before .before .lesser .result) refl ∙ ap (λ (j : ℕ). wordIn (a .k) (a .s .now) 0 (a .n) (a .at) (2 * j)) next;
-      low = c .before .word-in .ensures .1;
-      high = c .word-in2 .ensures .1;
+      here = c .before .stored-word .ensures .0 ∙ none (2 * a .r) refl;
+      after = c .stored-word2 .ensures .0 ∙ none (2 * c .before .before .lesser .result) refl ∙ ap (λ (j : ℕ). wordIn (a .k) (a .s .now) 0 (a .n) (a .at) (2 * j)) next;
+      low = c .before .stored-word .ensures .1;
+      high = c .stored-word2 .ensures .1;
     }
 
 pub deepest-evens-spec : {M : Type 1} → statement M

@@ -8,4 +8,4 @@ detail-in-spec =
     tie.close
     (tie.spec
     (λ c κs. search needs) (λ c κs. rw (c .details-length .ensures) (c .before .before .pre))
-    (λ c. rw (c .before .details-length .ensures) at (c .word-in .ensures)))
+    (λ c. rw (c .before .details-length .ensures) at (c .stored-word .ensures)))

@@ -24,8 +24,8 @@ returns-2 : tie.Need-returns-2
 returns-2 c =
     let a = c .before .before .before .before .args in
     let g = wordIn (a .k) (a .s .now) (a .levels) (a .n) (a .at) in (
-      c .word-in .ensures .0 ∙ word-none (a .k) (a .n) (a .at) (a .s .now) (a .levels) (2 * a .r + 1) (c .before .if2 .taken) ∙ ap g (odd-is (a .n) (a .r) (c .before .before .if1 .left)),
-      c .word-in .ensures .1,
+      c .stored-word .ensures .0 ∙ word-none (a .k) (a .n) (a .at) (a .s .now) (a .levels) (2 * a .r + 1) (c .before .if2 .taken) ∙ ap g (odd-is (a .n) (a .r) (c .before .before .if1 .left)),
+      c .stored-word .ensures .1,
     )
 
 detail-in-requires : tie.Need-detail-in-requires
