@@ -180,7 +180,7 @@ fn odd_sample(s: &[u8], k: usize, levels: usize, n: usize, at: usize, r: usize) 
 }
 
 // The same width as one of three constants. LLVM then knows that words read by `get` have no other width, and makes the filters' loops over words as it does
-// without this crate: with a width that it does not know, one level of 8 or 16 bits took three times as long.
+// without this crate: with a width that it does not know it makes them slower (docs/DECISIONS.md has how much).
 fn known_width(k: usize) -> usize
     requires { ⌜ Width k ⌝ }
     ensures { λ r. ⌜ r ≡ k ⌝ }
