@@ -5,6 +5,7 @@ use Prim.Native.Nat.{ℕ, zero, suc, _+_, _-_, _*_, _^_, _≤_, _<_}
 use native.Mathlib.Nat.{pow-succ'}
 use native.Mathlib.Omega.{arith}
 use borrow.Author.Tests.{le-ltb, lt-ltb}
+use lib.Count.{leadingZeros, leading-of-zero, leading-top}
 use lib.Pow.{pow-pos}
 use Rattle.order.proofs.Order.{lt-or-le}
 use Rattle.sizes.specs.declared.Wavelet.{Wavelet}
@@ -92,15 +93,6 @@ three-below : (w : Wavelet) → 3 ≤ smallestOf w
 three-below Cdf53 = omega arith
 three-below Cdf97 = omega arith
 
--- the 5/3 depth of a power of two
-pub depth-power : (k : ℕ) → depthOf Cdf53 (2 ^ suc k) ≡ k
-depth-power zero = too-short 3 (omega arith) 2 (omega arith)
-depth-power (suc k) =
-    let e : 2 ^ suc (suc k) ≡ 2 * 2 ^ suc k = pow-succ' 2 (suc k) in
-    let p : 2 ≤ 2 ^ suc k = omega (arith, pow-succ' 2 k, pow-pos k) in
-    let h : approxLength (2 ^ suc (suc k)) ≡ 2 ^ suc k = omega arith in
-    one-more 3 (omega arith) (2 ^ suc (suc k)) (omega arith) ∙ ap (λ n. suc (depthFrom 3 n)) h ∙ ap suc (depth-power k)
-
 -- no number of samples has more levels than the power of two above it
 pub depth-at-most : (w : Wavelet) (k n : ℕ) → n ≤ 2 ^ suc k → depthOf w n ≤ k
 depth-at-most w zero n h = omega (arith, too-short (smallestOf w) (two-below w) n (omega (arith, h, three-below w)))
@@ -110,6 +102,32 @@ depth-at-most w (suc k) n h =
     (λ (g : n < smallestOf w). omega (arith, too-short (smallestOf w) (two-below w) n g))
     (λ (g : smallestOf w ≤ n). omega (arith, one-more (smallestOf w) (two-below w) n g, depth-at-most w k (approxLength n) (omega (arith, h, e))))
     (lt-or-le n (smallestOf w))
+
+-- and over a power of two none has fewer, in 5/3
+pub depth-at-least : (k n : ℕ) → 2 ^ k < n → k ≤ depthOf Cdf53 n
+depth-at-least zero n h = omega arith
+depth-at-least (suc k) n h =
+    let e : 2 ^ suc k ≡ 2 * 2 ^ k = pow-succ' 2 k in
+    omega (arith, one-more 3 (omega arith) n (omega (arith, pow-pos k)), depth-at-least k (approxLength n) (omega arith))
+
+-- so between two powers of two, the upper one with them, the 5/3 depth is one number
+pub depth-between : (k n : ℕ) → 2 ^ k < n → n ≤ 2 ^ suc k → depthOf Cdf53 n ≡ k
+depth-between k n lo hi = omega (arith, depth-at-most Cdf53 k n hi, depth-at-least k n lo)
+
+pub depth-power : (k : ℕ) → depthOf Cdf53 (2 ^ suc k) ≡ k
+depth-power k = depth-between k (2 ^ suc k) (omega (arith, pow-succ' 2 k, pow-pos k)) (omega arith)
+
+-- it is one less than the digits of n - 1: b - 1 - z where z zeros stand above them in b digits. That of 0 and 1 is 0, as a difference below 0 is.
+pub depth-digits : (b n : ℕ) → n ≤ 2 ^ b → b - 1 - leadingZeros b (n - 1) ≡ depthOf Cdf53 n
+depth-digits b n h =
+    ⊎-elim
+    (λ (g : n < 2).
+    let e : n - 1 ≡ 0 = omega arith in
+    omega (arith, ap (leadingZeros b) e, leading-of-zero b, too-short 3 (omega arith) n (omega arith)))
+    (λ (g : 2 ≤ n).
+    let (j, e, lo, hi) = leading-top b (n - 1) (omega arith) (omega arith) in
+    omega (arith, depth-between j n (omega arith) (omega arith)))
+    (lt-or-le n 2)
 
 -- levels within the depth: those that are left after i of them are within the depth of what is left
 pub depth-rest : (w : Wavelet) (i l n : ℕ) → i ≤ l → l ≤ depthOf w n → l - i ≤ depthOf w (countAt i n)

@@ -100,8 +100,8 @@ pub fn count_at(levels: usize, n: usize) -> usize
     count
 }
 
-// How many levels run on n samples before an input is too short.
-pub fn depth(w: Wavelet, n: usize) -> usize
+// The depth as its definition has it: one turn a level. 5/3 is counted faster below; 9/7 has no such count, since 3 * 2^k is no power of two.
+fn halvings(w: Wavelet, n: usize) -> usize
     ensures { λ r. ⌜ r ≡ depthOf w n ⌝ }
 {
     let m = smallest(w);
@@ -112,6 +112,26 @@ pub fn depth(w: Wavelet, n: usize) -> usize
         levels += 1;
     }
     levels
+}
+
+// The 5/3 depth by one count: it is k for 2^k < n <= 2^(k+1), where n - 1 has k + 1 binary digits.
+fn depth53(n: usize) -> usize
+    ensures { λ r. ⌜ r ≡ depthOf Wavelet.Cdf53 n ⌝ }
+{
+    if n < 2 {
+        return 0;
+    }
+    (63 - u64::leading_zeros((n - 1) as u64)) as usize
+}
+
+// How many levels run on n samples before an input is too short.
+pub fn depth(w: Wavelet, n: usize) -> usize
+    ensures { λ r. ⌜ r ≡ depthOf w n ⌝ }
+{
+    match w {
+        Wavelet::Cdf53 => depth53(n),
+        Wavelet::Cdf97 => halvings(w, n),
+    }
 }
 
 // The depth as the desk asks for it: refused only for a length over the limit.

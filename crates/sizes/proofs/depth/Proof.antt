@@ -1,34 +1,15 @@
--- `depth` meets its contract. The invariant: the levels counted and the depth of what is left are the depth of n. The measure is what is left.
-use Prim.Native.Nat.{_+_, _≤_}
-use mathlib.Core.Path.{_≡_, _∙_, ap}
-use native.Mathlib.Omega.{arith}
+-- `depth` meets its contract: each wavelet by its own count.
+use mathlib.Core.Path.{_∙_, ap, sym}
 use borrow.Author.Needs.{needs}
-use Rattle.sizes.specs.Levels.{depthFrom}
-use Rattle.sizes.proofs.Depths.{two-below, depth-turn, depth-end}
+use Rattle.sizes.specs.Levels.{depthOf}
 use Rattle.sizes.proofs.depth.Statement.{statement}
 use Rattle.sizes.proofs.depth.Tie as tie
-
-abbrev Inv-loop : tie.InvT-loop
-Inv-loop n m left₀ levels₀ left levels = (2 ≤ m) × (levels + depthFrom m left ≡ depthFrom m n) × (levels + left ≤ n)
-
-abbrev μ-loop : tie.MeasureT-loop
-μ-loop n m left₀ levels₀ left levels = left
-
-loop-holds : tie.Need-loop-holds Inv-loop μ-loop
-loop-holds c = (rw (c .smallest .ensures) (two-below (c .before .args .w)), omega arith, omega arith)
-
-loop-again : tie.Need-loop-again Inv-loop μ-loop
-loop-again c =
-    let l = c .before .before .loop in
-    let e = c .approx-length .ensures in
-    (l .inv .0, rw e (depth-turn _ (l .inv .0) _ _ _ (l .inv .1) (c .before .loop-test .taken)), omega (arith, e, l .inv, c .before .loop-test .taken))
-
-returns : tie.Need-returns Inv-loop μ-loop
-returns c = let l = c .before .loop in depth-end _ (l .inv .0) _ _ _ (l .inv .1) (c .loop-test .left) ∙ ap (λ m. depthFrom m (c .before .before .before .args .n)) (c .before .before .smallest .ensures)
 
 pub depth-spec : {M : Type 1} → statement M
 depth-spec =
     tie.close
     (tie.spec
-    Inv-loop μ-loop (λ c κs. search needs) loop-holds (λ c. omega arith) (λ c. omega arith)
-    (λ c. omega arith) loop-again returns)
+    (λ c. search needs) (λ c κs. search needs)
+    (λ c. search needs) (λ c κs. search needs)
+    (λ c. c .depth53 .ensures ∙ ap (λ w. depthOf w (c .before .before .before .args .n)) (sym (c .before .enum-told .given .1)))
+    (λ c. search needs))
