@@ -78,7 +78,7 @@ extern "C" {
 
 /* The version of this header and of the library that is installed with it; CHANGELOG.md has what changed. */
 #define BK_VERSION_MAJOR 0
-#define BK_VERSION_MINOR 4
+#define BK_VERSION_MINOR 5
 #define BK_VERSION_PATCH 0
 
 /*

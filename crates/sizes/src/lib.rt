@@ -100,7 +100,7 @@ pub fn count_at(levels: usize, n: usize) -> usize
     count
 }
 
-// The depth as its definition has it: one turn a level. 5/3 is counted faster below; 9/7 has no such count, since 3 * 2^k is no power of two.
+// The depth as the definition has it, one turn a level: so 9/7 is counted.
 fn halvings(w: Wavelet, n: usize) -> usize
     ensures { λ r. ⌜ r ≡ depthOf w n ⌝ }
 {
@@ -114,7 +114,7 @@ fn halvings(w: Wavelet, n: usize) -> usize
     levels
 }
 
-// The 5/3 depth by one count: it is k for 2^k < n <= 2^(k+1), where n - 1 has k + 1 binary digits.
+// The 5/3 depth without a loop: it is k for 2^k < n <= 2^(k+1), and n - 1 then has k + 1 binary digits.
 fn depth53(n: usize) -> usize
     ensures { λ r. ⌜ r ≡ depthOf Wavelet.Cdf53 n ⌝ }
 {
