@@ -1,5 +1,5 @@
-// Times 10,000,000 depths: of lengths drawn from all up to the limit, of lengths whose depths are drawn, and of the longest. The
-// sum of the depths tells that two libraries answered alike. Call: bench/depth
+// Times 10,000,000 depths: of lengths drawn from all up to the limit, of lengths whose 5/3 depths are drawn, and of the longest.
+// Libraries whose sums differ answered differently. Call: bench/depth
 #include "beksanour.h"
 #include <stdio.h>
 #include <time.h>

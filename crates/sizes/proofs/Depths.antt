@@ -1,4 +1,4 @@
--- The depth: it is the largest number of levels that run, and one turn of the count. Over the smallest input m, which is at least 2.
+-- The depth: the largest number of levels that run, and one turn of the loop that counts them, over a smallest input m of at least 2; and of 5/3 by powers of two and by binary digits.
 use mathlib.Core.Logic.{⊎-elim}
 use mathlib.Core.Path.{_≡_, refl, sym, ap, _∙_}
 use Prim.Native.Nat.{ℕ, zero, suc, _+_, _-_, _*_, _^_, _≤_, _<_}
@@ -103,21 +103,22 @@ depth-at-most w (suc k) n h =
     (λ (g : smallestOf w ≤ n). omega (arith, one-more (smallestOf w) (two-below w) n g, depth-at-most w k (approxLength n) (omega (arith, h, e))))
     (lt-or-le n (smallestOf w))
 
--- and over a power of two none has fewer, in 5/3
+-- in 5/3, more than 2^k samples have k levels or more
 pub depth-at-least : (k n : ℕ) → 2 ^ k < n → k ≤ depthOf Cdf53 n
 depth-at-least zero n h = omega arith
 depth-at-least (suc k) n h =
     let e : 2 ^ suc k ≡ 2 * 2 ^ k = pow-succ' 2 k in
     omega (arith, one-more 3 (omega arith) n (omega (arith, pow-pos k)), depth-at-least k (approxLength n) (omega arith))
 
--- so between two powers of two, the upper one with them, the 5/3 depth is one number
+-- so the 5/3 depth of 2 samples and more is known by the powers of two beside them
 pub depth-between : (k n : ℕ) → 2 ^ k < n → n ≤ 2 ^ suc k → depthOf Cdf53 n ≡ k
 depth-between k n lo hi = omega (arith, depth-at-most Cdf53 k n hi, depth-at-least k n lo)
 
+-- at a power of two
 pub depth-power : (k : ℕ) → depthOf Cdf53 (2 ^ suc k) ≡ k
 depth-power k = depth-between k (2 ^ suc k) (omega (arith, pow-succ' 2 k, pow-pos k)) (omega arith)
 
--- it is one less than the digits of n - 1: b - 1 - z where z zeros stand above them in b digits. That of 0 and 1 is 0, as a difference below 0 is.
+-- and it is one less than the digits of n - 1: b - 1 - z where z zeros stand above them in b digits. Of 0 and 1 both sides are 0, since a difference stops at 0.
 pub depth-digits : (b n : ℕ) → n ≤ 2 ^ b → b - 1 - leadingZeros b (n - 1) ≡ depthOf Cdf53 n
 depth-digits b n h =
     ⊎-elim

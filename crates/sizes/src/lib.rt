@@ -100,7 +100,7 @@ pub fn count_at(levels: usize, n: usize) -> usize
     count
 }
 
-// The depth as the definition has it, one turn a level: so 9/7 is counted.
+// The depth by a loop, one turn a level, as the definition has it: only 9/7 is asked of it.
 fn halvings(w: Wavelet, n: usize) -> usize
     ensures { λ r. ⌜ r ≡ depthOf w n ⌝ }
 {

@@ -1,4 +1,4 @@
--- `depth53` meets its contract: n - 1 has one digit more than n has levels.
+-- `depth53` meets its contract: from 2 on, n - 1 has one digit more than n has levels.
 use mathlib.Core.Path.{sym}
 use Prim.Native.Nat.{ℕ, _^_, _≤_, _<_}
 use native.Mathlib.Omega.{arith}
