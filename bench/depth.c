@@ -1,28 +1,17 @@
 // Times 10,000,000 depths: of lengths drawn from all up to the limit, of lengths whose 5/3 depths are drawn, and of the longest.
-// Libraries whose sums differ answered differently. Call: bench/depth
-#include "beksanour.h"
-#include <stdio.h>
-#include <time.h>
+// Libraries whose sums differ answered differently. Call: bench/calls depth
+#include "calls.h"
 
-// bench/host-staticlib: on Arm a struct of more than 16 bytes is returned through a pointer that is handed in first
-#ifdef __aarch64__
-extern bk_answer *raw_cdf53(bk_answer *, uint64_t) __asm__("bk_cdf53_depth");
-extern bk_answer *raw_cdf97(bk_answer *, uint64_t) __asm__("bk_cdf97_depth");
-static bk_answer cdf53(uint64_t n) { return *raw_cdf53(&(bk_answer){0}, n); }
-static bk_answer cdf97(uint64_t n) { return *raw_cdf97(&(bk_answer){0}, n); }
-#else
-#define cdf53 bk_cdf53_depth
-#define cdf97 bk_cdf97_depth
-#endif
+TIMED(bk_answer, cdf53_depth, uint64_t);
+TIMED(bk_answer, cdf97_depth, uint64_t);
+
+static bk_answer cdf53(uint64_t n) { return CALL(bk_answer, cdf53_depth, n); }
+
+static bk_answer cdf97(uint64_t n) { return CALL(bk_answer, cdf97_depth, n); }
 
 enum { CALLS = 10000000, ROUNDS = 5, LENGTHS = 4096 };
 
-static uint64_t lengths[LENGTHS], seed = 53;
-
-static uint64_t drawn(void) {
-    seed = seed * 6364136223846793005u + 1442695040888963407u;
-    return seed >> 33;
-}
+static uint64_t lengths[LENGTHS];
 
 static uint64_t any(void) { return drawn() % (BK_MOST_SAMPLES + 1); }
 
@@ -33,13 +22,7 @@ static uint64_t any_depth(void) {
 
 static uint64_t longest(void) { return BK_MOST_SAMPLES; }
 
-static double now(void) {
-    struct timespec t;
-    clock_gettime(CLOCK_MONOTONIC, &t);
-    return (double)t.tv_sec * 1e3 + (double)t.tv_nsec / 1e6;
-}
-
-// The best time of a round, in milliseconds.
+// The best time of a round, printed in milliseconds.
 static void print_time(const char *filter, bk_answer (*depth)(uint64_t), const char *what, uint64_t (*length)(void)) {
     double best = 1e300;
     uint64_t sum = 0;
@@ -50,10 +33,11 @@ static void print_time(const char *filter, bk_answer (*depth)(uint64_t), const c
         for (int i = 0; i < CALLS; i++) sum += depth(lengths[i % LENGTHS]).first;
         if (now() - from < best) best = now() - from;
     }
-    printf("| %s | %s | %.0f | %lu |\n", filter, what, best, (unsigned long)sum);
+    printf("| %s | %s | %.0f | %lu |\n", filter, what, best / 1e6, (unsigned long)sum);
 }
 
 int main(void) {
+    seed = 53;
     printf("| wavelet | lengths | 10,000,000 depths, ms | their sum |\n|---|---|---|---|\n");
     print_time("5/3", cdf53, "drawn", any);
     print_time("5/3", cdf53, "of drawn depths", any_depth);

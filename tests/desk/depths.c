@@ -1,7 +1,8 @@
 // bk_cdf53_depth and bk_cdf97_depth beside document 01's words, for every length up to the limit: an input below the smallest has
 // no level, any other one more than its approximations. Past the limit, each power of two with its neighbours and the largest
 // number: refused with 6. And so of the depth that notes tell, where the count is compiled in once more. Says how many it asked,
-// or the first that differs. Call: tests/desk/depths
+// or the first that differs.
+// Call: tests/desk/program depths
 #include "beksanour.h"
 #include <stdio.h>
 

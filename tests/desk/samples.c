@@ -1,7 +1,8 @@
 // bk_pyramid_sample beside bk_pyramid_open: every place that opening gives back, and some past it, of every front of two files for
 // each width, each length of 3 to 40 samples and each number of levels, one of bytes 0 and 255 and one of any bytes; and of the
 // same files with each byte changed once. Then drawn places of a file of the most samples and the most levels, which would not
-// end in a reader whose work doubles at each level. Says how many it asked, or the first that differs. Call: tests/desk/samples
+// end in a reader whose work doubles at each level. Says how many it asked, or the first that differs.
+// Call: tests/desk/program samples
 #include "beksanour.h"
 #include <stdio.h>
 

@@ -118,7 +118,7 @@ depth-between k n lo hi = omega (arith, depth-at-most Cdf53 k n hi, depth-at-lea
 pub depth-power : (k : ℕ) → depthOf Cdf53 (2 ^ suc k) ≡ k
 depth-power k = depth-between k (2 ^ suc k) (omega (arith, pow-succ' 2 k, pow-pos k)) (omega arith)
 
--- and it is one less than the digits of n - 1: b - 1 - z where z zeros stand above them in b digits. Of 0 and 1 both sides are 0, since a difference stops at 0.
+-- and the 5/3 depth of n is one less than the digits of n - 1: b - 1 - z where z zeros stand above them in b digits. Of 0 and 1 both sides are 0, since a difference stops at 0.
 pub depth-digits : (b n : ℕ) → n ≤ 2 ^ b → b - 1 - leadingZeros b (n - 1) ≡ depthOf Cdf53 n
 depth-digits b n h =
     ⊎-elim
