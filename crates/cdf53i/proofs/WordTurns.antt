@@ -3,7 +3,7 @@ use mathlib.Core.Path.{_≡_, refl, sym, ap, subst, _∙_}
 use mathlib.Core.List.{List}
 use mathlib.Core.Logic.{⊎-elim}
 use Prim.Native.Nat.{ℕ, _+_, _-_, _*_, _/_, _%_, _^_, _≤_, _<_, min}
-use native.Mathlib.Nat.{mul-suc, mul-le-mul-left, mod-eq-of-lt}
+use native.Mathlib.Nat.{mod-eq-of-lt}
 use native.Mathlib.Omega.{arith}
 use borrow.Author.Tests.{eq-eqb, ne-eqb}
 use lib.IntN.{ℤ, pos, _+ℤ_, _-ℤ_}
@@ -11,10 +11,9 @@ use lib.Signed.{shrZ}
 use lib.ListN.{length}
 use Rattle.sizes.specs.Lengths.{approxLength, detailsLength}
 use Rattle.samples.specs.Words.{tabulate, wordAt, putAt, Holds, Front}
-use Rattle.samples.specs.Le.{leAt}
 use Rattle.samples.specs.Integers.{val, residue, wrap, decode, Width}
-use Rattle.samples.proofs.LeLaws.{top-pos, leAt-take}
-use Rattle.samples.proofs.Words.{word-bytes, length-tabulate, getD-tabulate, holds, holds-on}
+use Rattle.samples.proofs.LeLaws.{top-pos}
+use Rattle.samples.proofs.Words.{word-take, word-bytes, length-tabulate, getD-tabulate, holds, holds-on}
 use Rattle.samples.proofs.Fronts.{front-more, front-all}
 use Rattle.samples.proofs.IntegerLaws.{length-decode, at-decode, encode-tabulate, word-wrap, residue-lt}
 use Rattle.cdf53i.specs.Lift.{detail, details, approx, approxs, even, odd, sample, restored}
@@ -22,11 +21,9 @@ use Rattle.cdf53i.specs.Bands.{low, back, detailWord, approxWord, sample
 
 -- a word of the front is read
 pub front-read : {k n i : ℕ} {g : ℕ → ℕ} {s : List ℕ} (j : ℕ) → Front k n i g s → j < i → g j < 256 ^ k → wordAt k s j ≡ g j
-unfolding wordAt
 front-read {k} {n} {i} {g} {s} j h l b =
-    let le : k * j + k ≤ k * i = rw (← mul-suc k j) (mul-le-mul-left k l) in
-    sym (leAt-take k (k * i) s (k * j) le)
-    ∙ ap (λ (w : List ℕ). leAt k w (k * j)) (h .front)
+    sym (word-take k s i j l)
+    ∙ ap (λ (w : List ℕ). wordAt k w j) (h .front)
     ∙ word-bytes k (tabulate i g) j (rw (length-tabulate i g) l)
     ∙ rw (getD-tabulate i g j 0 l) (mod-eq-of-lt b)
 

@@ -6,7 +6,6 @@ use mathlib.Core.List.{List, [], _∷_, _++_}
 use mathlib.Core.Logic.{⊎-elim}
 use mathlib.Core.Path.{_≡_, refl, sym, ap, _∙_}
 use Prim.Native.Nat.{ℕ, _+_, _*_, _%_, _^_, _≤_, _<_}
-use native.Mathlib.Nat.{mul-suc, mul-le-mul-left}
 use native.Mathlib.Omega.{arith}
 use borrow.Author.Tests.{eq-eqb}
 use lib.IntN.{pos}
@@ -19,10 +18,9 @@ use Rattle.answers.specs.Answers.{say, answerOf, done}
 use Rattle.answers.specs.Checks.{Check, firstOf, ragged}
 use Rattle.answers.proofs.Endings.{is-done, not-done, left-done}
 use Rattle.answers.proofs.Passed.{Passing, pass-on, through}
-use Rattle.samples.specs.Le.{leAt}
 use Rattle.samples.specs.Words.{wordAt}
 use Rattle.samples.specs.Integers.{isWidth, val}
-use Rattle.samples.proofs.LeLaws.{leAt-take}
+use Rattle.samples.proofs.Words.{word-take}
 use Rattle.pyramid.specs.declared.walk.Way.{Way}
 use Rattle.pyramid.specs.declared.walk.Way.the-variants.{Went, Short, Wrong}
 use Rattle.pyramid.specs.Opens.{headIn, headChecks, wayIn, wayChecks, levelIn, countIn, samplesIn, areaChecks, fileChecks, roomsFor, sayFile, sayOpen, Open}
@@ -38,10 +36,7 @@ peek-decides m n = λ i. record { answer = (m .answer ∙ sym (n .answer)) i; sa
 
 -- word j of what stands in front
 front-word : (k : ℕ) (a b : List ℕ) (n j : ℕ) → length a ≡ k * n → j < n → wordAt k (a ++ b) j ≡ wordAt k a j
-unfolding wordAt
-front-word k a b n j e h =
-    let le : k * j + k ≤ k * n = rw (← mul-suc k j) (mul-le-mul-left k h) in
-    sym (leAt-take k (k * n) (a ++ b) (k * j) le) ∙ ap (λ (t : List ℕ). leAt k t (k * j)) (take-at a b (k * n) e)
+front-word k a b n j e h = sym (word-take k (a ++ b) n j h) ∙ ap (λ (t : List ℕ). wordAt k t j) (take-at a b (k * n) e)
 
 -- no check of the list refuses with number n
 abbrev Never : ℕ → List Check → Type 0

@@ -3,15 +3,15 @@ use mathlib.Core.Path.{_≡_, refl, sym, ap, _∙_}
 use mathlib.Core.List.{List, [], _∷_, _++_, map, map-append, append-assoc, append-nil}
 use mathlib.Core.Logic.{⊎-elim}
 use Prim.Native.Nat.{ℕ, zero, suc, _+_, _-_, _*_, _/_, _%_, _^_, _≤_, _<_}
-use native.Mathlib.Nat.{mul-suc, mul-zero, mul-comm, suc-mul, mul-div-right, div-le-self, div-mul-le-self, mul-le-mul-right, mul-le-mul-left, le-trans, le-of-suc-le-suc, not-suc-le-zero, mod-eq-of-lt}
+use native.Mathlib.Nat.{mul-suc, mul-add, mul-zero, mul-comm, suc-mul, mul-div-right, div-le-self, div-mul-le-self, mul-le-mul-right, mul-le-mul-left, le-trans, le-of-suc-le-suc, not-suc-le-zero, mod-eq-of-lt}
 use native.Mathlib.Decide.{ℕ-discrete}
 use native.Mathlib.Omega.{arith}
 use lib.ListN.{length, getD, take, drop, set, length-append, length-set, List·getD-append}
 use lib.Seq.{ext-getD, getD-at, getD-set-same, getD-set-other, set-split, take-nil, drop-nil, take-add, take-all, take-append-add, drop-append-add}
 use Rattle.order.proofs.Order.{lt-or-le}
-use Rattle.samples.specs.Le.{leBytes, Bytes}
+use Rattle.samples.specs.Le.{leAt, leBytes, Bytes}
 use Rattle.samples.specs.Words.{tabulate, wordAt, putAt, wordsOf, bytesOf, Holds}
-use Rattle.samples.proofs.LeLaws.{leAt-skip, leAt-bytes, leAt-lt, length-leBytes, leBytes-at, length-stored, stored-is, stored-read, stored-before, stored-after}
+use Rattle.samples.proofs.LeLaws.{leAt-skip, leAt-drop, leAt-take, leAt-bytes, leAt-lt, length-leBytes, leBytes-at, length-stored, stored-is, stored-read, stored-before, stored-after}
 
 -- ---- tables
 
@@ -97,6 +97,15 @@ module _ (k : ℕ) where
     where
       below : (j i : ℕ) → j ≤ i → (i ≡ j → ⊥) → suc j ≤ i
       below j i l ne = ⊎-elim (λ h. h) (λ h. absurd (ne (omega arith))) (lt-or-le j i)
+
+  -- word j of the first n words, and of what comes after them
+  pub word-take : (s : List ℕ) (n j : ℕ) → j < n → wordAt k (take (k * n) s) j ≡ wordAt k s j
+  unfolding wordAt
+  word-take s n j h = leAt-take k (k * n) s (k * j) (rw (← mul-suc k j) (mul-le-mul-left k h))
+
+  pub word-drop : (s : List ℕ) (n j : ℕ) → wordAt k (drop (k * n) s) j ≡ wordAt k s (n + j)
+  unfolding wordAt
+  word-drop s n j = leAt-drop k (k * n) s (k * j) ∙ ap (leAt k s) (sym (mul-add k n j))
 
   pub length-words : (s : List ℕ) → length (wordsOf k s) ≡ length s / k
   unfolding wordsOf

@@ -1,8 +1,10 @@
 -- How many approximations there are after some levels.
+use mathlib.Core.List.{List}
 use mathlib.Core.Path.{_≡_, refl, ap, _∙_}
-use Prim.Native.Nat.{ℕ, zero, suc, _+_, _-_, _≤_}
+use Prim.Native.Nat.{ℕ, zero, suc, _+_, _-_, _*_, _≤_}
 use native.Mathlib.Numerals.{add-one}
 use native.Mathlib.Omega.{arith}
+use lib.ListN.{length}
 use Rattle.sizes.specs.Lengths.{approxLength}
 use Rattle.sizes.specs.Levels.{afterLevels, countAt}
 
@@ -11,6 +13,13 @@ pub after-last : {A : Type 0} (level : A → A) (l : ℕ) (a : A) → afterLevel
 unfolding afterLevels
 after-last level zero a = refl
 after-last level (suc l) a = after-last level l (level a)
+
+-- the bytes after some levels, of n samples of k bytes, where each level leaves the bytes of its approximations
+pub length-after : (level : List ℕ → List ℕ) (k : ℕ) → ((x : List ℕ) (n : ℕ) → length x ≡ k * n → length (level x) ≡ k * approxLength n)
+    → (l : ℕ) (x : List ℕ) (n : ℕ) → length x ≡ k * n → length (afterLevels level l x) ≡ k * countAt l n
+unfolding afterLevels
+length-after level k h zero x n e = e
+length-after level k h (suc l) x n e = length-after level k h l (level x) (approxLength n) (h x n e)
 
 -- one turn of the loop that counts
 pub count-turn : (i n p q : ℕ) → p ≡ countAt i n → q ≡ approxLength p → q ≡ countAt (i + 1) n

@@ -9,6 +9,7 @@ use lib.ListN.{length, getD, length-append}
 use Rattle.sizes.specs.declared.Wavelet.the-variants.{Cdf53, Cdf97}
 use Rattle.sizes.specs.Lengths.{approxLength, detailsLength}
 use Rattle.sizes.specs.Levels.{afterLevels, thereAndBack, countAt}
+use Rattle.sizes.proofs.Counts.{length-after}
 use Rattle.samples.proofs.Words.{holds}
 use Rattle.cdf53i.proofs.Lengths as integer
 use Rattle.floats.proofs.Lengths as float
@@ -71,9 +72,7 @@ module _ (f : Filter) where
 
   -- the approximations after l levels
   pub length-approx : (l : ℕ) (x : List ℕ) (n : ℕ) → length x ≡ widthOf f * n → length (approxAt f l x) ≡ widthOf f * countAt l n
-  unfolding afterLevels
-  length-approx zero x n e = e
-  length-approx (suc l) x n e = length-approx l (lowOf f x) (approxLength n) (length-low x n e)
+  length-approx = length-after (lowOf f) (widthOf f) length-low
 
   -- the samples after l levels and back
   pub length-trip : (l : ℕ) (x : List ℕ) (n : ℕ) → length x ≡ widthOf f * n → length (roundTrip f l x) ≡ length x
