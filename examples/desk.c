@@ -247,7 +247,7 @@ static void draw_marks(const uint64_t *columns, size_t count) {
 }
 
 static void say_level(const opened *o) {
-    printf("level %lu, %lu columns, %lu samples each\n", (unsigned long)o->level, (unsigned long)o->count,
+    printf("level %lu, %lu columns, one for every %lu samples\n", (unsigned long)o->level, (unsigned long)o->count,
            (unsigned long)1 << o->level);
 }
 
@@ -299,7 +299,7 @@ static void tour_sections(const pyramid_file *f) {
 
 /*
  * At most NOTES notes at samples of a recording whose whole file is f: their columns below its overview o, the samples that each
- * column stands for, and the sample under each note, which is read from the file without opening it again.
+ * column is made of, and the sample under each note, which is read from the file without opening it again.
  */
 static void tour_notes(const pyramid_file *f, const opened *o, const uint64_t *notes, size_t count) {
     uint64_t columns[NOTES];
@@ -319,11 +319,30 @@ static void tour_notes(const pyramid_file *f, const opened *o, const uint64_t *n
         bk_sample s = bk_pyramid_sample(f->bytes, f->length, o->head.width, o->head.point, notes[i]);
         expect("finding a note", a, BK_DONE);
         expect("reading a sample", s.answer, BK_DONE);
-        printf("the note at sample %lu, whose value is %lld, is in column %lu, which stands for samples %lu to %lu\n",
+        printf("the note at sample %lu, whose value is %lld, is in column %lu, which is made of samples %lu to %lu\n",
                (unsigned long)notes[i], (long long)s.sample, (unsigned long)columns[i], (unsigned long)a.first,
                (unsigned long)a.second);
         if (notes[i] < a.first || notes[i] > a.second) exit(BAD_TURN);
     }
+}
+
+/* Where a recording is roughest: the largest detail of level 1, which the last section has, and the samples that it is made of. */
+static void tour_roughest(const pyramid_file *f) {
+    bk_head head = bk_pyramid_head(f->bytes, f->length);
+    bk_answer details = bk_pyramid_section(f->bytes, f->length, head.width, head.point, head.levels + 1), span;
+    int64_t largest = 0;
+    uint64_t place = 0, i;
+    expect("looking up the last section", details, BK_DONE);
+    for (i = 0; i < details.second / head.width; i++) {
+        int64_t value = get_sample(f->bytes + details.first + i * head.width, head.width);
+        if ((value < 0 ? -value : value) <= (largest < 0 ? -largest : largest)) continue;
+        largest = value;
+        place = i;
+    }
+    span = bk_note_detail_span(head.samples, 1, place);
+    expect("the span of a detail", span, BK_DONE);
+    printf("the largest detail of level 1 is %lld, at place %lu; it is made of samples %lu to %lu\n", (long long)largest,
+           (unsigned long)place, (unsigned long)span.first, (unsigned long)span.second);
 }
 
 /* A finer level around a sample: a window on the approximations of that level. The window must lie within them. */
@@ -384,6 +403,7 @@ static void tour_refused_files(const recording *r, const pyramid_file *f) {
              bk_pyramid_open(longer, f->length + 1, r->width, r->point, none, 0, none + 1, 0, none + 2, 0));
     provoked(BK_NO_SUCH_PLACE, "a note after the last sample", bk_note_column(r->n, 1, r->n));
     provoked(BK_NO_SUCH_PLACE, "a column of level 0", bk_note_column(r->n, 0, 0));
+    provoked(BK_NO_SUCH_PLACE, "the span of a detail after the last", bk_note_detail_span(r->n, 1, r->n / 2));
     provoked(BK_NO_SUCH_PLACE, "the sample after the last",
              bk_pyramid_sample(f->bytes, f->length, r->width, r->point, r->n).answer);
     free(longer);
@@ -415,6 +435,7 @@ static int tour(void) {
     printf("\n== overviews, and notes\n");
     for (i = 3; i-- > 0;) seen[i] = tour_overview(&r[i], &f[i]);
     tour_notes(&f[0], &seen[0], notes, 3);
+    tour_roughest(&f[0]);
     tour_zoom(&f[0], 2, notes[1]);
 
     printf("\n== every refusal\n");

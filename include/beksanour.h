@@ -27,7 +27,8 @@
  *   bk_pyramid_open                                what a file, or the front of one, still lets see
  *   bk_pyramid_sample                              one sample of it, with no room lent
  *   bk_pyramid_section                             where a section of a file stands
- *   bk_note_column, bk_note_span                   the column of a sample, the samples of a column
+ *   bk_note_column                                 the column at which a sample shows
+ *   bk_note_span, bk_note_detail_span              the samples that an approximation, or a detail, is made of
  *   bk_band_window_T                               where a part of a band stands
  *
  * Good to know, said once:
@@ -45,7 +46,7 @@
  * A file whose width and point are not known. bk_pyramid_head reads them; hand them to bk_pyramid_open, which then refuses the
  * file only for what is wrong in it, or for the areas (7, 9). A head's width may be any byte, 0 too: bk_pyramid_open refuses it
  * with 8 if it is not 1, 2 or 4. Check it before you divide by it, or probe with empty areas. The head's samples is the n that
- * bk_note_column and bk_note_span ask for: the length of the whole recording, also where the file was cut and opens with fewer.
+ * the three calls for notes ask for: the length of the whole recording, also where the file was cut and opens with fewer.
  *
  * Opening at a chosen level l, 1 to the head's levels. Ask bk_pyramid_section for section levels + 1 - l, and lend
  * bk_pyramid_open only the front of the file through that section, which is first + second bytes: it opens at level l, with m
@@ -53,8 +54,12 @@
  * read the head need not read more of the file. The whole file opens at level 0. bk_pyramid_sample of that front gives one sample
  * of level l in the same way.
  *
- * Columns. A column is an approximation of a level from 1 on. Level 0 is the recording itself and has no columns, so
- * bk_note_column and bk_note_span refuse level 0: there sample s stands at place s.
+ * Columns and spans. A column is an approximation of a level from 1 on. Level 0 is the recording itself and has no columns, so
+ * the three calls for notes refuse level 0: there sample s stands at place s. bk_note_column gives each sample one column, which
+ * 2^level samples in a row share, or at the end of the recording fewer. A column is made of more samples than show at it, since
+ * the filter reads on to either side: bk_note_span gives the first and the last of them. So spans overlap, and a peak may change
+ * every column whose span holds it. Spans are those of the integer 5/3 calls, as in pyramid files; nothing is said of float
+ * coefficients (9/7 reads further).
  *
  * Damage. A file has no checksum. That it is short shows in the level that it opens at, or it is refused with 10. A section's
  * count that is there whole and is wrong, which is not what n and the levels give, is found. What section 0 says is checked only
@@ -78,7 +83,7 @@ extern "C" {
 
 /* The version of this header and of the library that is installed with it; CHANGELOG.md has what changed. */
 #define BK_VERSION_MAJOR 0
-#define BK_VERSION_MINOR 5
+#define BK_VERSION_MINOR 6
 #define BK_VERSION_PATCH 0
 
 /*
@@ -542,8 +547,10 @@ bk_answer bk_pyramid_section(const uint8_t *file, size_t file_bytes, uint32_t wi
 bk_answer bk_note_column(uint64_t n, uint32_t level, uint64_t sample);
 
 /*
- * The samples that a column stands for: approximation p of `level` spans samples p * 2^level to (p + 1) * 2^level - 1, no
- * further than n - 1. The columns of a level span all n samples, each sample once: the column of a sample spans that sample.
+ * The samples that an approximation, and so a column, is made of: approximation p of `level` spans samples p * 2^level - r to
+ * p * 2^level + r, with r = 2^(level + 1) - 2, but none before 0 or after n - 1. In integer 5/3 no sample outside the span can
+ * change the approximation, whatever the values are, also where one wraps. The span of a sample's column holds the sample; the
+ * spans of a level cover all n samples, and overlap.
  * Done: first is the first sample of the span, second the last.
  *
  * Refused, in this order:
@@ -552,9 +559,30 @@ bk_answer bk_note_column(uint64_t n, uint32_t level, uint64_t sample);
  *   13 (place, places)   place is not one of 0 to places - 1; the level has places = ceil(n / 2^level) approximations
  * Which 13 it is: the level's where level is 0 or above what bk_cdf53_depth says of n, else the place's.
  *
- * For example, of 20 samples at level 1, column 3 spans samples 6 to 7; of 5 samples, column 2 spans sample 4 alone.
+ * Changed in 0.6.0: before, the answer was p * 2^level to (p + 1) * 2^level - 1, no further than n - 1, the samples that show at
+ * the column.
+ *
+ * For example, of 20 samples at level 1, column 3 spans samples 4 to 8; of 5 samples, column 2 spans samples 2 to 4.
  */
 bk_answer bk_note_span(uint64_t n, uint32_t level, uint64_t place);
+
+/*
+ * The same of a detail: detail p of `level` spans samples p * 2^level - r to (p + 1) * 2^level + r, with r = 2^level - 2, but
+ * none before 0 or after n - 1. In integer 5/3 no sample outside the span can change the detail. It is sample p of the details
+ * of bk_cdf53_dwt_T of so many levels, sample ceil(n / 2^level) + p of the output of bk_cdf53_multi_dwt_T of so many levels or
+ * more, and sample p of section levels + 2 - level of a file.
+ * Done: first is the first sample of the span, second the last.
+ *
+ * Refused, in this order:
+ *   6                    over 16,777,216 samples
+ *   13 (level, depth)    level is 0 or above the 5/3 depth of n
+ *   13 (place, places)   place is not one of 0 to places - 1; the level has places = floor(m / 2) details, where m is its input
+ *                        length, ceil(n / 2^(level - 1))
+ * Which 13 it is: the level's where level is 0 or above what bk_cdf53_depth says of n, else the place's.
+ *
+ * For example, of 20 samples at level 1, detail 3 spans samples 6 to 8; of 4 samples, detail 1 spans samples 2 to 3.
+ */
+bk_answer bk_note_detail_span(uint64_t n, uint32_t level, uint64_t place);
 
 /* The bands, as a window asks for them. */
 enum { BK_APPROXIMATIONS = 0, BK_DETAILS = 1 };

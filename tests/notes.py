@@ -1,6 +1,6 @@
 #!/usr/bin/env python3
-# Asks the desk where notes show, what columns span and where windows stand, and compares with a Python made from
-# document 01 alone. Call: tests/notes.py [--seed N]
+# Asks the desk where notes show, what coefficients span and where windows stand, and compares with a Python made from
+# documents 01 and 02 (C-13) alone. Call: tests/notes.py [--seed N]
 # First tests/desk/build. The first answer that differs ends the run.
 import argparse
 import os
@@ -15,7 +15,7 @@ LAST_U64 = 2**64 - 1
 WIDTHS = {"i8": 1, "i16": 2, "i32": 4, "f32": 4, "f64": 8}
 
 
-# ---- what document 01 says
+# ---- what documents 01 and 02 say
 
 # How many samples level 0, 1, .. have, as long as there is a level more.
 def sizes(n):
@@ -29,7 +29,7 @@ def depth(n):
     return len(sizes(n)) - 1
 
 
-# What a note or a column is refused for, where `limit` says how many places the level has.
+# What a note or a coefficient is refused for, where `limit` says how many places the level has.
 def refused(n, level, place, limit):
     if n > LIMIT:
         return 6, 0, 0
@@ -42,17 +42,46 @@ def column(n, level, sample):
     return refused(n, level, sample, lambda: n) or (0, sample // 2**level, 0)
 
 
-def span(n, level, place):
+# How far an approximation of a level reads to either side: document 02's r(l).
+def reach(level):
+    return 2 ** (level + 1) - 2
+
+
+def approx_span(n, level, place):
     said = refused(n, level, place, lambda: sizes(n)[level])
-    return said or (0, place * 2**level, min((place + 1) * 2**level - 1, n - 1))
+    return said or (0, max(place * 2**level - reach(level), 0), min(place * 2**level + reach(level), n - 1))
 
 
-# The same by what they mean: each level puts two neighbours into one, and a column spans the samples that end in it.
+def detail_span(n, level, place):
+    said = refused(n, level, place, lambda: sizes(n)[level - 1] // 2)
+    return said or (0, max(place * 2**level - reach(level - 1), 0), min((place + 1) * 2**level + reach(level - 1), n - 1))
+
+
+SPANS = {"note_span": approx_span, "note_detail_span": detail_span}
+
+
+# The same by what they mean. A column: each level puts two neighbours into one.
 def halved(n, level):
     at = list(range(n))
     for _ in range(level):
         at = [place // 2 for place in at]
     return at
+
+
+# A span: the samples that a coefficient is made of, step by step, where document 01 mirrors the ends. A detail reads its odd sample
+# and the even ones beside it, an approximation its even sample and the details beside it.
+def one_level(reads):
+    evens, odds = reads[::2], reads[1::2]
+    details = [odd | evens[i] | evens[min(i + 1, len(evens) - 1)] for i, odd in enumerate(odds)]
+    return [even | details[max(i - 1, 0)] | details[min(i, len(details) - 1)] for i, even in enumerate(evens)], details
+
+
+# What the approximations and the details of a level are made of.
+def made_of(n, level):
+    reads, details = [{sample} for sample in range(n)], []
+    for _ in range(level):
+        reads, details = one_level(reads)
+    return {"note_span": reads, "note_detail_span": details}
 
 
 # Lengths in bytes; a window is counted out sample by sample, so that no product can be wrong in the same way.
@@ -77,8 +106,8 @@ def ask_column(n, level, sample):
     return Ask(f"note_column {n} {level} {sample}", column(n, level, sample))
 
 
-def ask_span(n, level, place):
-    return Ask(f"note_span {n} {level} {place}", span(n, level, place))
+def ask_spans(n, level, place):
+    return [Ask(f"{name} {n} {level} {place}", span(n, level, place)) for name, span in SPANS.items()]
 
 
 def ask_window(random, kind, approx, details, band, start, count):
@@ -96,14 +125,16 @@ def small(random):
                 ask = ask_column(n, level, sample)
                 assert ask.said[0] or ask.said[1] == at[sample]
                 yield ask
+            made = made_of(n, min(level, depth(n)))
             for place in range(len(set(at)) + 2):
-                ask = ask_span(n, level, place)
-                held = [sample for sample in range(n) if at[sample] == place]
-                assert ask.said[0] or ask.said[1:] == (held[0], held[-1])
-                yield ask
+                for ask in ask_spans(n, level, place):
+                    reads = made[ask.request.split()[0]]
+                    assert ask.said[0] or ask.said[1:] == (min(reads[place]), max(reads[place]))
+                    assert not 1 <= level <= depth(n) or (ask.said[0] == 0) == (place < len(reads))
+                    yield ask
 
 
-# Recordings of any length: the ends of columns, and the last ones.
+# Recordings of any length: the ends of columns, and the last ones; spans at both ends and between.
 def large(random):
     for _ in range(4000):
         n = random.choice((random.randint(3, LIMIT), random.randint(3, 5000), 2**random.randint(2, 24) + random.randint(-1, 1)))
@@ -111,8 +142,9 @@ def large(random):
         place = random.randrange(n >> level if n >> level else 1)
         for sample in {place << level, (place + 1 << level) - 1, place + 1 << level, n - 1, n}:
             yield ask_column(n, level, sample)
-        for near in {place, (n - 1) >> level, ((n - 1) >> level) + 1, (n >> level) + 1}:
-            yield ask_span(n, level, near)
+        last = n - 1 >> level
+        for near in {place, *range(3), *range(max(last - 3, 0), last + 3)}:
+            yield from ask_spans(n, level, near)
 
 
 # Numbers that do not fit anything.
@@ -121,7 +153,7 @@ def limits(random):
         for level in 0, 1, 2, 22, 23, 24, 25, 31, 32, 63, 64, 65, 255, 2**31, LAST_U32:
             for place in {0, 1, 2, 3, n // 2, max(n - 1, 0), n, LIMIT, 2**32, 2**63, LAST_U64}:
                 yield ask_column(n, level, place)
-                yield ask_span(n, level, place)
+                yield from ask_spans(n, level, place)
 
 
 # Every window on short bands, and starts and counts whose sums and products do not fit.
@@ -161,13 +193,13 @@ def inside(random):
 
 class Tally:
     def __init__(self):
-        self.asked = {"note_column": 0, "note_span": 0, "band_window": 0}
+        self.asked = {"note_column": 0, "note_span": 0, "note_detail_span": 0, "band_window": 0}
         self.refused = dict(self.asked)
 
     def count(self, ask, answer):
         wanted = " ".join(str(number) for number in ask.said)
         if answer != wanted:
-            print("the desk differs from document 01", ask.request, sep="\n  ")
+            print("the desk differs from the documents", ask.request, sep="\n  ")
             sys.exit(f"  wanted {wanted}\n  got    {answer}")
         name = next(name for name in self.asked if ask.request.startswith(name))
         self.asked[name] += 1
@@ -193,8 +225,9 @@ def main():
     os.chdir(os.path.join(os.path.dirname(os.path.abspath(__file__)), ".."))
     source = random.Random(asked.seed)
     tally = compare([ask for part in (small, large, limits, windows, ragged, inside) for ask in part(source)])
-    columns, spans, drawn = tally.asked.values()
-    print(f"ok notes: {columns} columns, {spans} spans, {drawn} windows (refused: {', '.join(map(str, tally.refused.values()))})")
+    columns, spans, details, drawn = tally.asked.values()
+    told = f"{columns} columns, {spans} spans of approximations and {details} of details, {drawn} windows"
+    print(f"ok notes: {told} (refused: {', '.join(map(str, tally.refused.values()))})")
 
 
 main()

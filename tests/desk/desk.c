@@ -194,6 +194,7 @@ static const struct row {
     {"pyramid_section", &shape_rwww, (function)bk_pyramid_section},
     {"note_column", &shape_nwn, (function)bk_note_column},
     {"note_span", &shape_nwn, (function)bk_note_span},
+    {"note_detail_span", &shape_nwn, (function)bk_note_detail_span},
     {"band_window_i8", &shape_rrwnn, (function)bk_band_window_i8},
     {"band_window_i16", &shape_rrwnn, (function)bk_band_window_i16},
     {"band_window_i32", &shape_rrwnn, (function)bk_band_window_i32},

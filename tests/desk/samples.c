@@ -4,17 +4,12 @@
 // end in a reader whose work doubles at each level. Says how many it asked, or the first that differs.
 // Call: tests/desk/program samples
 #include "beksanour.h"
+#include "drawn.h"
 #include <stdio.h>
 
 enum { MOST = 40, SIZE = 14 + 4 * 7 + 4 * MOST, POINT = 14 };
 
 static unsigned long done, refused;
-static uint64_t seed = 11;
-
-static uint32_t drawn(void) {
-    seed = seed * 6364136223846793005u + 1442695040888963407u;
-    return (uint32_t)(seed >> 33);
-}
 
 static int64_t number_at(const uint8_t *x, uint32_t width, uint64_t i) {
     uint64_t u = 0;
@@ -90,6 +85,7 @@ static int compare_longest(void) {
 }
 
 int main(void) {
+    seed = 11;
     for (uint32_t width = 1; width <= 4; width *= 2)
         for (uint32_t n = 3; n <= MOST; n++)
             for (uint32_t levels = 1; levels <= bk_cdf53_depth(n).first; levels++)

@@ -8,3 +8,4 @@ pub mod Round
 pub mod Read
 pub mod Ready
 pub mod Lengths
+pub mod Near

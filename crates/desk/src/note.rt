@@ -9,10 +9,11 @@ use notes::notes::CoefficientNumber;
 use notes::notes::SampleNumber;
 use notes::notes::note_column;
 use notes::notes::note_span;
+use spans::Band;
 use windows::window::SampleWidth;
 use windows::window::band_window_answer;
 
-// Notes: the column of a sample, and the span of a column.
+// Notes: the column of a sample, and the samples that an approximation or a detail spans.
 #[no_mangle]
 pub extern "C" fn bk_note_column(n: u64, level: u32, sample: u64) -> Answer
     ensures { λ r. ⌜ r ≡ answerOf (sayColumn n level sample) ⌝ }
@@ -22,9 +23,22 @@ pub extern "C" fn bk_note_column(n: u64, level: u32, sample: u64) -> Answer
 
 #[no_mangle]
 pub extern "C" fn bk_note_span(n: u64, level: u32, place: u64) -> Answer
-    ensures { λ r. ⌜ r ≡ answerOf (saySpan n level place) ⌝ }
+    ensures { λ r. ⌜ r ≡ answerOf (saySpan Band.Approx n level place) ⌝ }
 {
     note_span(
+        Band::Approx,
+        n as usize,
+        level as usize,
+        CoefficientNumber(place as usize),
+    )
+}
+
+#[no_mangle]
+pub extern "C" fn bk_note_detail_span(n: u64, level: u32, place: u64) -> Answer
+    ensures { λ r. ⌜ r ≡ answerOf (saySpan Band.Details n level place) ⌝ }
+{
+    note_span(
+        Band::Details,
         n as usize,
         level as usize,
         CoefficientNumber(place as usize),

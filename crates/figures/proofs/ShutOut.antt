@@ -14,7 +14,9 @@ use Rattle.answers.specs.Checks.{left}
 use Rattle.sizes.specs.declared.Wavelet.the-variants.{Cdf53}
 use Rattle.sizes.specs.Calls.{sayForward, sayInverse}
 use Rattle.sizes.specs.Levels.{afterLevels, countAt, depthWithin, depthFrom}
-use Rattle.notes.specs.Notes.{spanOf, sayColumn, saySpan}
+use Rattle.spans.specs.declared.Band.the-variants.{Approx, Details}
+use Rattle.spans.specs.Spans.{spanOf}
+use Rattle.notes.specs.Notes.{sayColumn, saySpan}
 use Rattle.windows.specs.Windows.{sayWindow}
 use Rattle.samples.specs.Le.{leAt, leBytes}
 use Rattle.samples.specs.Words.{tabulate, wordAt, wordsOf, bytesOf}
@@ -35,7 +37,7 @@ use Rattle.peek.specs.Peeks.{sayPeek, Peek}
 use Rattle.peek.proofs.Peeking.{say-past, say-done, peek-none, peek-some}
 use Rattle.heads.specs.Heads.{sayHead, saySize}
 use Rattle.figures.specs.Worked.{five, thirtyOne}
-use Rattle.figures.specs.ShutOut.{splitOnly, restSplit, detailsUp, three, one0, two0, three0, five0, lengths, NotAllRefused, ShutOut}
+use Rattle.figures.specs.ShutOut.{splitOnly, restSplit, detailsUp, three, one0, two0, three0, five0, peak, lengths, NotAllRefused, ShutOut}
 use Rattle.figures.proofs.Files.{p6-to-p10}
 use Rattle.figures.proofs.Fused.{fused-differs}
 use Rattle.figures.proofs.Done.{deep, each-done}
@@ -62,6 +64,10 @@ says-down : sayMulti Cdf53I8 2 5 5 5 5 ≡ Done 0 0
 unfolding sayMulti depthFrom depthWithin
 says-down = refl
 
+says-one : sayMulti Cdf53I8 1 5 5 5 5 ≡ Done 0 0
+unfolding sayMulti depthFrom depthWithin
+says-one = refl
+
 says-back : sayBack Cdf53I8 2 3 lengths 5 5 5 ≡ Done 0 0
 unfolding sayBack total bandChecks leAt tabulate wordAt wordsOf
 says-back = refl
@@ -70,9 +76,9 @@ says-column : sayColumn 5 1 3 ≡ Done 1 0
 unfolding sayColumn depthFrom depthWithin
 says-column = refl
 
-says-span : saySpan 5 1 1 ≡ Done 2 3
+says-spans : (saySpan Approx 5 1 1 ≡ Done 0 4) × (saySpan Details 5 1 1 ≡ Done 2 4)
 unfolding saySpan spanOf afterLevels depthFrom depthWithin
-says-span = refl
+says-spans = (refl, refl)
 
 says-window : sayWindow 1 2 1 0 1 1 ≡ Done 1 1
 unfolding sayWindow
@@ -128,6 +134,10 @@ levels : {r : Answer} {o u v : List ℕ} → Multi Cdf53I8 2 five five0 five0 fi
 unfolding leAt leBytes tabulate wordAt wordsOf bytesOf val residue wrap decode encode detail details approx approxs low high pyramid
 levels m = m .output ∙ ap (λ s. left s (pyramid Cdf53I8 2 five) five0) says-down
 
+one-level : {r s : Answer} {o u v p t w : List ℕ} → Multi Cdf53I8 1 five0 five0 five0 five0 r o u v → Multi Cdf53I8 1 peak five0 five0 five0 s p t w → (o ≡ five0) × (p ≡ 254 ∷ 6 ∷ 254 ∷ 252 ∷ 252 ∷ [])
+unfolding leAt leBytes tabulate wordAt wordsOf bytesOf val residue wrap decode encode detail details approx approxs low high pyramid
+one-level m k = (m .output ∙ ap (λ s. left s (pyramid Cdf53I8 1 five0) five0) says-one, k .output ∙ ap (λ s. left s (pyramid Cdf53I8 1 peak) five0) says-one)
+
 restores-five : {r : Answer} {o u v : List ℕ} → MultiBack Cdf53I8 (255 ∷ 3 ∷ []) (248 ∷ 5 ∷ 0 ∷ []) lengths five0 five0 five0 r o u v → o ≡ five
 unfolding leAt leBytes tabulate wordAt wordsOf bytesOf val residue wrap decode encode even odd sample restored back samplesOf
 restores-five m = m .output ∙ ap (λ s. left s (samplesOf Cdf53I8 (255 ∷ 3 ∷ []) (248 ∷ 5 ∷ 0 ∷ []) (wordsOf 4 lengths)) five0) says-back
@@ -166,7 +176,7 @@ module _ {s : List ℕ} {l c : ℕ} {x : List ℕ} (e : OpensTo s 1 14 5 5 5 l c
       (m .answer ∙ ap answerOf d ∙ ap (say 13 j) count, m .sample ∙ peek-none s 1 14 j (ap done d))
 
 not-all-refused : NotAllRefused
-not-all-refused = record { calls = each-done; depth = λ w. ap (λ l. Done l 0) (deep w); section = says-section; head = says-head; size = says-size; sample = says-sample (p6-to-p10 .p10) 2 (omega arith); column = says-column; span = says-span; window = says-window }
+not-all-refused = record { calls = each-done; depth = λ w. ap (λ l. Done l 0) (deep w); section = says-section; head = says-head; size = says-size; sample = says-sample (p6-to-p10 .p10) 2 (omega arith); column = says-column; span = says-spans .0; detail-span = says-spans .1; window = says-window }
 
 pub shut-out : ShutOut
 unfolding leAt leBytes tabulate wordAt wordsOf bytesOf val residue wrap decode encode detail details approx approxs low high afterLevels evenOf oddOf splitOnly restSplit detailsUp
@@ -187,6 +197,7 @@ shut-out =
       one-sample = λ m. one-at (p6-to-p10 .p10) 2 (omega arith) m;
       one-of-cut = λ m. one-at (p6-to-p10 .p9 27 (omega arith) (omega arith)) 1 (omega arith) m;
       none-past-cut = λ m. none-at (p6-to-p10 .p9 27 (omega arith) (omega arith)) 3 (omega arith) m;
+      block = λ m k. let q = one-level m k in (refl, λ e. differ 0 (λ h. omega arith) (sym (ap (take 1) (q .0)) ∙ e ∙ ap (take 1) (q .1)));
       toward-zero = λ m e. differ 0 (λ h. omega arith) (sym (ap (take 2) (levels m)) ∙ e);
       before-the-wrap = λ m e. differ 0 (λ h. omega arith) (sym (wrapped m) ∙ e);
       fused = fused-differs;

@@ -12,6 +12,7 @@ use Rattle.answers.specs.Answers.{say}
 use Rattle.sizes.specs.declared.Wavelet.{Wavelet}
 use Rattle.sizes.specs.declared.Wavelet.the-variants.{Cdf97}
 use Rattle.sizes.specs.Levels.{sayDepth}
+use Rattle.spans.specs.declared.Band.the-variants.{Approx, Details}
 use Rattle.notes.specs.Notes.{sayColumn, saySpan}
 use Rattle.windows.specs.Windows.{sayWindow}
 use Rattle.samples.specs.Halves.{evenOf, oddOf}
@@ -100,6 +101,10 @@ three0 = 0 ∷ 0 ∷ 0 ∷ []
 abbrev pub five0 : List ℕ
 five0 = 0 ∷ 0 ∷ 0 ∷ 0 ∷ 0 ∷ []
 
+-- five samples with a peak in the middle
+abbrev pub peak : List ℕ
+peak = 0 ∷ 0 ∷ 8 ∷ 0 ∷ 0 ∷ []
+
 -- P5's lengths of details, 1 and 2, as u32 numbers
 abbrev pub lengths : List ℕ
 lengths = 1 ∷ 0 ∷ 0 ∷ 0 ∷ 2 ∷ 0 ∷ 0 ∷ 0 ∷ []
@@ -141,7 +146,8 @@ pub record NotAllRefused : Type 0 where
   pub size : saySize 1 5 2 ≡ Done 31 0
   pub sample : sayPeek thirtyOne 1 14 2 ≡ Done 0 0
   pub column : sayColumn 5 1 3 ≡ Done 1 0
-  pub span : saySpan 5 1 1 ≡ Done 2 3
+  pub span : saySpan Approx 5 1 1 ≡ Done 0 4
+  pub detail-span : saySpan Details 5 1 1 ≡ Done 2 4
   pub window : sayWindow 1 2 1 0 1 1 ≡ Done 1 1
 
 -- ---- the others, by what the statements allow
@@ -173,6 +179,9 @@ pub record ShutOut : Type 0 where
   -- or the recording's own, 3, of a file that was cut: its first 27 bytes have level 1, -3 at place 1, and no place 3
   pub one-of-cut : {q : PeekAnswer} → Peek (take 27 thirtyOne) 1 14 1 q → (q .answer ≡ say 0 0 0) × (q .sample ≡ neg 3)
   pub none-past-cut : {q : PeekAnswer} → Peek (take 27 thirtyOne) 1 14 3 q → (q .answer ≡ say 13 3 3) × (q .sample ≡ pos 0)
+  -- a span that is the block of samples which show at a column: that of approximation 0 is samples 0 and 1, and the peak, beside it, changes the approximation
+  pub block : {r s : Answer} {o u v p t w : List ℕ} → Multi Cdf53I8 1 five0 five0 five0 five0 r o u v → Multi Cdf53I8 1 peak five0 five0 five0 s p t w
+      → (take 2 five0 ≡ take 2 peak) × (take 1 o ≡ take 1 p → ⊥)
   -- "dividing toward zero where floor is meant: P5's level 2 comes out wrong", as 0, 4
   pub toward-zero : {r : Answer} {o u v : List ℕ} → Multi Cdf53I8 2 five five0 five0 five0 r o u v → take 2 o ≡ 0 ∷ 4 ∷ [] → ⊥
   -- "updating evens from details before they wrapped": P3's -255 would leave 127 - 127, 0

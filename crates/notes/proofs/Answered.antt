@@ -1,5 +1,5 @@
 -- Where `note_column` and `note_span` end and what they have passed there; and about their answers: where they are done, that the column of a note can be
--- asked back for its span, and that the spans of a level cover the samples.
+-- asked back for its span, and that the spans of a level's band cover the samples.
 use mathlib.Core.Bool.{Bool, true, false, not}
 use mathlib.Core.Logic.{⊎-elim}
 use mathlib.Core.Path.{_≡_, refl, sym, ap, _∙_}
@@ -22,10 +22,13 @@ use Rattle.sizes.specs.Lengths.{mostSamples}
 use Rattle.sizes.specs.Levels.{countAt, depthOf}
 use Rattle.sizes.proofs.Counts.{count-at-le}
 use Rattle.sizes.proofs.Depths.{long-enough}
-use Rattle.notes.specs.Notes.{columnOf, spanOf, levelChecks, placeChecks, noteChecks, sayColumn, saySpan, Drawn}
-use Rattle.notes.proofs.Spans.{next, starts, holds, column-below, first-starts, next-starts, last-ends}
+use Rattle.spans.specs.declared.Band.{Band}
+use Rattle.spans.specs.declared.Band.the-variants.{Approx}
+use Rattle.spans.specs.Spans.{reachOf, spanOf, bandCount}
+use Rattle.notes.specs.Notes.{columnOf, levelChecks, placeChecks, noteChecks, sayColumn, saySpan, Drawn}
+use Rattle.notes.proofs.Spans.{reach-is, starts, band-below, holds, column-below, first-starts, next-reaches, last-ends}
 
--- a level within the depth: one of its approximations spans fewer than n samples
+-- a level within the depth: fewer than n samples show at one of its approximations
 pub within-depth : (n l : ℕ) → 1 ≤ l → l ≤ depthOf Cdf53 n → 2 ^ l < n
 within-depth n zero p h = absurd (omega arith)
 within-depth n (suc l) p h =
@@ -35,10 +38,8 @@ within-depth n (suc l) p h =
 -- what the checks of a level leave
 pub passes : (n l : ℕ) → Passing (levelChecks n l) → Drawn n l
 passes n l q =
-    record {
-      few = ltb-false mostSamples n (q .0);
-      wide = within-depth n l (omega (arith, eqb-false l 0 (q .1 .0))) (ltb-false (depthOf Cdf53 n) l (q .1 .1 .0));
-    }
+    let some : 1 ≤ l = omega (arith, eqb-false l 0 (q .1 .0)) in
+    record { some = some; few = ltb-false mostSamples n (q .0); wide = within-depth n l some (ltb-false (depthOf Cdf53 n) l (q .1 .1 .0)) }
 
 -- a call that asks for its level first: r is what the level's checks said, and b whether they passed
 module _ (n l : ℕ) {r : Refusal} {b : Bool} (e : r ≡ firstOf (levelChecks n l) (Done 0 0)) (d : b ≡ done r) where
@@ -59,21 +60,22 @@ module _ (n l : ℕ) {r : Refusal} {b : Bool} (e : r ≡ firstOf (levelChecks n 
     pub place-passes : {t : Refusal} → not b ≡ false → place < limit → t ≡ z → t ≡ firstOf (noteChecks n l place limit) z
     place-passes h g q = past h (by (NoSuchPlace place limit) (ap not (lt-ltb place limit g)) q)
 
--- two to the level fits
-pub fits : (n l : ℕ) → Drawn n l → l < 64
+-- two to the level fits, and to one level more
+pub fits : (n l : ℕ) → Drawn n l → l < 63
 fits n l d = ⊎-elim (λ h. omega arith) (λ h. absurd (omega (arith, pow-mono h, d .few, d .wide))) (lt-or-le l 24)
 
--- what is left for the numbers of a span, w samples to a place
-pub record Spanned (n p w : ℕ) : Type 0 where
-  pub place : p < n
-  pub some : 0 < w
+-- a reach r of the level or of one before it is shorter than two recordings
+pub reach-short : {n l r : ℕ} (m : ℕ) → Drawn n l → r ≡ reachOf m → m ≤ l → r < 2 * n
+reach-short m d e h = omega (arith, reach-is m, pow-mono h, d .wide)
+
+-- what is left for the numbers of a span: place p of w samples each
+pub record Placed (n p w : ℕ) : Type 0 where
   pub wide : w < n
   pub few : n ≤ mostSamples
   pub first : p * w < n
-  pub after : (p + 1) * w ≡ p * w + w
 
-pub spanned : (n l p w : ℕ) → w ≡ 2 ^ l → Drawn n l → p < countAt l n → Spanned n p w
-spanned n l p w e d h = rw e (record { place = omega (arith, count-at-le l n); some = pow-pos l; wide = d .wide; few = d .few; first = starts n l p h; after = next p (2 ^ l) })
+pub placed : (b : Band) (n l p w : ℕ) → w ≡ 2 ^ l → Drawn n l → p < bandCount b l n → Placed n p w
+placed b n l p w e d h = rw e (record { wide = d .wide; few = d .few; first = starts n l p (band-below b n l p (d .some) h) })
 
 -- ---- about the calls: what they say of a level and a place that are there, and that a done call was asked for such
 
@@ -94,10 +96,10 @@ module _ (n l place limit : ℕ) (z : Refusal) where
       (b .0, ltb-true place limit (not-false _ (b .1 .0)), e ∙ ap answerOf (through (noteChecks n l place limit) z v))
 
 module _ (n l : ℕ) where
-  -- `note_span` is done with each place of each level
-  pub span-done : n ≤ 16777216 → 1 ≤ l → l ≤ depthOf Cdf53 n → (p : ℕ) → p < countAt l n → saySpan n l p ≡ Done (spanOf n l p .0) (spanOf n l p .1)
+  -- `note_span` is done with each coefficient of each level
+  pub span-done : (b : Band) → n ≤ 16777216 → 1 ≤ l → l ≤ depthOf Cdf53 n → (p : ℕ) → p < bandCount b l n → saySpan b n l p ≡ Done (spanOf b n l p .0) (spanOf b n l p .1)
   unfolding saySpan
-  span-done few some deep p h = note-says n l p (countAt l n) (Done (spanOf n l p .0) (spanOf n l p .1)) (level-passes n l few some deep) h
+  span-done b few some deep p h = note-says n l p (bandCount b l n) (Done (spanOf b n l p .0) (spanOf b n l p .1)) (level-passes n l few some deep) h
 
   -- `note_column` with each sample
   pub column-done : n ≤ 16777216 → 1 ≤ l → l ≤ depthOf Cdf53 n → (s : ℕ) → s < n → sayColumn n l s ≡ Done (columnOf l s) 0
@@ -109,12 +111,6 @@ module _ (n l : ℕ) where
   unfolding sayColumn
   column-told s q = note-told n l s n (Done (columnOf l s) 0) q
 
-  -- q is a done answer of `note_span` for approximation p
-  span-told : (p : ℕ) (q : Answer) → q ≡ answerOf (saySpan n l p) → q .number ≡ 0
-      → Passing (levelChecks n l) × (p < countAt l n) × (q ≡ answerOf (Done (spanOf n l p .0) (spanOf n l p .1)))
-  unfolding saySpan
-  span-told p q = note-told n l p (countAt l n) (Done (spanOf n l p .0) (spanOf n l p .1)) q
-
   -- the column of a note is one of the places
   pub column-in : (s : ℕ) (q : Answer) → q ≡ answerOf (sayColumn n l s) → q .number ≡ 0 → q .first < countAt l n
   column-in s q e z =
@@ -122,32 +118,51 @@ module _ (n l : ℕ) where
       omega (arith, ap (λ (x : Answer). x .first) c, column-below n l s below)
 
   -- asked back: r is what `note_span` answers for the column in q, and the span holds the note
-  pub asked-back : (s : ℕ) (q r : Answer) → q ≡ answerOf (sayColumn n l s) → q .number ≡ 0 → r ≡ answerOf (saySpan n l (q .first)) → (r .number ≡ 0) × (r .first ≤ s) × (s ≤ r .second)
+  pub asked-back : (s : ℕ) (q r : Answer) → q ≡ answerOf (sayColumn n l s) → q .number ≡ 0 → r ≡ answerOf (saySpan Approx n l (q .first)) → (r .number ≡ 0) × (r .first ≤ s) × (s ≤ r .second)
   unfolding saySpan
   asked-back s q r e z f =
       let (level, below, c) = column-told s q e z in
       let p = columnOf l s in
-      let span = Done (spanOf n l p .0) (spanOf n l p .1) in
-      let t : saySpan n l p ≡ span = note-says n l p (countAt l n) span level (column-below n l s below) in
-      let a : r ≡ answerOf span = f ∙ ap (λ (x : Answer). answerOf (saySpan n l (x .first))) c ∙ ap answerOf t in
+      let span = Done (spanOf Approx n l p .0) (spanOf Approx n l p .1) in
+      let t : saySpan Approx n l p ≡ span = note-says n l p (countAt l n) span level (column-below n l s below) in
+      let a : r ≡ answerOf span = f ∙ ap (λ (x : Answer). answerOf (saySpan Approx n l (x .first))) c ∙ ap answerOf t in
       let w = holds n l s below in
       (ap (λ (x : Answer). x .number) a, omega (arith, ap (λ (x : Answer). x .first) a), omega (arith, ap (λ (x : Answer). x .second) a))
 
-  -- ---- the spans that `note_span` answers cover the samples
+-- ---- q is a done answer of `note_span` for coefficient p of a band: a level and a place that are there, and the ends of its span
 
+pub record Spanned (b : Band) (n l p : ℕ) (q : Answer) : Type 0 where
+  pub some : 1 ≤ l
+  pub deep : l ≤ depthOf Cdf53 n
+  pub place : p < bandCount b l n
+  pub first : q .first ≡ spanOf b n l p .0
+  pub last : q .second ≡ spanOf b n l p .1
+
+pub span-told : (b : Band) (n l p : ℕ) (q : Answer) → q ≡ answerOf (saySpan b n l p) → q .number ≡ 0 → Spanned b n l p q
+unfolding saySpan
+span-told b n l p q e z =
+    let (level, place, a) = note-told n l p (bandCount b l n) (Done (spanOf b n l p .0) (spanOf b n l p .1)) q e z in
+    record {
+      some = passes n l level .some;
+      deep = ltb-false (depthOf Cdf53 n) l (level .1 .1 .0);
+      place = place;
+      first = ap (λ (x : Answer). x .first) a;
+      last = ap (λ (x : Answer). x .second) a;
+    }
+
+-- the spans that it answers cover the samples
+module _ (b : Band) (n l : ℕ) where
   -- the first starts at sample 0
-  pub first-answer : (q : Answer) → q ≡ answerOf (saySpan n l 0) → q .number ≡ 0 → q .first ≡ 0
-  first-answer q e z = let (level, place, a) = span-told 0 q e z in ap (λ (x : Answer). x .first) a ∙ first-starts n l
+  pub first-answer : (q : Answer) → q ≡ answerOf (saySpan b n l 0) → q .number ≡ 0 → q .first ≡ 0
+  first-answer q e z = let t = span-told b n l 0 q e z in t .first ∙ first-starts n l (t .some) b
 
-  -- each next one starts one after the end of the one before
-  pub next-answer : (p : ℕ) (q r : Answer) → q ≡ answerOf (saySpan n l p) → q .number ≡ 0 → r ≡ answerOf (saySpan n l (p + 1)) → r .number ≡ 0 → r .first ≡ q .second + 1
+  -- each next one starts where the one before ends, or before
+  pub next-answer : (p : ℕ) (q r : Answer) → q ≡ answerOf (saySpan b n l p) → q .number ≡ 0 → r ≡ answerOf (saySpan b n l (p + 1)) → r .number ≡ 0 → r .first ≤ q .second
   next-answer p q r e z f y =
-      let (level, place, a) = span-told p q e z in
-      let (level′, place′, b) = span-told (p + 1) r f y in
-      ap (λ (x : Answer). x .first) b ∙ next-starts n l p place′ ∙ sym (ap (λ (x : Answer). x .second + 1) a)
+      let t = span-told b n l p q e z in
+      let u = span-told b n l (p + 1) r f y in
+      omega (arith, t .last, u .first, next-reaches n l (t .some) b p (u .place))
 
   -- and the last ends at the last sample
-  pub last-answer : (q : Answer) → q ≡ answerOf (saySpan n l (countAt l n - 1)) → q .number ≡ 0 → q .second ≡ n - 1
-  last-answer q e z =
-      let (level, place, a) = span-told (countAt l n - 1) q e z in
-      ap (λ (x : Answer). x .second) a ∙ last-ends n l (omega (arith, passes n l level .wide))
+  pub last-answer : (q : Answer) → q ≡ answerOf (saySpan b n l (bandCount b l n - 1)) → q .number ≡ 0 → q .second ≡ n - 1
+  last-answer q e z = let t = span-told b n l (bandCount b l n - 1) q e z in t .last ∙ last-ends b n l (t .some) (omega (arith, t .place))

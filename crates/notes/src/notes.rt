@@ -1,10 +1,10 @@
-// Notes stand at samples, drawn columns at coefficients. Document 01, "Notes and their spans".
+// Notes stand at samples, drawn columns at coefficients. Document 01, "Notes and their spans"; document 02, C-13.
 ghost use mathlib.Core.Path.{_≡_};
-ghost use Prim.Native.Nat.{_^_, _<_, min};
+ghost use Prim.Native.Nat.{_+_, _-_, _^_, _<_};
 ghost use Rattle.answers.specs.Answers.{answerOf};
 ghost use Rattle.answers.specs.Checks.{firstOf};
-ghost use Rattle.sizes.specs.Levels.{countAt};
-ghost use Rattle.notes.specs.Notes.{columnOf, spanOf, levelChecks, sayColumn, saySpan, Drawn};
+ghost use Rattle.spans.specs.Spans.{reachOf, clippedEnds, spanOf, bandCount};
+ghost use Rattle.notes.specs.Notes.{columnOf, levelChecks, sayColumn, saySpan, Drawn};
 use answers::err::Answer;
 use answers::err::Refusal;
 use answers::err::is_done;
@@ -13,8 +13,11 @@ use sizes::MOST_SAMPLES;
 use sizes::Wavelet;
 use sizes::count_at;
 use sizes::depth;
+use sizes::details_length;
+use sizes::lesser;
+use spans::Band;
 
-// Two kinds of number, which only `column` and `span` turn into each other.
+// Two kinds of number, which only `column` and `span`, by `clipped`, turn into each other.
 pub struct SampleNumber(pub usize);
 
 pub struct CoefficientNumber(pub usize);
@@ -25,7 +28,7 @@ pub struct SpanEnds {
     pub last: SampleNumber,
 }
 
-// How many samples one approximation of a level stands for.
+// How many samples show at one approximation of a level.
 fn samples_each(level: usize) -> usize
     requires { ⌜ level < 64 ⌝ }
     ensures { λ r. ⌜ r ≡ 2 ^ level ⌝ }
@@ -33,10 +36,11 @@ fn samples_each(level: usize) -> usize
     1 << level
 }
 
-fn least(a: usize, b: usize) -> usize
-    ensures { λ r. ⌜ r ≡ min a b ⌝ }
+// What is left of a after b is taken away, and 0 where b is more.
+fn saturating_sub(a: usize, b: usize) -> usize
+    ensures { λ r. ⌜ r ≡ a - b ⌝ }
 {
-    if a < b { a } else { b }
+    if a < b { 0 } else { a - b }
 }
 
 // The approximation at which a sample shows.
@@ -47,17 +51,48 @@ pub fn column(level: usize, s: SampleNumber) -> CoefficientNumber
     CoefficientNumber(s.0 >> level)
 }
 
-// The samples that an approximation spans.
-pub fn span(n: usize, level: usize, p: CoefficientNumber) -> SpanEnds
-    requires { ⌜ Drawn n level ⌝ }
-    requires { ⌜ p .0 < countAt level n ⌝ }
-    ensures { λ r. ⌜ (r .first .0 ≡ spanOf n level (p .0) .0) × (r .last .0 ≡ spanOf n level (p .0) .1) ⌝ }
+// How far an approximation of a level reads on either side of where it stands.
+fn reach(level: usize) -> usize
+    requires { ⌜ level < 63 ⌝ }
+    ensures { λ r. ⌜ r ≡ reachOf level ⌝ }
 {
-    let place = p.0;
-    let wide = samples_each(level);
+    saturating_sub(samples_each(level + 1), 2)
+}
+
+// From one sample to another, and so far on either side of both, but no further than the n samples go.
+fn clipped(n: usize, from: usize, to: usize, far: usize) -> SpanEnds
+    requires { ⌜ 0 < n ⌝ }
+    requires { ⌜ to + far < 2 ^ 64 ⌝ }
+    ensures { λ r. ⌜ (r .first .0 ≡ clippedEnds n from to far .0) × (r .last .0 ≡ clippedEnds n from to far .1) ⌝ }
+{
     SpanEnds {
-        first: SampleNumber(place * wide),
-        last: SampleNumber(least((place + 1) * wide - 1, n - 1)),
+        first: SampleNumber(saturating_sub(from, far)),
+        last: SampleNumber(lesser(to + far, n - 1)),
+    }
+}
+
+// The samples that a coefficient spans: no other sample can change it.
+pub fn span(b: Band, n: usize, level: usize, p: CoefficientNumber) -> SpanEnds
+    requires { ⌜ Drawn n level ⌝ }
+    requires { ⌜ p .0 < bandCount b level n ⌝ }
+    ensures { λ r. ⌜ (r .first .0 ≡ spanOf b n level (p .0) .0) × (r .last .0 ≡ spanOf b n level (p .0) .1) ⌝ }
+{
+    let each = samples_each(level);
+    let from = p.0 * each;
+    match b {
+        Band::Approx => clipped(n, from, from, reach(level)),
+        Band::Details => clipped(n, from, from + each, reach(level - 1)),
+    }
+}
+
+// How many coefficients a band of a level has.
+fn band_count(b: Band, level: usize, n: usize) -> usize
+    requires { ⌜ 0 < level ⌝ }
+    ensures { λ r. ⌜ r ≡ bandCount b level n ⌝ }
+{
+    match b {
+        Band::Approx => count_at(level, n),
+        Band::Details => details_length(count_at(level - 1, n)),
     }
 }
 
@@ -94,20 +129,20 @@ fn say_column(n: usize, level: usize, s: SampleNumber) -> Refusal
     Refusal::Done(c.0, 0)
 }
 
-// What is said of an approximation; its places are counted only at a level that is there, so that the count is short.
-fn say_span(n: usize, level: usize, p: CoefficientNumber) -> Refusal
-    ensures { λ r. ⌜ r ≡ saySpan n level (p .0) ⌝ }
+// What is said of a coefficient; its band is counted only at a level that is there, so that the count is short.
+fn say_span(b: Band, n: usize, level: usize, p: CoefficientNumber) -> Refusal
+    ensures { λ r. ⌜ r ≡ saySpan b n level (p .0) ⌝ }
 {
     let said = check_level(n, level);
     if !is_done(said) {
         return said;
     }
     let place = p.0;
-    let limit = count_at(level, n);
+    let limit = band_count(b, level, n);
     if limit <= place {
         return Refusal::NoSuchPlace(place, limit);
     }
-    let s = span(n, level, p);
+    let s = span(b, n, level, p);
     Refusal::Done(s.first.0, s.last.0)
 }
 
@@ -118,9 +153,9 @@ pub fn note_column(n: usize, level: usize, s: SampleNumber) -> Answer
     numbers(say_column(n, level, s))
 }
 
-// The span of a column, as the desk asks for it.
-pub fn note_span(n: usize, level: usize, p: CoefficientNumber) -> Answer
-    ensures { λ r. ⌜ r ≡ answerOf (saySpan n level (p .0)) ⌝ }
+// The span of a coefficient, as the desk asks for it.
+pub fn note_span(b: Band, n: usize, level: usize, p: CoefficientNumber) -> Answer
+    ensures { λ r. ⌜ r ≡ answerOf (saySpan b n level (p .0)) ⌝ }
 {
-    numbers(say_span(n, level, p))
+    numbers(say_span(b, n, level, p))
 }

@@ -6,3 +6,4 @@ pub mod ThereAndBack
 pub mod OneLevel
 pub mod T800Levels
 pub mod T800Calls
+pub mod SpanCalls

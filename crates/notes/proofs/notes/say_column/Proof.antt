@@ -1,6 +1,7 @@
 -- `say_column` meets its contract: the level, then the sample.
 use mathlib.Core.Path.{refl, ap}
 use Prim.Native.Nat.{ℕ}
+use native.Mathlib.Omega.{arith}
 use borrow.Author.Needs.{needs}
 use Rattle.answers.specs.declared.err.Refusal.{Refusal}
 use Rattle.answers.specs.declared.err.Refusal.the-variants.{Done}
@@ -37,5 +38,5 @@ say-column-spec =
     tie.close
     (tie.spec
     (λ c κs. search needs) (λ c κs. search needs) returns returns-2
-    (λ c κs. let a = c .before .before .before .before .args in fits (a .n) (a .level) (drawn _ _ (c .before .before .before .check-level .ensures) (c .before .before .is-done .ensures) (c .before .if1 .left)))
+    (λ c κs. let a = c .before .before .before .before .args in omega (arith, fits (a .n) (a .level) (drawn _ _ (c .before .before .before .check-level .ensures) (c .before .before .is-done .ensures) (c .before .if1 .left))))
     returns-3)
