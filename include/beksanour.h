@@ -550,8 +550,9 @@ bk_answer bk_note_column(uint64_t n, uint32_t level, uint64_t sample);
  * The samples that an approximation, and so a column, is made of: approximation p of `level` spans samples p * 2^level - r to
  * p * 2^level + r, with r = 2^(level + 1) - 2, but none before 0 or after n - 1. In integer 5/3 no sample outside the span can
  * change the approximation, whatever the values are, also where one wraps. The span of a sample's column holds the sample; the
- * spans of a level cover all n samples, and overlap.
- * Done: first is the first sample of the span, second the last.
+ * spans of a level cover all n samples, and overlap. A span has at most 2^(level + 2) - 3 samples. Approximation p is sample p of
+ * what bk_pyramid_open gives at `level`, and, of integers, of the approximations of bk_cdf53_dwt_T of `level` levels.
+ * Done: first is the first sample of the span of approximation `place`, second the last.
  *
  * Refused, in this order:
  *   6                    over 16,777,216 samples
@@ -560,7 +561,7 @@ bk_answer bk_note_column(uint64_t n, uint32_t level, uint64_t sample);
  * Which 13 it is: the level's where level is 0 or above what bk_cdf53_depth says of n, else the place's.
  *
  * Changed in 0.6.0: before, the answer was p * 2^level to (p + 1) * 2^level - 1, no further than n - 1, the samples that show at
- * the column.
+ * the column, 2^level of them at most.
  *
  * For example, of 20 samples at level 1, column 3 spans samples 4 to 8; of 5 samples, column 2 spans samples 2 to 4.
  */
@@ -568,10 +569,11 @@ bk_answer bk_note_span(uint64_t n, uint32_t level, uint64_t place);
 
 /*
  * The same of a detail: detail p of `level` spans samples p * 2^level - r to (p + 1) * 2^level + r, with r = 2^level - 2, but
- * none before 0 or after n - 1. In integer 5/3 no sample outside the span can change the detail. It is sample p of the details
- * of bk_cdf53_dwt_T of so many levels, sample ceil(n / 2^level) + p of the output of bk_cdf53_multi_dwt_T of so many levels or
- * more, and sample p of section levels + 2 - level of a file.
- * Done: first is the first sample of the span, second the last.
+ * none before 0 or after n - 1. In integer 5/3 no sample outside the span can change the detail. A span has at most
+ * 3 * 2^level - 3 samples. Of integers, detail p is sample p of the details of bk_cdf53_dwt_T of `level` levels, and sample
+ * ceil(n / 2^level) + p of the output of bk_cdf53_multi_dwt_T of `level` levels or more; in a file whose head tells `level` levels
+ * or more it is sample p of section levels + 2 - level, with the head's levels.
+ * Done: first is the first sample of the span of detail `place`, second the last.
  *
  * Refused, in this order:
  *   6                    over 16,777,216 samples

@@ -7,7 +7,7 @@ use Prim.Native.Nat.{ℕ, zero, suc, _+_, _-_, _*_, _^_, _≤_, _<_}
 use native.Mathlib.Nat.{pow-succ'}
 use native.Mathlib.Omega.{arith}
 use borrow.Author.Tests.{lt-ltb, le-ltb, ltb-true, ltb-false, eqb-false, ne-eqb, not-true, not-false}
-use lib.Pow.{pow-pos, pow-mono}
+use lib.Pow.{pow-mono}
 use Rattle.answers.specs.declared.err.Answer.{Answer}
 use Rattle.answers.specs.declared.err.Refusal.{Refusal}
 use Rattle.answers.specs.declared.err.Refusal.the-variants.{Done, NoSuchPlace}
@@ -20,7 +20,6 @@ use Rattle.answers.proofs.Endings.{is-done}
 use Rattle.sizes.specs.declared.Wavelet.the-variants.{Cdf53}
 use Rattle.sizes.specs.Lengths.{mostSamples}
 use Rattle.sizes.specs.Levels.{countAt, depthOf}
-use Rattle.sizes.proofs.Counts.{count-at-le}
 use Rattle.sizes.proofs.Depths.{long-enough}
 use Rattle.spans.specs.declared.Band.{Band}
 use Rattle.spans.specs.declared.Band.the-variants.{Approx}

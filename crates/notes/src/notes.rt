@@ -28,7 +28,7 @@ pub struct SpanEnds {
     pub last: SampleNumber,
 }
 
-// How many samples show at one approximation of a level.
+// How many samples show at one approximation of a level; at the last one there may be fewer.
 fn samples_each(level: usize) -> usize
     requires { ⌜ level < 64 ⌝ }
     ensures { λ r. ⌜ r ≡ 2 ^ level ⌝ }
