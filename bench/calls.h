@@ -1,4 +1,4 @@
-// What the programs share that time single calls, bench/sample.c and bench/depth.c.
+// What the programs share that time single calls, bench/sample.c, bench/depth.c and bench/book.c.
 #include "beksanour.h"
 #include <stdio.h>
 #include <time.h>

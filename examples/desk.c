@@ -5,8 +5,9 @@
  *   export PKG_CONFIG_PATH=PREFIX/lib/pkgconfig LD_LIBRARY_PATH=PREFIX/lib
  *   cc examples/desk.c $(pkg-config --cflags --libs beksanour) -o desk
  *
- *   desk          a tour: three recordings are made, kept as pyramid files, cut, opened, drawn and marked with notes, and then
- *                 the library is made to refuse with every refusal's number
+ *   desk          a tour: four recordings are made and kept as pyramid files. Files are cut, opened, drawn and marked with notes,
+ *                 and kept in a route book, where one is opened and one is withdrawn. Then the library is made to refuse with
+ *                 every refusal's number
  *   desk FILE     what a pyramid file says of itself, the level that it opens at, and its overview
  *   desk --help   this
  *
@@ -95,6 +96,9 @@ static int32_t gears(uint64_t k, uint64_t n) { return 20000 * tone(k, n, 3) + 20
 /* A machine that runs up: it turns faster and faster. */
 static int32_t run_up(uint64_t k, uint64_t n) { return wave(k * k * 8 * 65536 / (n * n)) / 4; }
 
+/* A fan: its turning, and its blades, five to a turn. */
+static int32_t fan(uint64_t k, uint64_t n) { return tone(k, n, 8) / 4 + tone(k, n, 40) / 16; }
+
 static recording record(const char *where, uint32_t point, uint32_t width, size_t n, int32_t (*at)(uint64_t, uint64_t)) {
     recording r;
     size_t k;
@@ -117,10 +121,12 @@ typedef struct pyramid_file {
 /* The file of a recording, at as many levels as it has. */
 static pyramid_file keep(const recording *r) {
     pyramid_file f;
-    uint32_t levels = (uint32_t)bk_cdf53_depth(r->n).first;
-    bk_answer size = bk_pyramid_size(r->width, r->n, levels), done;
+    bk_answer depth = bk_cdf53_depth(r->n), size, done;
+    uint32_t levels = (uint32_t)depth.first;
     size_t bytes = r->n * r->width;
     uint8_t *work1 = room(bytes), *work2 = room(bytes);
+    expect("the depth of a recording", depth, BK_DONE);
+    size = bk_pyramid_size(r->width, r->n, levels);
     expect("the size of a file", size, BK_DONE);
     f.length = (size_t)size.first;
     f.bytes = room(f.length);
@@ -134,6 +140,13 @@ static pyramid_file keep(const recording *r) {
     printf("point %lu, %s: %lu bits, %lu samples, %lu levels, %lu bytes\n", (unsigned long)r->point, r->where,
            (unsigned long)r->width * 8, (unsigned long)r->n, (unsigned long)levels, (unsigned long)f.length);
     return f;
+}
+
+/* What a whole file says of itself. */
+static bk_head head_of(const pyramid_file *f) {
+    bk_head head = bk_pyramid_head(f->bytes, f->length);
+    expect("reading a head", head.answer, BK_DONE);
+    return head;
 }
 
 /* What the front of a file lets see. */
@@ -271,9 +284,8 @@ static void tour_cuts(const pyramid_file *f, const size_t *places, size_t count)
 
 /* Draws the level of a file that fits the screen, from the front of the file alone. */
 static opened tour_overview(const recording *r, const pyramid_file *f) {
-    bk_head head = bk_pyramid_head(f->bytes, f->length);
+    bk_head head = head_of(f);
     opened o;
-    expect("reading a head", head.answer, BK_DONE);
     expect("opening for an overview", open_at(f->bytes, f->length, &head, fitting_level(&head, 0), &o), BK_DONE);
     printf("point %lu, %s: ", (unsigned long)head.point, r->where);
     say_level(&o);
@@ -283,7 +295,7 @@ static opened tour_overview(const recording *r, const pyramid_file *f) {
 
 /* Where each section of a file is. Nothing is copied: the bytes are read where they stand. */
 static void tour_sections(const pyramid_file *f) {
-    bk_head head = bk_pyramid_head(f->bytes, f->length);
+    bk_head head = head_of(f);
     uint32_t number;
     for (number = 1; number <= head.levels + 1; number++) {
         bk_answer a = bk_pyramid_section(f->bytes, f->length, head.width, head.point, number);
@@ -322,13 +334,16 @@ static void tour_notes(const pyramid_file *f, const opened *o, const uint64_t *n
         printf("the note at sample %lu, whose value is %lld, is in column %lu, which is made of samples %lu to %lu\n",
                (unsigned long)notes[i], (long long)s.sample, (unsigned long)columns[i], (unsigned long)a.first,
                (unsigned long)a.second);
-        if (notes[i] < a.first || notes[i] > a.second) exit(BAD_TURN);
+        if (notes[i] < a.first || notes[i] > a.second) {
+            printf("    the note's own sample is not among them\n");
+            exit(BAD_TURN);
+        }
     }
 }
 
 /* Where a recording is roughest: the largest detail of level 1, which the last section has, and the samples that it is made of. */
 static void tour_roughest(const pyramid_file *f) {
-    bk_head head = bk_pyramid_head(f->bytes, f->length);
+    bk_head head = head_of(f);
     bk_answer details = bk_pyramid_section(f->bytes, f->length, head.width, head.point, head.levels + 1), span;
     int64_t largest = 0;
     uint64_t place = 0, i;
@@ -347,7 +362,7 @@ static void tour_roughest(const pyramid_file *f) {
 
 /* A finer level around a sample: a window on the approximations of that level. The window must lie within them. */
 static void tour_zoom(const pyramid_file *f, uint32_t level, uint64_t sample) {
-    bk_head head = bk_pyramid_head(f->bytes, f->length);
+    bk_head head = head_of(f);
     uint64_t start, mark;
     uint8_t no_details[1] = {0};
     bk_answer column, window;
@@ -364,6 +379,89 @@ static void tour_zoom(const pyramid_file *f, uint32_t level, uint64_t sample) {
     draw(o.samples + window.first, head.width, (size_t)window.second / head.width);
     draw_marks(&mark, 1);
     free(o.samples);
+}
+
+/* ---- the route book, which the tour keeps files in */
+
+typedef struct route_book {
+    uint8_t *area;
+    size_t length;
+} route_book;
+
+/* A note that stays with its measuring point: the point's number is all that it keeps of where the file is. */
+typedef struct pinned {
+    const char *text;
+    uint32_t point;
+    uint64_t sample;
+} pinned;
+
+/* What a note shows: the sample's value, and the first and the last sample that its column is made of. */
+typedef struct shown {
+    int64_t value;
+    uint64_t first, last;
+} shown;
+
+static void say_free(const route_book *b) {
+    bk_answer a = bk_book_room(b->area, b->length);
+    expect("asking a book for its room", a, BK_DONE);
+    printf("the book holds %lu points, and %lu of its %lu bytes are free\n", (unsigned long)a.second, (unsigned long)a.first,
+           (unsigned long)b->length);
+}
+
+static void add_file(route_book *b, uint32_t point, const pyramid_file *f) {
+    expect("adding to the book", bk_book_add(b->area, b->length, f->bytes, f->length, point), BK_DONE);
+}
+
+/* The file of a point that the book holds, where it stands. Its bytes are the area's: a withdrawal may move them. */
+static pyramid_file find_file(const route_book *b, uint32_t point) {
+    bk_answer found = bk_book_find(b->area, b->length, point);
+    pyramid_file f;
+    expect("finding a point", found, BK_DONE);
+    f.bytes = b->area + found.first;
+    f.length = (size_t)found.second;
+    return f;
+}
+
+/* Finds the file of a note's point, which the book holds, and reads the note's sample where the file stands. */
+static shown show_pinned(const route_book *b, const pinned *note, uint32_t level) {
+    pyramid_file f = find_file(b, note->point);
+    bk_head head = head_of(&f);
+    bk_sample sample = bk_pyramid_sample(f.bytes, f.length, head.width, note->point, note->sample);
+    bk_answer column = bk_note_column(head.samples, level, note->sample), span;
+    shown s;
+    expect("reading a sample in the book", sample.answer, BK_DONE);
+    expect("placing a pinned note", column, BK_DONE);
+    span = bk_note_span(head.samples, level, column.first);
+    expect("the span of a pinned note", span, BK_DONE);
+    s.value = sample.sample;
+    s.first = span.first;
+    s.last = span.second;
+    printf("point %lu, %s: sample %lu is %lld, in a column of samples %lu to %lu; the file is at byte %lu\n",
+           (unsigned long)note->point, note->text, (unsigned long)note->sample, (long long)s.value, (unsigned long)s.first,
+           (unsigned long)s.last, (unsigned long)(f.bytes - b->area));
+    return s;
+}
+
+/*
+ * Opens the file of a point where it stands in the book, whole and then a front of it. It is opened for the point that was asked
+ * for, not for that of its head, so that a file of another point would be refused.
+ */
+static void open_found(const route_book *b, uint32_t point, size_t front) {
+    pyramid_file f = find_file(b, point);
+    bk_head head = head_of(&f);
+    size_t bytes = (size_t)head.samples * head.width, lengths[2], i;
+    uint8_t *out = room(bytes), *work1 = room(bytes), *work2 = room(bytes);
+    lengths[0] = f.length;
+    lengths[1] = front;
+    for (i = 0; i < 2; i++) {
+        bk_answer a = bk_pyramid_open(f.bytes, lengths[i], head.width, point, out, bytes, work1, bytes, work2, bytes);
+        expect("opening a file in the book", a, BK_DONE);
+        printf("point %lu, the first %lu of %lu bytes: level %lu, %lu samples\n", (unsigned long)point, (unsigned long)lengths[i],
+               (unsigned long)f.length, (unsigned long)a.first, (unsigned long)a.second);
+    }
+    free(out);
+    free(work1);
+    free(work2);
 }
 
 /* Says a refusal that was provoked, and that it is the one that was meant. */
@@ -409,6 +507,67 @@ static void tour_refused_files(const recording *r, const pyramid_file *f) {
     free(longer);
 }
 
+/* Refusals of a book that has room for one file, and of the same with a byte changed in its directory. */
+static void tour_refused_books(const recording *r, const pyramid_file *f) {
+    route_book b;
+    b.length = BK_BOOK_EMPTY + f->length;
+    b.area = room(b.length);
+    provoked(BK_NO_ROOM, "a book in one byte less than an empty one has", bk_book_fresh(b.area, BK_BOOK_EMPTY - 1));
+    expect("making a book", bk_book_fresh(b.area, b.length), BK_DONE);
+    /* Only the first bytes of the area are lent, those of an empty book, so that it is a book without free room. */
+    provoked(BK_BOOK_FULL, "adding a file to a book without free room",
+             bk_book_add(b.area, BK_BOOK_EMPTY, f->bytes, f->length, r->point));
+    provoked(BK_CUT_SHORT, "adding a file without its last byte",
+             bk_book_add(b.area, b.length, f->bytes, f->length - 1, r->point));
+    add_file(&b, r->point, f);
+    provoked(BK_ALREADY_HELD, "adding it once more", bk_book_add(b.area, b.length, f->bytes, f->length, r->point));
+    provoked(BK_NOT_HELD, "finding the next point", bk_book_find(b.area, b.length, r->point + 1));
+    b.area[4]++;
+    provoked(BK_BAD_COUNT, "finding in a damaged book", bk_book_find(b.area, b.length, r->point));
+    free(b.area);
+}
+
+/* Files of points 13, 14 and 15 in a book, with a note each; 14 is withdrawn, 15 is opened, and 16 takes of the free room. */
+static void tour_book(const recording *r, const pyramid_file *f) {
+    static const pinned notes[] = {{"blades", 13, 310}, {"first knock", 14, 2600}, {"beat", 15, 9000}};
+    recording r13 = record("fan", 13, 2, 1200, fan);
+    pyramid_file f13 = keep(&r13);
+    shown before[3], after;
+    route_book b;
+    size_t i;
+    b.length = BK_BOOK_EMPTY + f13.length + f[0].length + f[1].length;
+    b.area = room(b.length);
+    expect("making a book", bk_book_fresh(b.area, b.length), BK_DONE);
+    add_file(&b, 13, &f13);
+    add_file(&b, r[0].point, &f[0]);
+    add_file(&b, r[1].point, &f[1]);
+    say_free(&b);
+    for (i = 0; i < 3; i++) before[i] = show_pinned(&b, &notes[i], 3);
+
+    printf("point 14 is withdrawn\n");
+    expect("withdrawing a point", bk_book_withdraw(b.area, b.length, 14), BK_DONE);
+    say_free(&b);
+    for (i = 0; i < 3; i++) {
+        if (notes[i].point == 14) {
+            provoked(BK_NOT_HELD, "finding point 14", bk_book_find(b.area, b.length, 14));
+            continue;
+        }
+        after = show_pinned(&b, &notes[i], 3);
+        if (after.value != before[i].value || after.first != before[i].first || after.last != before[i].last) {
+            printf("    the note at point %lu has changed\n", (unsigned long)notes[i].point);
+            exit(BAD_TURN);
+        }
+    }
+    open_found(&b, 15, 1000);
+
+    printf("point 16 is added\n");
+    add_file(&b, r[2].point, &f[2]);
+    say_free(&b);
+    free(r13.samples);
+    free(f13.bytes);
+    free(b.area);
+}
+
 static int tour(void) {
     static const uint64_t notes[] = {700, 2600, 5900};
     recording r[3];
@@ -438,9 +597,13 @@ static int tour(void) {
     tour_roughest(&f[0]);
     tour_zoom(&f[0], 2, notes[1]);
 
+    printf("\n== a route book\n");
+    tour_book(r, f);
+
     printf("\n== every refusal\n");
     tour_refused_transforms();
     tour_refused_files(&r[2], &f[2]);
+    tour_refused_books(&r[2], &f[2]);
     for (i = 0; i < 3; i++) {
         free(r[i].samples);
         free(f[i].bytes);

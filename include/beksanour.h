@@ -11,7 +11,8 @@
  * PKG_CONFIG_PATH, `cc examples/desk.c $(pkg-config --cflags --libs beksanour)` links the shared library, which a program finds
  * with PREFIX/lib in LD_LIBRARY_PATH; `cc examples/desk.c -IPREFIX/include PREFIX/lib/libbeksanour.a` links the static one.
  * Without an installation, `rt staticlib desk` writes the same library to target/staticlib/libdesk.a. examples/desk.c is a
- * program that uses the files, notes and windows. CHANGELOG.md says what a caller must change from one version to the next.
+ * program that uses the files, the route book, notes and windows. CHANGELOG.md says what a caller must change from one version to
+ * the next.
  *
  * The calls, in the order of this file; T is the kind of a sample, i8, i16, i32, f32 or f64 (9/7: f32 or f64):
  *   bk_refusal_name, bk_refusal_sentence           a refusal in words
@@ -27,6 +28,11 @@
  *   bk_pyramid_open                                what a file, or the front of one, still lets see
  *   bk_pyramid_sample                              one sample of it, with no room lent
  *   bk_pyramid_section                             where a section of a file stands
+ *   bk_book_fresh                                  an empty route book, for up to 64 files in one area
+ *   bk_book_add                                    a file into a book
+ *   bk_book_find                                   where the file of a point stands in it
+ *   bk_book_withdraw                               a file out of it, so that its room is free
+ *   bk_book_room                                   how much room is free in it, and how many points it holds
  *   bk_note_column                                 the column at which a sample shows
  *   bk_note_span, bk_note_detail_span              the samples that an approximation, or a detail, is made of
  *   bk_band_window_T                               where a part of a band stands
@@ -35,13 +41,15 @@
  *
  * Bytes or samples. A parameter whose name ends in _bytes is a length in bytes, and a width is a sample's size in bytes. n,
  * sample, place, start and count, as parameters, are numbers of samples; the sample of a bk_sample is its value. In an answer
- * bytes are: what bk_pyramid_size, bk_pyramid_section and bk_band_window_T give when done; the numbers of 10 and 12; the length
- * of 9 (0, length) and the count of section 0; and of 7 those of the file that is written. All other lengths and counts in an
- * answer are samples.
+ * bytes are: what bk_pyramid_size, bk_pyramid_section, bk_book_find and bk_band_window_T give when done, and the first number of
+ * bk_book_room, whose second counts points; the numbers of 10 and 12; the length of 9 (0, length) and the count of section 0; and
+ * of 7 those of the file that is written and those of a book. All other lengths and counts in an answer are samples.
  *
  * How much room. A slice may be lent with length 0 to ask. bk_pyramid_open with three empty areas answers 7 (0, count) for a
  * file that opens, and a write with an empty file answers 7 (0, size); nothing is changed. The same refusal comes for areas
- * that are merely too short.
+ * that are merely too short. A book does not tell so: its 7 always says 904, and 14 says no number. A book for given files needs
+ * 904 bytes and the sizes of the files; the first number of bk_book_room is the most bytes that an add may still take, while
+ * fewer than 64 points are held.
  *
  * A file whose width and point are not known. bk_pyramid_head reads them; hand them to bk_pyramid_open, which then refuses the
  * file only for what is wrong in it, or for the areas (7, 9). A head's width may be any byte, 0 too: bk_pyramid_open refuses it
@@ -66,6 +74,10 @@
  * against itself, what is asked and the counts: in a file that was cut a changed number of samples need not be found, and where
  * width and point are taken from the head, a changed width need not be found and a changed point never is. A bit that flipped
  * among the samples of a section is not found, and the file opens as other samples. Keep a checksum beside it where that matters.
+ * A book has none either. Every call but bk_book_fresh looks at its directory and its two counts, and refuses with 9 (0, 0) those
+ * that no calls could have left. Others pass: a point that became one that is not held, or two entries exchanged. The bytes of the
+ * files are not looked at. So open what was found for the point that you asked for, not for the point of its head: then a file of
+ * another point is refused with 11.
  *
  * Floats. The bits that the float calls promise hold while the processor rounds to nearest even and keeps subnormal numbers, as
  * it does unless told otherwise. A program that flushes subnormals to zero changes them; so does one that is linked with
@@ -83,7 +95,7 @@ extern "C" {
 
 /* The version of this header and of the library that is installed with it; CHANGELOG.md has what changed. */
 #define BK_VERSION_MAJOR 0
-#define BK_VERSION_MINOR 6
+#define BK_VERSION_MINOR 7
 #define BK_VERSION_PATCH 0
 
 /*
@@ -97,7 +109,7 @@ typedef struct bk_answer {
     uint64_t second;
 } bk_answer;
 
-/* The refusals, with their two numbers. 14 to 19 are kept for later versions. */
+/* The refusals, with their two numbers. 17 to 19 are kept for later versions. */
 enum {
     BK_DONE = 0,
     BK_MIN_FILTER_SIZE = 1,                /* the input is too short: its samples, the smallest input */
@@ -111,12 +123,16 @@ enum {
                                               a width that is not 1, 2 or 4: 0, or the file's, and the width */
     BK_BAD_COUNT = 9,                      /* a count is wrong: section, found;
                                               a byte length that is no whole number of samples: 0, the length;
-                                              a list of lengths that is not the details: 0, its sum */
-    BK_CUT_SHORT = 10,                     /* the file ends before section 1, or the one asked for, is whole:
-                                              its length, 0 */
+                                              a list of lengths that is not the details: 0, its sum;
+                                              a book that no calls could have left: 0, 0 */
+    BK_CUT_SHORT = 10,                     /* the file ends before section 1, or the one asked for, is whole; for
+                                              bk_book_add, before all its sections are: the file's length, 0 */
     BK_OTHER_POINT = 11,                   /* the file's point is not the one asked: the file's, asked */
     BK_TRAILING = 12,                      /* bytes after the last section: how many, 0 */
-    BK_NO_SUCH_PLACE = 13                  /* a place outside its range: the place, the limit */
+    BK_NO_SUCH_PLACE = 13,                 /* a place outside its range: the place, the limit */
+    BK_BOOK_FULL = 14,                     /* the book holds 64 points, or has too little free room */
+    BK_ALREADY_HELD = 15,                  /* the book holds a file of this point */
+    BK_NOT_HELD = 16                       /* the book holds no file of this point */
 };
 
 /* The name of an answer's number, as in the list above; of a number that is not in it "unknown". */
@@ -136,6 +152,9 @@ static inline const char *bk_refusal_name(uint32_t number) {
     case BK_OTHER_POINT: return "BK_OTHER_POINT";
     case BK_TRAILING: return "BK_TRAILING";
     case BK_NO_SUCH_PLACE: return "BK_NO_SUCH_PLACE";
+    case BK_BOOK_FULL: return "BK_BOOK_FULL";
+    case BK_ALREADY_HELD: return "BK_ALREADY_HELD";
+    case BK_NOT_HELD: return "BK_NOT_HELD";
     default: return "unknown";
     }
 }
@@ -152,11 +171,14 @@ static inline const char *bk_refusal_sentence(uint32_t number) {
     case BK_TOO_LONG: return "There are more samples, bytes or levels than the library takes.";
     case BK_NO_ROOM: return "An area that was lent is too short.";
     case BK_OTHER_WIDTH: return "The samples do not have the width that was asked for, or no such width exists.";
-    case BK_BAD_COUNT: return "A count, or the length of a slice, is not what it must be.";
+    case BK_BAD_COUNT: return "A count, the length of a slice or the directory of a book is not what it must be.";
     case BK_CUT_SHORT: return "The file ends before what is needed of it is whole.";
     case BK_OTHER_POINT: return "The file belongs to another measuring point.";
     case BK_TRAILING: return "The file has bytes after its last section.";
     case BK_NO_SUCH_PLACE: return "There is no such level, place or section.";
+    case BK_BOOK_FULL: return "The book holds 64 points, or has too little free room for the file.";
+    case BK_ALREADY_HELD: return "The book holds a file of this measuring point already.";
+    case BK_NOT_HELD: return "The book holds no file of this measuring point.";
     default: return "unknown";
     }
 }
@@ -530,6 +552,111 @@ bk_sample bk_pyramid_sample(const uint8_t *file, size_t file_bytes, uint32_t wid
  * may still be. 8 with two equal numbers as in bk_pyramid_open. 9 with 0 is section 0's count: there is no area here.
  */
 bk_answer bk_pyramid_section(const uint8_t *file, size_t file_bytes, uint32_t width, uint32_t point, uint32_t number);
+
+/*
+ * The route book: up to 64 whole pyramid files in one area, found by the number of their measuring point.
+ *
+ * bk_book_fresh makes an empty book of an area, bk_book_add copies a file into it, bk_book_find says where the file of a point
+ * stands, bk_book_withdraw takes one out and moves those behind it down, and bk_book_room says how much room is free. A point is
+ * found by its number alone, never by its place in a list. A withdrawal moves every file that was added after the withdrawn one,
+ * with the same bytes. So a place holds only until the next bk_book_withdraw or bk_book_fresh: keep the number and find it again.
+ * Do not test an old place by opening it: the bytes left there may open for a while. Adding moves nothing.
+ *
+ * The area is the book, and the library keeps nothing beside it. It needs no alignment, and may be copied, kept on a disk and lent
+ * again elsewhere. It may be lent longer than before, which is more free room, or shorter, as long as the files that it holds fit.
+ * A book that was cut further is refused, with 9 (0, 0) or 7: a file taken from a book may be cut as any file may, the book may
+ * not. Threads may find, ask for the room and read files at the same time. While one adds, withdraws or makes the book fresh, no
+ * other may use the area, nor a file that it found there.
+ *
+ * Layout, with numbers as in a file (docs/FORMAT.md has it with an example, byte by byte): in bytes 0 to 3 the count of entries,
+ * 64; from byte 4 on the entries, 14 bytes each: the first 14 bytes of the files that are held, in the order in which these were
+ * added, then zeros; in bytes 900 to 903 how many bytes all these files have, a u32; from byte 904 on the files, without gaps, in
+ * the order of the entries. What is behind them is free room: no call reads it, and only bk_book_add writes it. A withdrawal wipes
+ * nothing: the last bytes of the old data, as many as the withdrawn file had, stay behind the new data until a file is added over
+ * them. If it was the last file it stays there whole. The free room is the end of the area, as many bytes as the first number
+ * of bk_book_room: overwrite these where that matters, or keep on a disk only what is before them.
+ *
+ * Refused by every call, in this order, before what the call itself lists:
+ *   6               the area has over 4,294,967,295 bytes
+ *   7 (have, 904)   the area has under 904 bytes, which an empty book has
+ *   9 (0, 0)        not by bk_book_fresh: a directory or a count that no calls could have left. The first count is not 64; or of
+ *                   the entries before the first whose own first four bytes are 0, one is not what any file could begin with
+ *                   (count 10, width 1, 2 or 4, 3 to 16,777,216 samples, 1 level up to their depth), or two have the same
+ *                   point; or a byte of the other entries is not 0; or the second count is not the sum of the sizes that the
+ *                   entries tell; or the area is too short for these. The bytes of the files are not looked at
+ */
+
+/* The most points of a book, and the bytes of an empty one. */
+#define BK_BOOK_POINTS 64
+#define BK_BOOK_EMPTY 904
+
+/*
+ * Makes an empty book of `area`, whatever stood in it: its first 904 bytes are written, and the others are as they were. The files
+ * of a book that stood there are no longer found.
+ * Done: first and second are 0. Refused: 6 and 7, as above, and nothing else.
+ */
+bk_answer bk_book_fresh(uint8_t *area, size_t area_bytes);
+
+/*
+ * Copies the pyramid file in `file` into the book in `area`, behind the files that it holds, for `point`, which must be the file's
+ * own. Only a whole file is kept. It may have any of the three widths, and is opened for the one that it says. `file` and `area`
+ * must not overlap: a file cannot be added from where it stands in the same book, nor from its free room. A file of another book
+ * may be added, where the two areas do not overlap. Done: first and second are 0.
+ *
+ * Refused, in this order, after what every book call refuses:
+ *   6                    file: over 67,108,974 bytes
+ *   10 (length, 0)       file: under 14 bytes
+ *   9 (0, found)         the count of section 0 is not 10
+ *   8 (width, width)     the file's width is not 1, 2 or 4
+ *   1 (n, 3)             fewer than 3 samples
+ *   6                    over 16,777,216 samples
+ *   4                    0 levels, or more than the recording has
+ *   11 (file's, asked)   the file's point is not the one asked
+ *   10 (length, 0)       section by section: the file ends in its count
+ *   9 (section, found)   or its count is not the one that n and the levels give
+ *   10 (length, 0)       or the file ends in its samples
+ *   12 (left, 0)         bytes after the last section
+ *   15                   the book holds a file of this point. Before you withdraw it to keep this one: this one is whole, and
+ *                        fits in its place if its size is at most the free room and the size that bk_book_find says together
+ *   14                   the book holds 64 points, or the file has more bytes than the free room
+ * From 6 to 12 these are what bk_pyramid_open says of the file, asked for its own width, but that it is refused with 10 also where
+ * a part of it would open.
+ * Which one it is: 7 is always the area's, and 10 always the file's. 6 is the area's where area_bytes is over 4,294,967,295; else
+ * the file's where file_bytes is over 67,108,974; else the samples that its head says. 9 (0, 0) is the book's where bk_book_room
+ * answers the same; where bk_book_room is done, and for every other 9, it is the file's. 14 is the 64 points where bk_book_room
+ * says 64, else the free room.
+ */
+bk_answer bk_book_add(uint8_t *area, size_t area_bytes, const uint8_t *file, size_t file_bytes, uint32_t point);
+
+/*
+ * Where the file of `point` stands in the book in `area`. Nothing is copied: the caller reads its own area there, as in
+ * bk_pyramid_open(area + r.first, r.second, ..). A shorter front of it opens, or is refused with 10, as that of any file.
+ * Done: first is the place of its first byte, counted from the first byte of the area, second how many bytes it has; together they
+ * are at most area_bytes. Look at the number of the answer first: the two numbers of a 7 are no place. The file may start at an odd
+ * byte, so do not read its samples through a pointer to int16_t or int32_t.
+ *
+ * Refused, after what every book call refuses:
+ *   16   the book holds no file of this point
+ */
+bk_answer bk_book_find(const uint8_t *area, size_t area_bytes, uint32_t point);
+
+/*
+ * Takes the file of `point` out of the book in `area`. The files behind it are moved down, byte for byte and in their order, so
+ * that the free room grows by its size and is in one piece. Done: first and second are 0.
+ *
+ * Refused, after what every book call refuses:
+ *   16   the book holds no file of this point
+ */
+bk_answer bk_book_withdraw(uint8_t *area, size_t area_bytes, uint32_t point);
+
+/*
+ * How much room is free in the book in `area`, and how many points it holds. Done: first is the free room in bytes, which is
+ * area_bytes less 904 and less the sizes of the files that are held; second is the number of points, 0 to 64. A whole file whose
+ * point is not held can be added exactly where its size is at most first and second is under 64.
+ *
+ * Refused: what every book call refuses, and nothing else.
+ */
+bk_answer bk_book_room(const uint8_t *area, size_t area_bytes);
 
 /*
  * Where a note shows: a note stands at a sample, a drawn column at a coefficient, and the two kinds of number are never mixed.

@@ -1,8 +1,8 @@
 #!/usr/bin/env python3
 # The desk's calls compared with tests/reader.py, a reader and a writer made from docs/FORMAT.md, on whole, cut and damaged
-# files. Call: tests/format.py [--seed N]
-# First tests/desk/build. The first answer that differs ends the run. Lent slices are looked at by tests/pyramid.py, of
-# which only the talking to the server is used here.
+# files, and on books of them. Call: tests/format.py [--seed N]
+# First tests/desk/build. The first answer that differs ends the run. Lent slices other than a book's area are looked at by
+# tests/pyramid.py, of which only the talking to the server is used here.
 import argparse
 import os
 import random
@@ -33,7 +33,7 @@ class Ask(NamedTuple):
 
 class Tally:
     def __init__(self):
-        self.done = {"write": 0, "open": 0, "section": 0}
+        self.done = {"write": 0, "open": 0, "section": 0, "book": 0}
         self.refused = dict(self.done)
 
     def count(self, ask, answer):
@@ -41,11 +41,12 @@ class Tally:
             print("the desk differs from docs/FORMAT.md", ask.request, sep="\n  ")
             print("  wanted", *ask.wanted)
             sys.exit(f"  got    {answer}")
-        verb = ask.request.split(" ")[0].split("_")[1]
+        kind, verb = ask.request.split(" ")[0].split("_")[:2]
+        verb = "book" if kind == "book" else verb
         (self.done if ask.wanted[0] == "0" else self.refused)[verb] += 1
 
-    def told(self, verb):
-        return f"{self.done[verb] + self.refused[verb]} {verb}s ({self.refused[verb]} refused)"
+    def told(self, verb, what):
+        return f"{self.done[verb] + self.refused[verb]} {what} ({self.refused[verb]} refused)"
 
 
 def words(said, *slices):
@@ -78,6 +79,27 @@ def ask_all(data, width, point, levels):
     yield ask_open(data, width, point)
     for number in range(levels + 3):
         yield ask_section(data, width, point, number)
+
+
+# A book that is asked call by call, in the desk's area and in the reader's.
+class Book:
+    def __init__(self, area):
+        self.area = area
+
+    # A call of the book, as fresh, add, find, withdraw or room, and what the reader says of it.
+    def ask(self, name, *words_after):
+        said, after = getattr(reader, "book_" + name)(self.area, *words_after)
+        sent = ["x" + word.hex() if isinstance(word, bytes) else str(word) for word in (self.area, *words_after)]
+        self.area = after
+        lent = [after] if name in ("fresh", "add", "withdraw") else []
+        return Ask(" ".join(["book_" + name, *sent]), words(said, *lent))
+
+    # What a damaged area is refused for, or answers; it is put back.
+    def ask_all(self, file, point):
+        area = self.area
+        for name, *words_after in ("room",), ("find", point), ("withdraw", point), ("add", file, point), ("fresh",):
+            yield self.ask(name, *words_after)
+            self.area = area
 
 
 # ---- the files
@@ -117,10 +139,15 @@ def small_files(random):
 
 # ---- the parts of the test
 
+# A section of docs/FORMAT.md.
+def section_of(heading):
+    with open("docs/FORMAT.md", encoding="utf-8") as document:
+        return re.search(rf"^## {heading}\n(.*?)(?=^## |\Z)", document.read(), re.MULTILINE | re.DOTALL)[1]
+
+
 # The example of docs/FORMAT.md, as it stands there.
 def example(random):
-    with open("docs/FORMAT.md") as document:
-        rows = re.findall(r"^\| (`[^|]*)\|", document.read(), re.MULTILINE)
+    rows = re.findall(r"^\| (`[^|]*)\|", section_of("Example"), re.MULTILINE)
     data = bytes.fromhex("".join(rows).replace("`", ""))
     samples = [0, 3, -4, 1, 7]
     assert data == write(samples, 1, 2, 14) and reader.open_file(data, 1, 14) == (0, 0, 5, samples)
@@ -187,7 +214,69 @@ def noise(random):
                     yield ask_section(data, width, 7, levels + 1)
 
 
-PARTS = [example, written, too_deep, damaged, trailing, other_asked, noise]
+# The area that a table shows, a row for each part of it: its first byte, its bytes, of which one may stand for many.
+def area_in(table):
+    area = b""
+    for first, cell in re.findall(r"^\| (\d+) \| (`.*?) \|", table, re.MULTILINE):
+        assert int(first) == len(area), (first, len(area))
+        for data, times in re.findall(r"`([^`]*)`(?: (\d+) times)?", cell):
+            area += bytes.fromhex(data) * int(times or 1)
+    return area
+
+
+# The example of a book in docs/FORMAT.md, as it stands there: both areas, byte by byte, and the answers below them.
+def book_example(random):
+    text = section_of("Example of a book")
+    both, alone = (area_in(table) for table in text.split("Point 14 is withdrawn"))
+    answers = [re.findall(r"(\d+) \((\d+), (\d+)\)", row) for row in re.findall(r"^\| (?:find|how).*$", text, re.MULTILINE)]
+    answers = [[tuple(map(int, said)) for said in column] for column in zip(*answers)]
+    book = Book(b"\x5a" * len(both))
+    yield book.ask("fresh")
+    yield book.ask("add", write([0, 3, -4, 1, 7], 1, 2, 14), 14)
+    yield book.ask("add", write([7, 1, -4, 3, 0], 1, 2, 15), 15)
+    for area, said in (both, answers[0]), (alone, answers[1]):
+        assert len(area) == 1000 and book.area == area
+        assert [reader.book_find(area, 14)[0], reader.book_find(area, 15)[0], reader.book_room(area)[0]] == said
+        yield book.ask("find", 14)
+        yield book.ask("find", 15)
+        yield book.ask("room")
+        if area == both:
+            yield book.ask("withdraw", 14)
+
+
+def any_book_file(random, point):
+    width, n = random.choice(WIDTHS), random.randint(3, 20)
+    file = write(any_samples(random, width, n), width, random.randint(1, depth(n)), point)
+    cut = random.randrange(len(file))
+    return random.choice((file, file, file, file[:cut], file + b"\0", file[:cut] + b"\1" + file[cut + 1:]))
+
+
+# Drawn calls on small areas, with files that are whole, cut, longer or damaged.
+def books(random):
+    for _ in range(60):
+        book = Book(random.randbytes(random.choice((903, 904, 904 + random.randrange(400), 1500))))
+        points = random.sample((0, 14, 15, 16, 256, 2**31, LAST_U32), random.randint(1, 7))
+        yield book.ask("room")
+        yield book.ask("fresh")
+        for _ in range(40):
+            name, point = random.choice(("add", "add", "add", "find", "withdraw", "room")), random.choice(points)
+            file = any_book_file(random, point)
+            yield book.ask(name, *{"add": (file, point), "room": ()}.get(name, (point,)))
+
+
+# Each byte of a directory and of the two counts changed.
+def damaged_books(random):
+    book = Book(bytes(1100))
+    yield book.ask("fresh")
+    for point in 14, 15, 270:
+        yield book.ask("add", write(any_samples(random, 1, 5), 1, 2, point), point)
+    area, file = book.area, write(any_samples(random, 1, 4), 1, 1, 14)
+    for place in range(904):
+        for other in {area[place] ^ 1, random.randrange(256)} - {area[place]}:
+            yield from Book(area[:place] + bytes([other]) + area[place + 1:]).ask_all(file, 14)
+
+
+PARTS = [example, written, too_deep, damaged, trailing, other_asked, noise, book_example, books, damaged_books]
 
 
 def main():
@@ -197,7 +286,7 @@ def main():
     os.chdir(os.path.join(os.path.dirname(os.path.abspath(__file__)), ".."))
     source, tally = random.Random(asked.seed), Tally()
     compare((ask for part in PARTS for ask in part(source)), tally)
-    print(f"ok format: {tally.done['write']} files, {tally.told('open')}, {tally.told('section')}")
+    print(f"ok format: {tally.done['write']} files, {tally.told('open', 'opens')}, {tally.told('section', 'sections')}, {tally.told('book', 'calls of books')}")
 
 
 if __name__ == "__main__":

@@ -1,4 +1,4 @@
-# A reader and a writer of the pyramid file, written from docs/FORMAT.md alone. tests/format.py holds the desk to it.
+# A reader and a writer of the pyramid file and of the route book, written from docs/FORMAT.md alone. tests/format.py holds the desk to it.
 MOST_BYTES = 67_108_974
 MOST_SAMPLES = 16_777_216
 
@@ -176,3 +176,113 @@ def write(samples, width, levels, point):
         for v in part:
             out += v.to_bytes(width, "little", signed=True)
     return (0, 0, 0, bytes(out))
+
+
+# ---- the route book
+
+MOST_AREA = 4_294_967_295
+ENTRIES = 64
+DATA_AT = 904
+
+
+def in_use(area):
+    """The entries in use."""
+    entries = []
+    for i in range(ENTRIES):
+        entry = area[4 + 14 * i:18 + 14 * i]
+        if u32(entry, 0) == 0:
+            break
+        entries.append(entry)
+    return entries
+
+
+def size(entry):
+    return 14 + 4 * (entry[5] + 1) + entry[4] * u32(entry, 6)
+
+
+def point_of(entry):
+    return u32(entry, 10)
+
+
+def is_book(area):
+    if u32(area, 0) != ENTRIES:
+        return False
+    entries = in_use(area)
+    for entry in entries:
+        n = u32(entry, 6)
+        if u32(entry, 0) != 10 or entry[4] not in (1, 2, 4) or not 3 <= n <= MOST_SAMPLES or not 1 <= entry[5] <= depth(n):
+            return False
+    if len({point_of(entry) for entry in entries}) < len(entries):
+        return False
+    if any(area[4 + 14 * len(entries):900]):
+        return False
+    total = sum(map(size, entries))
+    return u32(area, 900) == total and DATA_AT + total <= len(area)
+
+
+def laid(entries, data, area):
+    """The area with these entries and this data, and behind them what it had."""
+    front = ENTRIES.to_bytes(4, "little") + b"".join(entries).ljust(14 * ENTRIES, b"\0") + len(data).to_bytes(4, "little") + data
+    return front + area[len(front):]
+
+
+def book_refusal(area, fresh=False):
+    if len(area) > MOST_AREA:
+        return (6, 0, 0)
+    if len(area) < DATA_AT:
+        return (7, len(area), DATA_AT)
+    return None if fresh or is_book(area) else (9, 0, 0)
+
+
+def book_fresh(area):
+    refusal = book_refusal(area, fresh=True)
+    return (refusal, area) if refusal else ((0, 0, 0), laid([], b"", area))
+
+
+def book_add(area, file, point):
+    refusal = book_refusal(area)
+    if refusal:
+        return refusal, area
+    number, level, other, _ = open_file(file, file[4] if len(file) >= 14 else 1, point)
+    if number:
+        return (number, level, other), area
+    if level > 0:
+        return (10, len(file), 0), area
+    entries = in_use(area)
+    if any(point_of(entry) == point for entry in entries):
+        return (15, 0, 0), area
+    total = sum(map(size, entries))
+    if len(entries) == ENTRIES or len(file) > len(area) - DATA_AT - total:
+        return (14, 0, 0), area
+    return (0, 0, 0), laid(entries + [file[:14]], area[DATA_AT:DATA_AT + total] + file, area)
+
+
+def book_find(area, point):
+    refusal = book_refusal(area)
+    if refusal:
+        return refusal, area
+    at = DATA_AT
+    for entry in in_use(area):
+        if point_of(entry) == point:
+            return (0, at, size(entry)), area
+        at += size(entry)
+    return (16, 0, 0), area
+
+
+def book_withdraw(area, point):
+    said, _ = book_find(area, point)
+    if said[0]:
+        return said, area
+    _, at, gone = said
+    entries = in_use(area)
+    end = DATA_AT + sum(map(size, entries))
+    kept = [entry for entry in entries if point_of(entry) != point]
+    return (0, 0, 0), laid(kept, area[DATA_AT:at] + area[at + gone:end], area)
+
+
+def book_room(area):
+    refusal = book_refusal(area)
+    if refusal:
+        return refusal, area
+    entries = in_use(area)
+    return (0, len(area) - DATA_AT - sum(map(size, entries)), len(entries)), area

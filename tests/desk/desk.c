@@ -105,6 +105,27 @@ static bk_answer call_wnw(function f, const struct arg *a) {
     return ((bk_answer(*)(uint32_t, uint64_t, uint32_t))f)((uint32_t)a[0].number, a[1].number, (uint32_t)a[2].number);
 }
 
+static bk_answer call_m(function f, const struct arg *a) {
+    return ((bk_answer(*)(uint8_t *, size_t))f)(a[0].bytes, a[0].count);
+}
+
+static bk_answer call_mrw(function f, const struct arg *a) {
+    return ((bk_answer(*)(uint8_t *, size_t, const uint8_t *, size_t, uint32_t))f)(a[0].bytes, a[0].count, a[1].bytes,
+                                                                                   a[1].count, (uint32_t)a[2].number);
+}
+
+static bk_answer call_mw(function f, const struct arg *a) {
+    return ((bk_answer(*)(uint8_t *, size_t, uint32_t))f)(a[0].bytes, a[0].count, (uint32_t)a[1].number);
+}
+
+static bk_answer call_rw(function f, const struct arg *a) {
+    return ((bk_answer(*)(const uint8_t *, size_t, uint32_t))f)(a[0].bytes, a[0].count, (uint32_t)a[1].number);
+}
+
+static bk_answer call_area(function f, const struct arg *a) {
+    return ((bk_answer(*)(const uint8_t *, size_t))f)(a[0].bytes, a[0].count);
+}
+
 // What the last call returned beside its answer.
 static int64_t fields[5];
 static size_t fields_used;
@@ -139,6 +160,11 @@ static const struct shape shape_rwww = {"rwww", call_rwww};
 static const struct shape shape_nwn = {"nwn", call_nwn};
 static const struct shape shape_rrwnn = {"rrwnn", call_rrwnn};
 static const struct shape shape_wnw = {"wnw", call_wnw};
+static const struct shape shape_m = {"m", call_m};
+static const struct shape shape_mrw = {"mrw", call_mrw};
+static const struct shape shape_mw = {"mw", call_mw};
+static const struct shape shape_rw = {"rw", call_rw};
+static const struct shape shape_area = {"r", call_area};
 static const struct shape shape_r = {"r", call_r};
 static const struct shape shape_rwwn = {"rwwn", call_rwwn};
 
@@ -192,6 +218,11 @@ static const struct row {
     {"pyramid_open", &shape_rwwmmm, (function)bk_pyramid_open},
     {"pyramid_sample", &shape_rwwn, (function)bk_pyramid_sample},
     {"pyramid_section", &shape_rwww, (function)bk_pyramid_section},
+    {"book_fresh", &shape_m, (function)bk_book_fresh},
+    {"book_add", &shape_mrw, (function)bk_book_add},
+    {"book_find", &shape_rw, (function)bk_book_find},
+    {"book_withdraw", &shape_mw, (function)bk_book_withdraw},
+    {"book_room", &shape_area, (function)bk_book_room},
     {"note_column", &shape_nwn, (function)bk_note_column},
     {"note_span", &shape_nwn, (function)bk_note_span},
     {"note_detail_span", &shape_nwn, (function)bk_note_detail_span},

@@ -1,11 +1,11 @@
--- Document 01, "Numbers of refusal": the number and the two values that each case gives to the desk. A reader holds this against the table.
+-- Document 01, "Numbers of refusal", and from 14 on document 02: the number and the two values that each case gives to the desk. A reader holds this against the table.
 use mathlib.Core.Bool.{Bool}
 use mathlib.Core.List.{List, [], _∷_}
 use Prim.Native.Nat.{ℕ}
 use lib.Dec.{eqb}
 use lib.ListN.{getD}
 use Rattle.answers.specs.declared.err.Refusal.{Refusal}
-use Rattle.answers.specs.declared.err.Refusal.the-variants.{Done, MinFilterSize, ApproxSizeNotMatches, OutputSizeIsNotValid, BufferWasTooSmallForLevel, ZeroedBaseSize, TooLong, NoRoom, OtherWidth, BadCount, CutShort, OtherPoint, Trailing, NoSuchPlace}
+use Rattle.answers.specs.declared.err.Refusal.the-variants.{Done, MinFilterSize, ApproxSizeNotMatches, OutputSizeIsNotValid, BufferWasTooSmallForLevel, ZeroedBaseSize, TooLong, NoRoom, OtherWidth, BadCount, CutShort, OtherPoint, Trailing, NoSuchPlace, BookFull, AlreadyHeld, NotHeld}
 use Rattle.answers.specs.declared.err.Answer.{Answer}
 
 abbrev pub say : ℕ → ℕ → ℕ → Answer
@@ -27,12 +27,16 @@ answerOf (CutShort a) = say 10 a 0
 answerOf (OtherPoint a b) = say 11 a b
 answerOf (Trailing a) = say 12 a 0
 answerOf (NoSuchPlace a b) = say 13 a b
+answerOf BookFull = say 14 0 0
+answerOf AlreadyHeld = say 15 0 0
+answerOf NotHeld = say 16 0 0
 
 -- the cases in the order of their numbers, with the values a and b where a case carries them
 abbrev pub cases : ℕ → ℕ → List Refusal
 cases a b =
     Done a b ∷ MinFilterSize a b ∷ ApproxSizeNotMatches a b ∷ OutputSizeIsNotValid a b ∷ BufferWasTooSmallForLevel ∷ ZeroedBaseSize ∷ TooLong
-    ∷ NoRoom a b ∷ OtherWidth a b ∷ BadCount a b ∷ CutShort a ∷ OtherPoint a b ∷ Trailing a ∷ NoSuchPlace a b ∷ []
+    ∷ NoRoom a b ∷ OtherWidth a b ∷ BadCount a b ∷ CutShort a ∷ OtherPoint a b ∷ Trailing a ∷ NoSuchPlace a b
+    ∷ BookFull ∷ AlreadyHeld ∷ NotHeld ∷ []
 
 -- the case that three numbers tell
 abbrev pub refusalOf : Answer → Refusal

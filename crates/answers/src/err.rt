@@ -2,7 +2,7 @@
 ghost use mathlib.Core.Path.{_≡_};
 ghost use Rattle.answers.specs.Answers.{say, answerOf, done};
 
-// What a call has to say, with the values that document 01's table names.
+// What a call has to say, with the values that document 01's table names; from 14 on document 02 has the numbers.
 pub enum Refusal {
     Done(usize, usize),
     MinFilterSize(usize, usize),
@@ -18,6 +18,9 @@ pub enum Refusal {
     OtherPoint(usize, usize),
     Trailing(usize),
     NoSuchPlace(usize, usize),
+    BookFull,
+    AlreadyHeld,
+    NotHeld,
 }
 
 // The three numbers that the desk reads.
@@ -57,6 +60,9 @@ pub fn numbers(r: Refusal) -> Answer
         Refusal::OtherPoint(a, b) => tell(11, a, b),
         Refusal::Trailing(a) => tell(12, a, 0),
         Refusal::NoSuchPlace(a, b) => tell(13, a, b),
+        Refusal::BookFull => tell(14, 0, 0),
+        Refusal::AlreadyHeld => tell(15, 0, 0),
+        Refusal::NotHeld => tell(16, 0, 0),
     }
 }
 

@@ -1,6 +1,7 @@
 pub mod Sized
 pub mod CutWalk
 pub mod Restored
+pub mod SectionsBack
 pub mod Filed
 pub mod WrittenHead
 pub mod Whole

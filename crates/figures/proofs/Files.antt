@@ -28,7 +28,7 @@ file : fileOf Cdf53I8 2 14 five ≡ thirtyOne
 unfolding fileOf bodyOf leAt leBytes tabulate wordAt wordsOf bytesOf val residue wrap decode encode detail details approx approxs low high
 file = refl
 
-five-bytes : (i : ℕ) → getD five i 0 < 256
+pub five-bytes : (i : ℕ) → getD five i 0 < 256
 five-bytes zero = omega arith
 five-bytes (suc zero) = omega arith
 five-bytes (suc (suc zero)) = omega arith

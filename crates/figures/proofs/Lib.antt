@@ -3,3 +3,4 @@ pub mod Table
 pub mod Fused
 pub mod Done
 pub mod ShutOut
+pub mod Book

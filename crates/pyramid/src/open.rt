@@ -89,7 +89,7 @@ pub fn check_start(s: &[u8]) -> Refusal
 }
 
 // What section 0 says against what is asked: the width, the samples and levels, the point.
-fn check_fields(h: Head, w: usize, p: usize) -> Refusal
+pub fn check_fields(h: Head, w: usize, p: usize) -> Refusal
     ensures { λ r. ⌜ r ≡ firstOf (fieldChecks h w p) (Refusal.Done 0 0) ⌝ }
 {
     if h.width != w {

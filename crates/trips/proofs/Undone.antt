@@ -59,7 +59,7 @@ undoes = each-width Undoing undoes-width
 
 -- ---- parts of bytes are bytes
 
-bytes-take : (n : ℕ) (s : List ℕ) → Bytes s → Bytes (take n s)
+pub bytes-take : (n : ℕ) (s : List ℕ) → Bytes s → Bytes (take n s)
 bytes-take n s b = record { byte = λ i. ⊎-elim (within i) (past i) (lt-or-le i n) }
   where
     within : (i : ℕ) → i < n → getD (take n s) i 0 < 256
@@ -68,7 +68,7 @@ bytes-take n s b = record { byte = λ i. ⊎-elim (within i) (past i) (lt-or-le 
     past : (i : ℕ) → n ≤ i → getD (take n s) i 0 < 256
     past i h = let e : length (take n s) ≤ i = rw (length-take n s) (omega arith) in rw (List·getD-eq-default (take n s) 0 e) (omega arith)
 
-bytes-drop : (n : ℕ) (s : List ℕ) → Bytes s → Bytes (drop n s)
+pub bytes-drop : (n : ℕ) (s : List ℕ) → Bytes s → Bytes (drop n s)
 bytes-drop n s b = record { byte = λ i. rw (getD-drop n s i 0) (b .byte (n + i)) }
 
 -- ---- many levels

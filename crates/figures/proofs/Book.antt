@@ -1,0 +1,39 @@
+-- The day with the book is as its table says: by the laws of every book, on the plain map.
+use mathlib.Core.List.{[]}
+use mathlib.Core.Path.{_≡_, refl, ap, _∙_}
+use Prim.Native.Nat.{ℕ, _-_}
+use native.Mathlib.Omega.{arith}
+use lib.ListN.{length}
+use Rattle.sizes.specs.Levels.{depthWithin, depthFrom, afterLevels}
+use Rattle.samples.specs.Le.{leAt, leBytes, Bytes}
+use Rattle.samples.specs.Words.{tabulate, wordAt, wordsOf, bytesOf}
+use Rattle.samples.specs.Integers.{val, residue, wrap, decode, encode}
+use Rattle.cdf53i.specs.Lift.{detail, details, approx, approxs}
+use Rattle.cdf53i.specs.Bands.{low, high}
+use Rattle.dwt.specs.declared.filter.Filter.the-variants.{Cdf53I8}
+use Rattle.trips.proofs.Undone.{bytes-take}
+use Rattle.pyramid.specs.Files.{bodyOf, fileOf}
+use Rattle.pyramid.specs.Walks.{oneOf, walkOf}
+use Rattle.pyramid.specs.Opens.{ownWidth}
+use Rattle.book.specs.Books.{dataAt}
+use Rattle.route.specs.Maps.{AllLent, has, fileFor, mapTotal, bytesBefore, removed, mapAnswers}
+use Rattle.route.proofs.FileBytes.{file-bytes}
+use Rattle.route.proofs.IsMap.{is-map}
+use Rattle.figures.specs.Worked.{five}
+use Rattle.figures.specs.Book.{fileAt, day, asked, answered, Day}
+use Rattle.figures.proofs.Files.{five-bytes}
+
+lent : AllLent (asked day)
+unfolding AllLent asked
+lent =
+    let at : (p : ℕ) → Bytes (fileAt p) = λ p. file-bytes Cdf53I8 tt 2 p five (record { byte = five-bytes }) in
+    (at 14, (at 15, (tt, (at 15, (at 16, (tt, (tt, (tt, (tt, (tt, (at 15, (bytes-take 30 (fileAt 16) (at 16), (at 16, (tt, tt))))))))))))))
+
+on-map : mapAnswers 62 [] (asked day) ≡ answered day
+unfolding asked answered mapAnswers has fileFor mapTotal bytesBefore removed fileOf bodyOf oneOf walkOf ownWidth afterLevels depthFrom depthWithin leAt leBytes tabulate wordAt wordsOf bytesOf val residue wrap decode encode detail details approx approxs low high
+on-map = refl
+
+pub a-day : Day
+a-day b b₀ b′ r rs h e f ran =
+    let n : length b - dataAt ≡ 62 = omega (arith, e) in
+    is-map b h (omega (arith, e)) (omega (arith, e)) r b₀ f (asked day) lent rs b′ ran .1 ∙ ap (λ (m : ℕ). mapAnswers m [] (asked day)) n ∙ on-map

@@ -1,0 +1,122 @@
+-- A file that adding takes is the file of its own samples, whoever wrote it: writing the samples that it opens as gives every byte of it.
+use mathlib.Core.Bool.{true}
+use mathlib.Core.List.{List, [], _∷_, _++_}
+use mathlib.Core.Path.{_≡_, refl, sym, ap, ap₂, subst, _∙_}
+use Prim.Native.Nat.{ℕ, _-_, _^_, _≤_, _<_}
+use native.Mathlib.Omega.{arith}
+use borrow.Author.Tests.{ltb-false, eqb-false, not-false}
+use lib.Dec.{ltb}
+use lib.ListN.{length, drop, length-drop}
+use lib.Seq.{take-all}
+use Rattle.answers.specs.declared.err.Refusal.the-variants.{CutShort}
+use Rattle.answers.proofs.Passed.{Passing, both-pass, roomy, right}
+use Rattle.sizes.specs.declared.Wavelet.the-variants.{Cdf53}
+use Rattle.sizes.specs.Lengths.{mostSamples}
+use Rattle.sizes.specs.Levels.{afterLevels, countAt, depthOf}
+use Rattle.samples.specs.Le.{leAt, Bytes}
+use Rattle.samples.proofs.LeLaws.{leAt-lt}
+use Rattle.samples.specs.Integers.{isWidth}
+use Rattle.dwt.specs.declared.filter.Filter.{Filter}
+use Rattle.dwt.specs.Filters.{widthOf}
+use Rattle.dwt.proofs.Integers.{own-depth}
+use Rattle.pyramid.specs.declared.walk.Way.{Way}
+use Rattle.pyramid.specs.declared.walk.Way.the-variants.{Went}
+use Rattle.pyramid.specs.Files.{headCount, headOf, headSize, bodyOf, bodySize, fileOf}
+use Rattle.pyramid.specs.Walks.{walkOf, restoredAt}
+use Rattle.pyramid.specs.Opens.{filterOf, headIn, startChecks, fieldChecks, headChecks, wayIn, wayChecks, fileChecks, wholeDetails, levelIn, samplesIn, ownWidth}
+use Rattle.pyramid.proofs.Ways.{walk-size}
+use Rattle.pyramid.proofs.Opening.{filter-width, filter-integers, start-passes}
+use Rattle.pyramid.proofs.Writing.{file-parts}
+use Rattle.cuts.proofs.SectionsBack.{Sections, sections-back}
+use Rattle.cuts.proofs.Filed.{Recording, Filed}
+use Rattle.cuts.proofs.WrittenHead.{filed}
+use Rattle.book.specs.Calls.{wholeChecks}
+use Rattle.route.proofs.WholeFile.{head-back, whole-went}
+
+module _ (s : List ℕ) (p : ℕ) (bs : Bytes s) (c : Passing (wholeChecks s p)) where
+  abbrev w : ℕ
+  w = headIn s .width
+
+  abbrev l : ℕ
+  l = headIn s .levels
+
+  abbrev n : ℕ
+  n = headIn s .samples
+
+  abbrev f : Filter
+  f = filterOf w
+
+  -- what the checks have passed: of the file, of section 0 and the walk, and of the fields
+  file : Passing (fileChecks s (ownWidth s) p) × Passing ((ltb 0 (levelIn s), CutShort (length s)) ∷ [])
+  file = both-pass (fileChecks s (ownWidth s) p) ((ltb 0 (levelIn s), CutShort (length s)) ∷ []) c
+
+  parts : Passing (headChecks s (ownWidth s) p) × Passing (wayChecks (wayIn s (headIn s)) (length s))
+  parts = both-pass (headChecks s (ownWidth s) p) (wayChecks (wayIn s (headIn s)) (length s)) (file .0)
+
+  head : Passing (startChecks s) × Passing (fieldChecks (headIn s) (ownWidth s) p)
+  head = both-pass (startChecks s) (fieldChecks (headIn s) (ownWidth s) p) (parts .0)
+
+  -- so section 0 is there, for a width that a filter has, for point p, and for levels that run
+  there : headSize ≤ length s
+  there = start-passes s (head .0)
+
+  width : widthOf f ≡ w
+  width = filter-width w (subst (λ (k : ℕ). isWidth k ≡ true) (sym (right w (ownWidth s) (head .1 .0))) (not-false (isWidth (ownWidth s)) (head .1 .1 .0)))
+
+  point : headIn s .point ≡ p
+  point = right (headIn s .point) p (head .1 .1 .1 .1 .1 .1 .1 .0)
+
+  deep : l ≤ depthOf Cdf53 n
+  deep = roomy (depthOf Cdf53 n) l (head .1 .1 .1 .1 .1 .1 .0)
+
+  -- the walk goes to the end
+  way : wayIn s (headIn s) ≡ Went (length s)
+  way = whole-went s w l n headSize (wayIn s (headIn s)) refl there (parts .1) (ltb-false 0 (levelIn s) (file .1 .0))
+
+  walk : walkOf s (widthOf f) l n headSize ≡ Went (length s)
+  walk = ap (λ (k : ℕ). walkOf s k l n headSize) width ∙ way
+
+  -- so its samples are what all levels restore
+  restored : restoredAt (widthOf f) s l n headSize ≡ samplesIn s
+  unfolding samplesIn afterLevels
+  restored =
+      let none : l - l ≡ 0 = omega arith in
+      ap (λ (k : ℕ). restoredAt k s l n headSize) width
+      ∙ ap (λ (j : ℕ). restoredAt w s l (countAt j n) headSize) (sym none)
+      ∙ ap (λ (v : Way). restoredAt w s (wholeDetails v l) (countAt (l - wholeDetails v l) n) headSize) (sym way)
+
+  -- and the sections are those of what they restore
+  sections : Sections f s l n headSize
+  sections = sections-back f (filter-integers w) s bs l n headSize (length s) there (own-depth f (filter-integers w) l n deep) walk
+
+  -- its samples can be recorded
+  pub whole-recording : Recording f l n p (samplesIn s)
+  whole-recording = record {
+    integers = filter-integers w;
+    bytes = subst Bytes restored (sections .bytes);
+    size = ap length (sym restored) ∙ sections .size;
+    least = roomy n 3 (head .1 .1 .1 .0);
+    most = roomy mostSamples n (head .1 .1 .1 .1 .0);
+    some = omega (arith, eqb-false l 0 (head .1 .1 .1 .1 .1 .0));
+    deep = deep;
+    point = subst (λ (q : ℕ). q < 2 ^ 32) point (leAt-lt s bs 4 10);
+  }
+
+  -- nothing stands behind the sections
+  body : drop headSize s ≡ bodyOf f l n (samplesIn s)
+  body =
+      let size = walk-size l s (widthOf f) n headSize (length s) there walk in
+      sym (take-all (bodySize (widthOf f) l n) (drop headSize s) (omega (arith, length-drop headSize s, size .0)))
+      ∙ sections .body ∙ ap (bodyOf f l n) restored
+
+  -- a whole file is the file of its own samples
+  pub whole-written : s ≡ fileOf f l p (samplesIn s)
+  whole-written =
+      sym (head-back s bs there (right (leAt 4 s 0) headCount (head .0 .1 .1 .0)))
+      ∙ ap₂ (λ (k q : ℕ). headOf k l n q ++ drop headSize s) (sym width) point
+      ∙ ap (λ (t : List ℕ). headOf (widthOf f) l n p ++ t) body
+      ∙ sym (file-parts f l p n (samplesIn s) (whole-recording .size))
+
+  -- so what is proved of written files holds of it
+  pub whole-filed : Filed headSize f l n p (samplesIn s) s
+  whole-filed = subst (Filed headSize f l n p (samplesIn s)) (sym whole-written) (filed whole-recording)
