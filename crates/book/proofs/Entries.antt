@@ -10,7 +10,7 @@ use lib.ListN.{length, drop, getD, length-drop}
 use lib.Seq.{drop-cons, length-take-le, drop-length}
 use Rattle.samples.specs.Le.{leAt}
 use Rattle.samples.proofs.LeLaws.{leAt-take, leAt-drop}
-use Rattle.book.specs.Books.{most, entrySize, entryStart, dataAt, pointBy, sizeBy, entryAt, isUsed, usedFrom, entriesIn, totalBy, slotOf, placeAt, sizeAt, isOnly, areEntries}
+use Rattle.book.specs.Books.{most, entrySize, entryStart, dataAt, pointBy, sizeBy, entryAt, isUsed, usedFrom, entriesIn, totalBy, totalIn, slotOf, placeAt, sizeAt, isOnly, areEntries}
 
 -- ---- which entries
 
@@ -90,10 +90,14 @@ place-next [] j h = absurd (omega arith)
 place-next (e ∷ es) zero h = omega arith
 place-next (e ∷ es) (suc j) h = omega (arith, place-next es j (omega arith))
 
-pub place-all : (es : List (List ℕ)) → placeAt (length es) es ≡ totalBy es
+place-all : (es : List (List ℕ)) → placeAt (length es) es ≡ totalBy es
 unfolding totalBy
 place-all [] = refl
 place-all (e ∷ es) = ap (λ (n : ℕ). sizeBy e + n) (place-all es)
+
+-- counted over all that are held, it is the data
+pub total-is : (b : List ℕ) (h : ℕ) {t : ℕ} → h ≡ length (entriesIn b) → t ≡ placeAt h (entriesIn b) → t ≡ totalIn b
+total-is b h eh et = et ∙ ap (λ (n : ℕ). placeAt n (entriesIn b)) eh ∙ place-all (entriesIn b)
 
 pub place-most : (j : ℕ) (es : List (List ℕ)) → placeAt j es ≤ totalBy es
 unfolding totalBy

@@ -1,15 +1,15 @@
 -- `enter` meets its contract: the file, the count and the entry, in a book that has room for them.
 use borrow.Author.Needs.{needs}
 use mathlib.Core.List.{List}
-use mathlib.Core.Path.{_≡_, ap, _∙_}
+use mathlib.Core.Path.{_≡_}
 use Prim.Native.Nat.{ℕ, _+_, _≤_}
 use native.Mathlib.Omega.{arith}
 use lib.ListN.{length}
 use lib.Seq.{length-take-le}
 use Rattle.samples.specs.Le.{Bytes}
-use Rattle.book.specs.Books.{entrySize, dataAt, entriesIn, totalIn, placeAt}
+use Rattle.book.specs.Books.{entrySize, dataAt, totalIn}
 use Rattle.book.specs.Calls.{Addable}
-use Rattle.book.proofs.Entries.{place-all}
+use Rattle.book.proofs.Entries.{total-is}
 use Rattle.book.proofs.Laid.{checked}
 use Rattle.book.proofs.Changed.{added-is}
 use Rattle.book.proofs.calls.enter.Statement.{statement}
@@ -17,9 +17,7 @@ use Rattle.book.proofs.calls.enter.Tie as tie
 
 -- the bytes in use, and that the file fits behind them
 total : (c : tie.After-total-of) → c .total-of .result ≡ totalIn (c .before .before .before .before .before .before .args .b .now)
-total c =
-    let es = entriesIn (c .before .before .before .before .before .before .args .b .now) in
-    c .total-of .ensures .0 ∙ ap (λ (n : ℕ). placeAt n es) (c .before .before .held .ensures) ∙ place-all es
+total c = let k = c .before .before .held in total-is (c .before .before .before .before .before .before .args .b .now) (k .result) (k .ensures) (c .total-of .ensures .0)
 
 fits : (b s : List ℕ) → Addable b s → dataAt + totalIn b + length s ≤ length b
 fits b s r = omega (arith, r .room, checked b (r .book .could) .within)

@@ -8,9 +8,9 @@ use lib.ListN.{length}
 use Rattle.answers.specs.declared.err.Refusal.the-variants.{Done}
 use Rattle.answers.specs.Answers.{answerOf, done}
 use Rattle.answers.proofs.Passed.{Passing, passing, through, other-end}
-use Rattle.book.specs.Books.{dataAt, entriesIn, totalIn, placeAt}
+use Rattle.book.specs.Books.{dataAt, totalIn}
 use Rattle.book.specs.Calls.{Book, bookChecks, sayRoom}
-use Rattle.book.proofs.Entries.{place-all}
+use Rattle.book.proofs.Entries.{total-is}
 use Rattle.book.proofs.Laid.{checked}
 use Rattle.book.proofs.Passed.{book-refuses, book-passes}
 use Rattle.book.proofs.calls.room.Statement.{statement}
@@ -33,9 +33,7 @@ book : (c : tie.Else1) → Book (c .before .before .before .before .args .b .now
 book c = book-passes (c .before .before .before .before .args .b .now) (passes c)
 
 total : (c : tie.After-total-of) → c .total-of .result ≡ totalIn (c .before .before .before .before .before .before .args .b .now)
-total c =
-    let es = entriesIn (c .before .before .before .before .before .before .args .b .now) in
-    c .total-of .ensures .0 ∙ ap (λ (n : ℕ). placeAt n es) (c .before .held .ensures) ∙ place-all es
+total c = let k = c .before .held in total-is (c .before .before .before .before .before .before .args .b .now) (k .result) (k .ensures) (c .total-of .ensures .0)
 
 returns-2 : tie.Need-returns-2
 unfolding sayRoom

@@ -1,12 +1,12 @@
 -- `take_out` meets its contract: the file and the entry closed up, the count and the last entry.
 use borrow.Author.Needs.{needs}
 use mathlib.Core.Path.{_≡_, sym, ap, _∙_}
-use Prim.Native.Nat.{ℕ, suc, _+_, _≤_, _<_}
+use Prim.Native.Nat.{suc, _+_, _≤_, _<_}
 use native.Mathlib.Omega.{arith}
 use lib.ListN.{length}
 use Rattle.samples.specs.Le.{Bytes}
-use Rattle.book.specs.Books.{dataAt, sizeBy, entriesIn, totalIn, slotOf, placeAt, sizeAt}
-use Rattle.book.proofs.Entries.{entries-few, entry-is, place-next, place-most, place-all}
+use Rattle.book.specs.Books.{dataAt, sizeBy, entriesIn, totalIn, slotOf, sizeAt}
+use Rattle.book.proofs.Entries.{entries-few, entry-is, place-next, place-most, total-is}
 use Rattle.book.proofs.Laid.{checked}
 use Rattle.book.proofs.Passed.{held-below}
 use Rattle.book.proofs.Changed.{withdrawn-is}
@@ -31,9 +31,7 @@ size c =
     c .size-at .ensures .0 ∙ ap sizeBy (sym (entry-is (k .before .before .before .before .before .args .b .now) (k .slot-of .result) (below k)))
 
 total : (c : tie.After-total-of2) → c .total-of2 .result ≡ totalIn (c .before .before .before .before .before .before .before .before .before .before .before .args .b .now)
-total c =
-    let es = entriesIn (c .before .before .before .before .before .before .before .before .before .before .before .args .b .now) in
-    c .total-of2 .ensures .0 ∙ ap (λ (n : ℕ). placeAt n es) (c .before .before .before .before .before .before .before .before .held .ensures) ∙ place-all es
+total c = let k = c .before .before .before .before .before .before .before .before .held in total-is (c .before .before .before .before .before .before .before .before .before .before .before .args .b .now) (k .result) (k .ensures) (c .total-of2 .ensures .0)
 
 -- the file lies within the data, and the data within the area
 within : (c : tie.After-total-of2) → c .before .before .before .before .total-of .result + c .before .before .size-at .result ≤ c .total-of2 .result

@@ -1,12 +1,18 @@
 -- `check_room` meets its contract: the point, the entries and the free room.
 use borrow.Author.Tests.{lt-ltb, le-ltb, lt-leb, le-leb}
-use mathlib.Core.Path.{_≡_, refl, ap, _∙_}
-use Prim.Native.Nat.{ℕ, _≤_}
+use mathlib.Core.List.{[], _∷_}
+use mathlib.Core.Path.{_≡_, refl}
+use Prim.Native.Nat.{_≤_}
 use native.Mathlib.Omega.{arith}
+use lib.Dec.{ltb}
 use lib.ListN.{length}
+use Rattle.answers.specs.declared.err.Refusal.{Refusal}
+use Rattle.answers.specs.declared.err.Refusal.the-variants.{Done, BookFull}
+use Rattle.answers.specs.Checks.{firstOf}
 use Rattle.answers.proofs.Chain.{by, stop}
-use Rattle.book.specs.Books.{most, entriesIn, totalIn, freeIn, slotOf, placeAt}
-use Rattle.book.proofs.Entries.{place-all}
+use Rattle.book.specs.Books.{most, entriesIn, totalIn, freeIn, slotOf}
+use Rattle.book.specs.Calls.{roomChecks}
+use Rattle.book.proofs.Entries.{total-is}
 use Rattle.book.proofs.Laid.{checked}
 use Rattle.book.proofs.checks.check_room.Statement.{statement}
 use Rattle.book.proofs.checks.check_room.Tie as tie
@@ -31,27 +37,23 @@ returns-2 c =
 
 -- the total of all entries
 total : (c : tie.After-total-of) → c .total-of .result ≡ totalIn (c .before .before .before .before .before .before .args .b .now)
-total c =
-    let es = entriesIn (c .before .before .before .before .before .before .args .b .now) in
-    c .total-of .ensures .0 ∙ ap (λ (n : ℕ). placeAt n es) (c .before .before .before .before .held .ensures) ∙ place-all es
+total c = let k = c .before .before .before .before .held in total-is (c .before .before .before .before .before .before .args .b .now) (k .result) (k .ensures) (c .total-of .ensures .0)
+
+-- past the entries
+past2 : (c : tie.Else2) {z : Refusal} → let a = c .before .before .before .before .before .args in z ≡ firstOf ((ltb (freeIn (a .b .now)) (a .n), BookFull) ∷ []) (Done 0 0) → z ≡ firstOf (roomChecks (a .b .now) (a .p) (a .n)) (Done 0 0)
+past2 c q =
+    let es = entriesIn (c .before .before .before .before .before .args .b .now) in
+    by _ (le-ltb _ (length es) (past1 (c .before))) (by _ (lt-leb most (length es) (omega (arith, c .before .before .before .held .ensures, c .if2 .left))) q)
 
 returns-3 : tie.Need-returns-3
 returns-3 c =
-    let st = c .before .before .before .before .before .before .before in
-    let b = st .args .b .now in
-    let es = entriesIn b in
-    by _ (le-ltb _ (length es) (past1 (c .before .before .before)))
-    (by _ (lt-leb most (length es) (omega (arith, c .before .before .before .before .before .held .ensures, c .before .before .if2 .left)))
-    (stop _ (lt-ltb (freeIn b) (st .args .n) (omega (arith, total (c .before), c .if3 .taken))) refl))
+    let a = c .before .before .before .before .before .before .before .args in
+    past2 (c .before .before) (stop _ (lt-ltb (freeIn (a .b .now)) (a .n) (omega (arith, total (c .before), c .if3 .taken))) refl)
 
 returns-4 : tie.Need-returns-4
 returns-4 c =
-    let st = c .before .before .before .before .before .before .before in
-    let b = st .args .b .now in
-    let es = entriesIn b in
-    by _ (le-ltb _ (length es) (past1 (c .before .before .before)))
-    (by _ (lt-leb most (length es) (omega (arith, c .before .before .before .before .before .held .ensures, c .before .before .if2 .left)))
-    (by _ (le-ltb (freeIn b) (st .args .n) (omega (arith, total (c .before), c .if3 .left))) refl))
+    let a = c .before .before .before .before .before .before .before .args in
+    past2 (c .before .before) (by _ (le-ltb (freeIn (a .b .now)) (a .n) (omega (arith, total (c .before), c .if3 .left))) refl)
 
 pub check-room-spec : {M : Type 1} → statement M
 check-room-spec =

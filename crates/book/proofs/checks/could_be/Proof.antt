@@ -1,7 +1,7 @@
 -- `could_be` meets its contract: the first count, the entries, the zeros behind them, the data's count and the room.
 use borrow.Author.Needs.{needs}
 use borrow.Author.Tests.{eq-eqb, ne-eqb, not-true, not-false}
-use mathlib.Core.Bool.{true}
+use mathlib.Core.Bool.{Bool, true, _&&_}
 use mathlib.Core.Path.{_≡_, sym, ap, _∙_}
 use Prim.Native.Nat.{ℕ, _+_}
 use native.Mathlib.Omega.{arith}
@@ -9,9 +9,9 @@ use lib.Dec.{leb, eqb}
 use lib.ListN.{length}
 use lib.Seq.{slice}
 use Rattle.samples.specs.Le.{leAt}
-use Rattle.book.specs.Books.{most, entryStart, totalAt, dataAt, entriesIn, totalIn, placeAt, areEntries, allZero, unusedIn, couldBe}
+use Rattle.book.specs.Books.{most, entryStart, totalAt, dataAt, entriesIn, totalIn, areEntries, allZero, unusedIn, couldBe}
 use Rattle.book.proofs.Tests.{yes, no}
-use Rattle.book.proofs.Entries.{entries-few, place-all}
+use Rattle.book.proofs.Entries.{entries-few, total-is}
 use Rattle.book.proofs.checks.could_be.Statement.{statement}
 use Rattle.book.proofs.checks.could_be.Tie as tie
 
@@ -46,29 +46,24 @@ zero : (c : tie.Else3) → allZero (unusedIn (c .before .before .before .before 
 zero c = sym (zeros (c .before)) ∙ not-false _ (c .if3 .left)
 
 total : (c : tie.After-total-of) → c .total-of .result ≡ totalIn (c .before .before .before .before .before .before .before .before .before .args .b .now)
-total c =
-    let es = entriesIn (c .before .before .before .before .before .before .before .before .before .args .b .now) in
-    c .total-of .ensures .0 ∙ ap (λ (n : ℕ). placeAt n es) (c .before .before .before .before .before .held .ensures) ∙ place-all es
+total c = let k = c .before .before .before .before .before .held in total-is (c .before .before .before .before .before .before .before .before .before .args .b .now) (k .result) (k .ensures) (c .total-of .ensures .0)
+
+-- past the directory: the data's count and the room decide
+past : (t : tie.After-total-of) {z : Bool} → let b = t .before .before .before .before .before .before .before .before .before .args .b .now in z ≡ (eqb (leAt 4 b totalAt) (totalIn b) && leb (dataAt + totalIn b) (length b)) → z ≡ couldBe b
+unfolding couldBe
+past t q = yes _ (count (t .before .before .before .before .before .before)) (yes _ (heads (t .before .before .before)) (yes _ (zero (t .before)) q))
 
 returns-4 : tie.Need-returns-4
-unfolding couldBe
 returns-4 c =
     let t = c .before .before in
     let b = t .before .before .before .before .before .before .before .before .before .args .b .now in
-    yes _ (count (t .before .before .before .before .before .before))
-    (yes _ (heads (t .before .before .before))
-    (yes _ (zero (t .before))
-    (no _ (ne-eqb (leAt 4 b totalAt) (totalIn b) (λ z. c .if4 .taken (c .before .read-u322 .ensures ∙ z ∙ sym (total t)))))))
+    past t (no _ (ne-eqb (leAt 4 b totalAt) (totalIn b) (λ z. c .if4 .taken (c .before .read-u322 .ensures ∙ z ∙ sym (total t)))))
 
 returns-5 : tie.Need-returns-5
-unfolding couldBe
 returns-5 c =
     let t = c .before .before in
     let b = t .before .before .before .before .before .before .before .before .before .args .b .now in
-    yes _ (count (t .before .before .before .before .before .before))
-    (yes _ (heads (t .before .before .before))
-    (yes _ (zero (t .before))
-    (yes _ (eq-eqb (leAt 4 b totalAt) (totalIn b) (sym (c .before .read-u322 .ensures) ∙ c .if4 .left ∙ total t)) (ap (λ (n : ℕ). leb (dataAt + n) (length b)) (total t)))))
+    past t (yes _ (eq-eqb (leAt 4 b totalAt) (totalIn b) (sym (c .before .read-u322 .ensures) ∙ c .if4 .left ∙ total t)) (ap (λ (n : ℕ). leb (dataAt + n) (length b)) (total t)))
 
 pub could-be-spec : {M : Type 1} → statement M
 could-be-spec =
