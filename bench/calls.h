@@ -1,4 +1,4 @@
-// What the programs share that time single calls, bench/sample.c, bench/depth.c and bench/book.c.
+// What the programs share that time single calls, bench/sample.c, bench/depth.c, bench/book.c and bench/stream.c.
 #include "beksanour.h"
 #include <stdio.h>
 #include <time.h>

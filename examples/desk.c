@@ -6,8 +6,8 @@
  *   cc examples/desk.c $(pkg-config --cflags --libs beksanour) -o desk
  *
  *   desk          a tour: four recordings are made and kept as pyramid files. Files are cut, opened, drawn and marked with notes,
- *                 and kept in a route book, where one is opened and one is withdrawn. Then the library is made to refuse with
- *                 every refusal's number
+ *                 and kept in a route book, where one is opened and one is withdrawn. One recording comes in pieces. Then the
+ *                 library is made to refuse with every refusal's number
  *   desk FILE     what a pyramid file says of itself, the level that it opens at, and its overview
  *   desk --help   this
  *
@@ -464,6 +464,80 @@ static void open_found(const route_book *b, uint32_t point, size_t front) {
     free(work2);
 }
 
+/* ---- a recording of 16 bits that comes in pieces */
+
+typedef struct incoming {
+    uint8_t state[BK_STREAM_BYTES]; /* zeros to begin with */
+    uint64_t samples;               /* that came so far */
+    uint8_t *approx, *details;      /* the two bands, as far as they are written */
+    size_t written, space;          /* of each band: coefficients that are written, and for how many there is room */
+} incoming;
+
+/* Makes room for so many coefficients of each band; what is written stays. */
+static void make_space(incoming *in, size_t space) {
+    uint8_t *approx = room(2 * space), *details = room(2 * space);
+    if (in->written > 0) {
+        memcpy(approx, in->approx, 2 * in->written);
+        memcpy(details, in->details, 2 * in->written);
+    }
+    free(in->approx);
+    free(in->details);
+    in->approx = approx;
+    in->details = details;
+    in->space = space;
+}
+
+/* Sends a piece. What is lent of each band is its free end: what is written to the front of it is joined to the band at once. */
+static bk_answer send_piece(incoming *in, const uint8_t *piece, size_t n) {
+    size_t at = 2 * in->written, bytes = 2 * (in->space - in->written);
+    return bk_stream_piece_i16(in->state, BK_STREAM_BYTES, piece, 2 * n, in->approx + at, bytes, in->details + at, bytes);
+}
+
+/* Takes a piece. Where there is too little room it is refused and nothing has changed: more room is made, and it is sent again. */
+static void take_piece(incoming *in, const uint8_t *piece, size_t n) {
+    size_t before = in->written;
+    char tried[40];
+    bk_answer a = send_piece(in, piece, n);
+    snprintf(tried, sizeof tried, "a piece of %lu samples", (unsigned long)n);
+    if (a.number == BK_NO_ROOM) {
+        say_refused(tried, a);
+        make_space(in, 2 * (in->written + (size_t)a.second));
+        a = send_piece(in, piece, n);
+    }
+    expect(tried, a, BK_DONE);
+    in->samples += n;
+    in->written = (size_t)bk_stream_written(in->samples);
+    printf("%s: %lu more of each band, %lu so far\n", tried, (unsigned long)(in->written - before), (unsigned long)in->written);
+}
+
+/* A recording of 16 bits in these pieces, which are all of it; its bands must be those of one call on the whole recording. */
+static void tour_pieces(const recording *r, const size_t *pieces, size_t count) {
+    size_t approx_bytes = 2 * (r->n - r->n / 2), details_bytes = 2 * (r->n / 2), sent = 0, i;
+    uint8_t *approx = room(approx_bytes), *details = room(details_bytes);
+    incoming in;
+    memset(&in, 0, sizeof in);
+    make_space(&in, 200);
+    for (i = 0; i < count; i++) {
+        take_piece(&in, r->samples + 2 * sent, pieces[i]);
+        sent += pieces[i];
+    }
+    make_space(&in, in.written + 1);
+    expect("the end of a recording",
+           bk_stream_finish_i16(in.state, BK_STREAM_BYTES, in.approx + 2 * in.written, 2, in.details + 2 * in.written, 2), BK_DONE);
+    expect("one level of the whole recording",
+           bk_cdf53_forward_i16(r->samples, 2 * r->n, approx, approx_bytes, details, details_bytes), BK_DONE);
+    if (sent != r->n || memcmp(approx, in.approx, approx_bytes) != 0 || memcmp(details, in.details, details_bytes) != 0) {
+        printf("    the bands are not those of one call\n");
+        exit(BAD_TURN);
+    }
+    printf("the end: %lu approximations and %lu details, those of one call on all %lu samples\n", (unsigned long)approx_bytes / 2,
+           (unsigned long)details_bytes / 2, (unsigned long)r->n);
+    free(in.approx);
+    free(in.details);
+    free(approx);
+    free(details);
+}
+
 /* Says a refusal that was provoked, and that it is the one that was meant. */
 static void provoked(uint32_t number, const char *tried, bk_answer a) {
     expect(tried, a, number);
@@ -481,6 +555,15 @@ static void tour_refused_transforms(void) {
              bk_cdf53_multi_idwt_i8(x, 5, x + 5, 0, x + 6, 0, a, 5, d, 5, w, 5));
     provoked(BK_TOO_LONG, "the depth of 16,777,217 samples", bk_cdf53_depth(BK_MOST_SAMPLES + 1));
     provoked(BK_BAD_COUNT, "5 bytes as samples of 2 bytes", bk_cdf53_forward_i16(x, 5, a, 4, d, 2));
+}
+
+/* Refusals of a recording in pieces, of samples of one byte: 2 of them, which are too few to end with, and a damaged state. */
+static void tour_refused_pieces(void) {
+    uint8_t state[BK_STREAM_BYTES] = {0}, x[2] = {0, 3}, a[1], d[1];
+    expect("a piece of 2 samples", bk_stream_piece_i8(state, BK_STREAM_BYTES, x, 2, a, 0, d, 0), BK_DONE);
+    provoked(BK_MIN_FILTER_SIZE, "the end of a recording of 2 samples", bk_stream_finish_i8(state, BK_STREAM_BYTES, a, 1, d, 1));
+    state[15] = 1;
+    provoked(BK_BAD_COUNT, "a piece beside a damaged state", bk_stream_piece_i8(state, BK_STREAM_BYTES, x, 2, a, 1, d, 1));
 }
 
 /* Refusals of a file: the recording's own file, asked for what it has not, cut too short, or with a byte too many. */
@@ -570,6 +653,7 @@ static void tour_book(const recording *r, const pyramid_file *f) {
 
 static int tour(void) {
     static const uint64_t notes[] = {700, 2600, 5900};
+    static const size_t pieces[] = {256, 0, 2, 3, 0, 340};
     recording r[3];
     pyramid_file f[3];
     opened seen[3];
@@ -600,8 +684,12 @@ static int tour(void) {
     printf("\n== a route book\n");
     tour_book(r, f);
 
+    printf("\n== point 16 once more, in pieces\n");
+    tour_pieces(&r[2], pieces, 6);
+
     printf("\n== every refusal\n");
     tour_refused_transforms();
+    tour_refused_pieces();
     tour_refused_files(&r[2], &f[2]);
     tour_refused_books(&r[2], &f[2]);
     for (i = 0; i < 3; i++) {

@@ -2,17 +2,17 @@
  * Beksanour: the numeric core of the review desk.
  *
  * Every call takes numbers and byte slices that the caller lends, each slice as a pointer and its length in bytes. It keeps
- * no pointer, needs no heap, holds no state, may be called from any thread, and ends for every input with an answer: done, or
- * one refusal. A refusal changes no lent byte. The slices of one call must not overlap where one of them is written. An empty
- * slice still has a pointer that is not null. Samples are little-endian and need no alignment: on a little-endian machine an
+ * nothing between calls, no pointer either, needs no heap, may be called from any thread, and ends for every input with an answer:
+ * done, or one refusal. A refusal changes no lent byte. The slices of one call must not overlap where one of them is written. An
+ * empty slice still has a pointer that is not null. Samples are little-endian and need no alignment: on a little-endian machine an
  * array `int16_t x[n]` is lent as `(const uint8_t *)x, sizeof x`.
  *
  * `install.sh PREFIX` installs this header, the library and beksanour.pc, for x86-64 Linux. Then, with PREFIX/lib/pkgconfig in
  * PKG_CONFIG_PATH, `cc examples/desk.c $(pkg-config --cflags --libs beksanour)` links the shared library, which a program finds
  * with PREFIX/lib in LD_LIBRARY_PATH; `cc examples/desk.c -IPREFIX/include PREFIX/lib/libbeksanour.a` links the static one.
  * Without an installation, `rt staticlib desk` writes the same library to target/staticlib/libdesk.a. examples/desk.c is a
- * program that uses the files, the route book, notes and windows. CHANGELOG.md says what a caller must change from one version to
- * the next.
+ * program that uses the files, the route book, notes, windows and a recording that comes in pieces. CHANGELOG.md says what a caller
+ * must change from one version to the next.
  *
  * The calls, in the order of this file; T is the kind of a sample, i8, i16, i32, f32 or f64 (9/7: f32 or f64):
  *   bk_refusal_name, bk_refusal_sentence           a refusal in words
@@ -22,6 +22,9 @@
  *   bk_cdf53_dwt_T, bk_cdf97_dwt_T                 the last of so many levels
  *   bk_cdf53_multi_dwt_T, bk_cdf97_multi_dwt_T     all of so many levels
  *   bk_cdf53_multi_idwt_T, bk_cdf97_multi_idwt_T   and back
+ *   bk_stream_written                              of a recording in pieces: how many of each band are written after t samples
+ *   bk_stream_piece_i8, _i16, _i32                 one level while it is recorded: the next piece of the samples
+ *   bk_stream_finish_i8, _i16, _i32                and its end
  *   bk_pyramid_size                                how many bytes a pyramid file has
  *   bk_pyramid_write_i8, _i16, _i32                a recording as a pyramid file
  *   bk_pyramid_head                                what a file says of itself
@@ -40,7 +43,7 @@
  * Good to know, said once:
  *
  * Bytes or samples. A parameter whose name ends in _bytes is a length in bytes, and a width is a sample's size in bytes. n,
- * sample, place, start and count, as parameters, are numbers of samples; the sample of a bk_sample is its value. In an answer
+ * t, sample, place, start and count, as parameters, are numbers of samples; the sample of a bk_sample is its value. In an answer
  * bytes are: what bk_pyramid_size, bk_pyramid_section, bk_book_find and bk_band_window_T give when done, and the first number of
  * bk_book_room, whose second counts points; the numbers of 10 and 12; the length of 9 (0, length) and the count of section 0; and
  * of 7 those of the file that is written and those of a book. All other lengths and counts in an answer are samples.
@@ -49,7 +52,8 @@
  * file that opens, and a write with an empty file answers 7 (0, size); nothing is changed. The same refusal comes for areas
  * that are merely too short. A book does not tell so: its 7 always says 904, and 14 says no number. A book for given files needs
  * 904 bytes and the sizes of the files; the first number of bk_book_room is the most bytes that an add may still take, while
- * fewer than 64 points are held.
+ * fewer than 64 points are held. Do not ask so with a piece of a recording: one that writes no coefficient needs no room, and is
+ * taken. bk_stream_written says beforehand what a piece writes.
  *
  * A file whose width and point are not known. bk_pyramid_head reads them; hand them to bk_pyramid_open, which then refuses the
  * file only for what is wrong in it, or for the areas (7, 9). A head's width may be any byte, 0 too: bk_pyramid_open refuses it
@@ -78,6 +82,9 @@
  * that no calls could have left. Others pass: a point that became one that is not held, or two entries exchanged. The bytes of the
  * files are not looked at. So open what was found for the point that you asked for, not for the point of its head: then a file of
  * another point is refused with 11.
+ * The state of a recording in pieces has no checksum either: 16 bytes that no calls could have left are refused with 9 (0, 0), and
+ * all others are taken, as another recording so far. A piece that was left out, sent twice or sent out of order is not found: send
+ * a piece again only where it was refused.
  *
  * Floats. The bits that the float calls promise hold while the processor rounds to nearest even and keeps subnormal numbers, as
  * it does unless told otherwise. A program that flushes subnormals to zero changes them; so does one that is linked with
@@ -95,7 +102,7 @@ extern "C" {
 
 /* The version of this header and of the library that is installed with it; CHANGELOG.md has what changed. */
 #define BK_VERSION_MAJOR 0
-#define BK_VERSION_MINOR 7
+#define BK_VERSION_MINOR 8
 #define BK_VERSION_PATCH 0
 
 /*
@@ -124,7 +131,8 @@ enum {
     BK_BAD_COUNT = 9,                      /* a count is wrong: section, found;
                                               a byte length that is no whole number of samples: 0, the length;
                                               a list of lengths that is not the details: 0, its sum;
-                                              a book that no calls could have left: 0, 0 */
+                                              a book, or the state of a recording in pieces, that no calls could
+                                              have left: 0, 0 */
     BK_CUT_SHORT = 10,                     /* the file ends before section 1, or the one asked for, is whole; for
                                               bk_book_add, before all its sections are: the file's length, 0 */
     BK_OTHER_POINT = 11,                   /* the file's point is not the one asked: the file's, asked */
@@ -171,7 +179,7 @@ static inline const char *bk_refusal_sentence(uint32_t number) {
     case BK_TOO_LONG: return "There are more samples, bytes or levels than the library takes.";
     case BK_NO_ROOM: return "An area that was lent is too short.";
     case BK_OTHER_WIDTH: return "The samples do not have the width that was asked for, or no such width exists.";
-    case BK_BAD_COUNT: return "A count, the length of a slice or the directory of a book is not what it must be.";
+    case BK_BAD_COUNT: return "A count, a length, the directory of a book or the state of a recording in pieces is wrong.";
     case BK_CUT_SHORT: return "The file ends before what is needed of it is whole.";
     case BK_OTHER_POINT: return "The file belongs to another measuring point.";
     case BK_TRAILING: return "The file has bytes after its last section.";
@@ -412,6 +420,112 @@ bk_answer bk_cdf97_multi_idwt_f64(const uint8_t *approx, size_t approx_bytes, co
                                   size_t details_bytes, const uint8_t *lengths, size_t lengths_bytes, uint8_t *output,
                                   size_t output_bytes, uint8_t *work1, size_t work1_bytes, uint8_t *work2,
                                   size_t work2_bytes);
+
+/*
+ * Samples while they are recorded: one level of integer 5/3 of a recording that comes in pieces, some of them empty; T is i8, i16
+ * or i32. A coefficient is written as soon as it is fixed: as soon as no further sample, if one came, could change it. However the
+ * recording is cut, the approximations that its calls write, joined, and the details, joined, are those of bk_cdf53_forward_T on
+ * the whole recording. Samples that were sent need not be kept.
+ *
+ * How a recording is taken:
+ *   begin    Set 16 bytes to 0. They are the state of a recording without samples, and no call is needed for it.
+ *   pieces   Hand each piece to bk_stream_piece_T, in order, with the state and an area for each band. For a piece of n samples
+ *            areas of (n + 1) / 2 samples, rounded down, are always long enough. With t samples before it, the call writes
+ *            bk_stream_written(t + n) - bk_stream_written(t) approximations, and as many details, to the front of the areas; it
+ *            may be none. Append them to the bands.
+ *   end      Call bk_stream_finish_T, after 3 samples or more, with areas of one sample. It writes one approximation and, where t,
+ *            now the number of all samples, is even, one detail. Append them. The state is 16 zeros again, for the next recording.
+ * An area may be the free end of the band itself: then what is written is appended already. No call that is done tells t, or how
+ * much it wrote: count the samples yourself, or read t in bytes 0 to 3 of the state before the call. After the end the state no
+ * longer says whether t was even.
+ *
+ * The state is all that a later call needs of the samples before it, and the library keeps nothing beside it. It needs no
+ * alignment, and may be copied, kept on a disk and lent again elsewhere. Every recording has a state of its own. Calls with
+ * different states may run at the same time, two with the same state may not. To give a recording up, set its state to 0.
+ *
+ * The width of a sample is not in the state: keep it beside it, and call the functions of one width for one recording. What 8-bit
+ * calls left is a good state for 16-bit calls too, but they take its numbers as 16-bit ones, so that the coefficients after it need
+ * not be those of the recording. What 16-bit calls left 8-bit calls refuse with 9 (0, 0) only where one of the three numbers after
+ * t is 256 or more. A state without samples is the same at every width.
+ *
+ * Layout: four numbers of 4 bytes, unsigned, little-endian (docs/FORMAT.md has them with an example). After t samples, with m =
+ * bk_stream_written(t), samples and details being counted from 0:
+ *   bytes 0 to 3     t, 0 to 16,777,216
+ *   bytes 4 to 7     sample 2m, the even one whose coefficients are next; 0 where t is 0
+ *   bytes 8 to 11    sample 2m + 1, the odd one after it, where t is even and not 0; else 0
+ *   bytes 12 to 15   detail m - 1, the last one written, where t is 3 or more; else 0
+ * A sample or a detail is its own 1, 2 or 4 bytes, two's complement, and then zeros: -4 of 8 bits is FC 00 00 00.
+ *
+ * A state that no calls could have left is refused with 9 (0, 0): it has not 16 bytes; or t is over 16,777,216; or a number is not
+ * 0 where the table says 0; or a sample or a detail is not below 2^8 (8-bit calls) or 2^16 (16-bit calls). All other states can be
+ * left by calls, and are taken. After this refusal look first whether the call has the width of the recording and state_bytes is
+ * 16: if not, the state may still be good. If it is damaged, set it to 0 and begin again; or take a copy of an earlier state, whose
+ * t is in its bytes 0 to 3, shorten both bands to bk_stream_written(t) coefficients, and send all samples but the first t again.
+ */
+
+/* The bytes of a state. */
+#define BK_STREAM_BYTES 16
+
+/*
+ * How many approximations, and as many details, are written after t samples of a recording in pieces, by all its calls so far:
+ * (t - 1) / 2, rounded down, and none at t = 0. Where t is 3 or more the finish then writes the rest, so that in all there are
+ * ceil(t/2) approximations and floor(t/2) details. A t over 16,777,216, which no recording has, is not refused.
+ *
+ * For example, 0 after 0, 1 or 2 samples, 1 after 3 or 4, 2 after 5 or 6.
+ */
+static inline uint64_t bk_stream_written(uint64_t t) { return t == 0 ? 0 : (t - 1) / 2; }
+
+/*
+ * The next piece of a recording: the samples in `piece`, 8, 16 or 32 bits each, or none. The coefficients that it fixes are written
+ * to the front of `approx` and of `details`, as many to each; what is behind them is as it was. `state` becomes that of all samples
+ * so far. An empty piece writes nothing, and the state stays as it was. The four slices must not overlap. Each has a pointer that
+ * is not null, also where it is empty.
+ * Done: first and second are 0. With t samples before it, a piece of n samples wrote bk_stream_written(t + n) -
+ * bk_stream_written(t) coefficients of each band.
+ *
+ * Refused, in this order:
+ *   9 (0, length)    a slice's byte length is no multiple of the width: the first of piece, approx, details
+ *   9 (0, 0)         state is one that no calls of this width could have left
+ *   6                the samples so far and the piece are together over 16,777,216: send as much of it as still fits, or end
+ *   7 (have, need)   approx holds fewer approximations than the piece writes; both numbers are in samples
+ *   7 (have, need)   details holds fewer details than the piece writes; both numbers are in samples
+ * Nothing of a refused piece is taken: after a 7 send the same piece again, with areas of need samples. Which one it is: 9 is the
+ * state's where second is 0, else a length. 7 is that of approx where approx holds fewer than need samples, else that of details.
+ *
+ * For example, 8-bit 0, 3, -4, 1, 7 in three pieces, 0, 3, then none, then -4, 1, 7: the first two write nothing, and the third
+ * writes the approximations 3, -3 and the details 5, 0.
+ */
+bk_answer bk_stream_piece_i8(uint8_t *state, size_t state_bytes, const uint8_t *piece, size_t piece_bytes, uint8_t *approx,
+                             size_t approx_bytes, uint8_t *details, size_t details_bytes);
+bk_answer bk_stream_piece_i16(uint8_t *state, size_t state_bytes, const uint8_t *piece, size_t piece_bytes, uint8_t *approx,
+                              size_t approx_bytes, uint8_t *details, size_t details_bytes);
+bk_answer bk_stream_piece_i32(uint8_t *state, size_t state_bytes, const uint8_t *piece, size_t piece_bytes, uint8_t *approx,
+                              size_t approx_bytes, uint8_t *details, size_t details_bytes);
+
+/*
+ * The end of a recording, of t samples in all its pieces: the last approximation is written to the front of `approx` and, where t
+ * is even, the last detail to the front of `details`; what is behind them is as it was. Where t is odd all details are written
+ * already, and `details` stays as it was and may be empty. `state` becomes 16 zeros. The three slices must not overlap. Each has a
+ * pointer that is not null, also where it is empty.
+ * Done: first and second are 0.
+ *
+ * Refused, in this order:
+ *   9 (0, length)   a slice's byte length is no multiple of the width: the first of approx, details
+ *   9 (0, 0)        state is one that no calls of this width could have left
+ *   1 (t, 3)        fewer than 3 samples were sent: send more, or give the recording up by setting its state to 0
+ *   7 (0, 1)        approx is empty
+ *   7 (0, 1)        t is even, and details is empty
+ * After a 7 call it again with room. Which one it is: 9 is the state's where second is 0, else a length. 7 is that of approx where
+ * approx is empty, else that of details.
+ *
+ * For example, after the five samples above it writes the approximation 7 and no detail.
+ */
+bk_answer bk_stream_finish_i8(uint8_t *state, size_t state_bytes, uint8_t *approx, size_t approx_bytes, uint8_t *details,
+                              size_t details_bytes);
+bk_answer bk_stream_finish_i16(uint8_t *state, size_t state_bytes, uint8_t *approx, size_t approx_bytes, uint8_t *details,
+                               size_t details_bytes);
+bk_answer bk_stream_finish_i32(uint8_t *state, size_t state_bytes, uint8_t *approx, size_t approx_bytes, uint8_t *details,
+                               size_t details_bytes);
 
 /*
  * How many bytes the pyramid file of n samples of `width` bytes each has, at so many levels: 14 + 4(L + 1) + width n, where L is

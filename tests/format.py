@@ -1,7 +1,7 @@
 #!/usr/bin/env python3
 # The desk's calls compared with tests/reader.py, a reader and a writer made from docs/FORMAT.md, on whole, cut and damaged
-# files, and on books of them. Call: tests/format.py [--seed N]
-# First tests/desk/build. The first answer that differs ends the run. Lent slices other than a book's area are looked at by
+# files, on books of them, and on recordings in pieces. Call: tests/format.py [--seed N]
+# First tests/desk/build. The first answer that differs ends the run. The lent slices of a file's calls are looked at by
 # tests/pyramid.py, of which only the talking to the server is used here.
 import argparse
 import os
@@ -25,7 +25,8 @@ def write(samples, width, levels, point):
 
 # ---- asking the desk
 
-# A request, and the words its answer starts with: the three numbers and the first lent slice, where it has one.
+# A request, and the words its answer starts with: the three numbers and the first lent slice, where it has one; of a recording in
+# pieces all lent slices.
 class Ask(NamedTuple):
     request: str
     wanted: list
@@ -33,7 +34,7 @@ class Ask(NamedTuple):
 
 class Tally:
     def __init__(self):
-        self.done = {"write": 0, "open": 0, "section": 0, "book": 0}
+        self.done = {"write": 0, "open": 0, "section": 0, "book": 0, "stream": 0}
         self.refused = dict(self.done)
 
     def count(self, ask, answer):
@@ -42,7 +43,7 @@ class Tally:
             print("  wanted", *ask.wanted)
             sys.exit(f"  got    {answer}")
         kind, verb = ask.request.split(" ")[0].split("_")[:2]
-        verb = "book" if kind == "book" else verb
+        verb = kind if kind in ("book", "stream") else verb
         (self.done if ask.wanted[0] == "0" else self.refused)[verb] += 1
 
     def told(self, verb, what):
@@ -100,6 +101,26 @@ class Book:
         for name, *words_after in ("room",), ("find", point), ("withdraw", point), ("add", file, point), ("fresh",):
             yield self.ask(name, *words_after)
             self.area = area
+
+
+# A recording in pieces, in the desk's state and in the reader's, with the bands that were written.
+class Stream:
+    def __init__(self, width, state=bytes(reader.STATE_BYTES)):
+        self.width, self.state = width, state
+        self.low = self.high = b""
+
+    # The next piece, or the end where there is none, with areas of these bytes.
+    def ask(self, piece, approx, details):
+        name, sent = ("finish", []) if piece is None else ("piece", [piece])
+        lent = [self.state, *sent, approx, details]
+        said, self.state, low, high = getattr(reader, "stream_" + name)(self.width, *lent)
+        if said[0] == 0:
+            t = reader.u32(lent[0], 0)
+            last = (t + 1) // 2, t // 2
+            more = last if piece is None else (reader.written(t + len(piece) // self.width),) * 2
+            self.low += low[:(more[0] - reader.written(t)) * self.width]
+            self.high += high[:(more[1] - reader.written(t)) * self.width]
+        return Ask(request(f"stream_{name}_i{8 * self.width}", lent), words(said, self.state, low, high))
 
 
 # ---- the files
@@ -276,7 +297,63 @@ def damaged_books(random):
             yield from Book(area[:place] + bytes([other]) + area[place + 1:]).ask_all(file, 14)
 
 
-PARTS = [example, written, too_deep, damaged, trailing, other_asked, noise, book_example, books, damaged_books]
+# The example of a recording in pieces in docs/FORMAT.md, as it stands there: the state after each sample, and what is written; and
+# the end after one of the samples, which the line below the table gives.
+def stream_example(random):
+    row = r"^\| (none|the end|-?\d+) \| `(.*?)` \| *(-?\d*) *\| *(-?\d*) *\|$"
+    text = section_of("Example of a recording in pieces")
+    rows = re.findall(row, text, re.MULTILINE)
+    early = re.search(r"\nAfter the sample (-?\d+) the end would write the approximation (-?\d+) and the detail (-?\d+)\.\n", text)
+    assert [sample for sample, *_ in rows] == ["none", "0", "3", "-4", "1", "7", "the end"]
+    stream, bands = Stream(1), [b"", b""]
+    for sample, state, *more in rows:
+        if sample != "none":
+            yield stream.ask(None if sample == "the end" else bytes_of([int(sample)], 1), random.randbytes(2), random.randbytes(2))
+        bands = [band + bytes_of([int(number)] if number else [], 1) for band, number in zip(bands, more)]
+        assert stream.state == bytes.fromhex(state) and [stream.low, stream.high] == bands
+        if sample == early[1]:
+            ended = Stream(1, stream.state)
+            yield ended.ask(None, random.randbytes(2), random.randbytes(2))
+            assert [ended.low, ended.high] == [bytes_of([int(number)], 1) for number in early.groups()[1:]]
+
+
+# Recordings in drawn pieces, with areas that are too short, of half a sample or just long enough; the bands are those of the whole.
+def streams(random):
+    for width in WIDTHS:
+        for n in [*range(40), *(random.randint(40, 400) for _ in range(20))]:
+            samples, stream, sent = any_samples(random, width, n), Stream(width), 0
+            while sent < n or random.random() < 0.3:
+                piece = samples[sent:sent + random.choice((0, 0, 1, 2, 3, random.randrange(60)))]
+                need = (reader.written(sent + len(piece)) - reader.written(sent)) * width
+                more = need + random.randrange(2 * width)
+                for lengths in (need - 1, need), (need - width, need), (need, need - width), (more, need):
+                    if random.random() < 0.2 and need:
+                        yield stream.ask(bytes_of(piece, width), *map(random.randbytes, lengths))
+                if reader.u32(stream.state, 0) == sent:
+                    yield stream.ask(bytes_of(piece, width), random.randbytes(need + width), random.randbytes(need))
+                sent += len(piece)
+                assert reader.u32(stream.state, 0) == sent
+            for lengths in (0, width), (width, 0), (width + 1, 1), (2 * width, width):
+                yield stream.ask(None, *map(random.randbytes, lengths))
+            if n >= 3:
+                assert (stream.low, stream.high) == tuple(bytes_of(band, width) for band in reader.forward(samples, width))
+
+
+# States that are damaged, of another length, or of many samples.
+def states(random):
+    for width in WIDTHS:
+        for _ in range(1500):
+            t = random.choice((random.randrange(6), MOST_SAMPLES - random.randrange(4), MOST_SAMPLES + 1, random.randrange(2**32)))
+            some = 0, 0, 1, 255, 256, 65535, 65536, random.randrange(1 << 8 * width), LAST_U32
+            state = b"".join(word.to_bytes(4, "little") for word in (t, *random.choices(some, k=3)))
+            state = random.choice((state, state, state, state[:random.randrange(16)], state + bytes(random.randint(1, 16))))
+            piece = random.randbytes(width * random.randrange(6))
+            yield Stream(width, state).ask(piece, *(random.randbytes(width * random.randrange(4)) for _ in range(2)))
+            yield Stream(width, state).ask(None, *(random.randbytes(width * random.randrange(2)) for _ in range(2)))
+
+
+PARTS = [example, written, too_deep, damaged, trailing, other_asked, noise]
+PARTS += [book_example, books, damaged_books, stream_example, streams, states]
 
 
 def main():
@@ -286,7 +363,8 @@ def main():
     os.chdir(os.path.join(os.path.dirname(os.path.abspath(__file__)), ".."))
     source, tally = random.Random(asked.seed), Tally()
     compare((ask for part in PARTS for ask in part(source)), tally)
-    print(f"ok format: {tally.done['write']} files, {tally.told('open', 'opens')}, {tally.told('section', 'sections')}, {tally.told('book', 'calls of books')}")
+    told = {"open": "opens", "section": "sections", "book": "calls of books", "stream": "calls of recordings in pieces"}
+    print(f"ok format: {tally.done['write']} files, {', '.join(tally.told(verb, what) for verb, what in told.items())}")
 
 
 if __name__ == "__main__":

@@ -1,4 +1,5 @@
-# A reader and a writer of the pyramid file and of the route book, written from docs/FORMAT.md alone. tests/format.py holds the desk to it.
+# A reader and a writer of the pyramid file, of the route book and of a recording in pieces, written from docs/FORMAT.md alone.
+# tests/format.py holds the desk to it.
 MOST_BYTES = 67_108_974
 MOST_SAMPLES = 16_777_216
 
@@ -286,3 +287,83 @@ def book_room(area):
         return refusal, area
     entries = in_use(area)
     return (0, len(area) - DATA_AT - sum(map(size, entries)), len(entries)), area
+
+
+# ---- a recording in pieces
+
+STATE_BYTES = 16
+
+
+def written(t):
+    return (t - 1) // 2 if t else 0
+
+
+def state_of(t, e, o, d, width):
+    """The four numbers as bytes; e, o and d are signed."""
+    words = [t, *(v & ((1 << 8 * width) - 1) for v in (e, o, d))]
+    return b"".join(word.to_bytes(4, "little") for word in words)
+
+
+def numbers_of(state, width):
+    """t, e, o and d of a state, or None."""
+    if len(state) != STATE_BYTES:
+        return None
+    t, *words = (u32(state, at) for at in (0, 4, 8, 12))
+    for word, none in zip(words, (t == 0, t == 0 or t % 2 == 1, t < 3)):
+        if word >= 1 << (0 if none else 8 * width):
+            return None
+    return (t, *(keep(word, width) for word in words)) if t <= MOST_SAMPLES else None
+
+
+def front(values, area, width):
+    """An area with these numbers at its front."""
+    data = b"".join(v.to_bytes(width, "little", signed=True) for v in values)
+    return data + area[len(data):]
+
+
+def slices_refusal(state, width, *lengths):
+    for length in lengths:
+        if length % width:
+            return (9, 0, length)
+    return None if numbers_of(state, width) else (9, 0, 0)
+
+
+def stream_piece(width, state, piece, approx, details):
+    refusal = slices_refusal(state, width, len(piece), len(approx), len(details))
+    if refusal:
+        return refusal, state, approx, details
+    t, e, o, d = numbers_of(state, width)
+    samples = numbers(piece, width)
+    if t + len(samples) > MOST_SAMPLES:
+        return (6, 0, 0), state, approx, details
+    need = written(t + len(samples)) - written(t)
+    for area in approx, details:
+        if len(area) // width < need:
+            return (7, len(area) // width, need), state, approx, details
+    low, high = [], []
+    for x in samples:
+        if t == 0:
+            e = x
+        elif t % 2:
+            o = x
+        else:
+            high.append(keep(o - (e + x) // 2, width))
+            low.append(keep(e + ((d if t > 2 else high[-1]) + high[-1] + 2) // 4, width))
+            e, o, d = x, 0, high[-1]
+        t += 1
+    return (0, 0, 0), state_of(t, e, o, d, width), front(low, approx, width), front(high, details, width)
+
+
+def stream_finish(width, state, approx, details):
+    refusal = slices_refusal(state, width, len(approx), len(details))
+    if refusal:
+        return refusal, state, approx, details
+    t, e, o, d = numbers_of(state, width)
+    if t < 3:
+        return (1, t, 3), state, approx, details
+    high = [] if t % 2 else [keep(o - e, width)]
+    for area, need in (approx, 1), (details, len(high)):
+        if len(area) // width < need:
+            return (7, 0, 1), state, approx, details
+    low = [keep(e + (d + (high or [d])[0] + 2) // 4, width)]
+    return (0, 0, 0), bytes(STATE_BYTES), front(low, approx, width), front(high, details, width)

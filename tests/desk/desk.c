@@ -109,6 +109,16 @@ static bk_answer call_m(function f, const struct arg *a) {
     return ((bk_answer(*)(uint8_t *, size_t))f)(a[0].bytes, a[0].count);
 }
 
+static bk_answer call_mmm(function f, const struct arg *a) {
+    return ((bk_answer(*)(uint8_t *, size_t, uint8_t *, size_t, uint8_t *, size_t))f)(
+        a[0].bytes, a[0].count, a[1].bytes, a[1].count, a[2].bytes, a[2].count);
+}
+
+static bk_answer call_mrmm(function f, const struct arg *a) {
+    return ((bk_answer(*)(uint8_t *, size_t, const uint8_t *, size_t, uint8_t *, size_t, uint8_t *, size_t))f)(
+        a[0].bytes, a[0].count, a[1].bytes, a[1].count, a[2].bytes, a[2].count, a[3].bytes, a[3].count);
+}
+
 static bk_answer call_mrw(function f, const struct arg *a) {
     return ((bk_answer(*)(uint8_t *, size_t, const uint8_t *, size_t, uint32_t))f)(a[0].bytes, a[0].count, a[1].bytes,
                                                                                    a[1].count, (uint32_t)a[2].number);
@@ -161,6 +171,8 @@ static const struct shape shape_nwn = {"nwn", call_nwn};
 static const struct shape shape_rrwnn = {"rrwnn", call_rrwnn};
 static const struct shape shape_wnw = {"wnw", call_wnw};
 static const struct shape shape_m = {"m", call_m};
+static const struct shape shape_mmm = {"mmm", call_mmm};
+static const struct shape shape_mrmm = {"mrmm", call_mrmm};
 static const struct shape shape_mrw = {"mrw", call_mrw};
 static const struct shape shape_mw = {"mw", call_mw};
 static const struct shape shape_rw = {"rw", call_rw};
@@ -210,6 +222,12 @@ static const struct row {
     {"cdf53_dwt_f64", &shape_rwmmmm, (function)bk_cdf53_dwt_f64},
     {"cdf97_dwt_f32", &shape_rwmmmm, (function)bk_cdf97_dwt_f32},
     {"cdf97_dwt_f64", &shape_rwmmmm, (function)bk_cdf97_dwt_f64},
+    {"stream_piece_i8", &shape_mrmm, (function)bk_stream_piece_i8},
+    {"stream_piece_i16", &shape_mrmm, (function)bk_stream_piece_i16},
+    {"stream_piece_i32", &shape_mrmm, (function)bk_stream_piece_i32},
+    {"stream_finish_i8", &shape_mmm, (function)bk_stream_finish_i8},
+    {"stream_finish_i16", &shape_mmm, (function)bk_stream_finish_i16},
+    {"stream_finish_i32", &shape_mmm, (function)bk_stream_finish_i32},
     {"pyramid_write_i8", &shape_rwwmmm, (function)bk_pyramid_write_i8},
     {"pyramid_write_i16", &shape_rwwmmm, (function)bk_pyramid_write_i16},
     {"pyramid_write_i32", &shape_rwwmmm, (function)bk_pyramid_write_i32},

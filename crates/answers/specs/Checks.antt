@@ -1,10 +1,10 @@
 -- The order of a call's checks, and what a call leaves in what it was lent. Each call's own file has its list of checks.
 use mathlib.Core.Bool.{Bool, cond, not}
-use mathlib.Core.List.{List, [], _∷_}
+use mathlib.Core.List.{List, [], _∷_, _++_}
 use mathlib.Core.Path.{_≡_}
 use Prim.Native.Nat.{ℕ, _%_}
 use lib.Dec.{ltb, eqb}
-use lib.ListN.{drop}
+use lib.ListN.{length, drop}
 use Rattle.answers.specs.declared.err.Refusal.{Refusal}
 use Rattle.answers.specs.declared.err.Refusal.the-variants.{NoRoom, BadCount, NoSuchPlace}
 use Rattle.answers.specs.declared.err.Answer.{Answer}
@@ -38,6 +38,10 @@ outside place limit = (not (ltb place limit), NoSuchPlace place limit)
 -- what a lent slice holds after a call that says s: `new` where it is done; "a refusal changes no lent byte"
 abbrev pub left : Refusal → List ℕ → List ℕ → List ℕ
 left s new old = cond (done s) new old
+
+-- an area with `new` at its front; behind it the bytes that were there
+abbrev pub inFront : List ℕ → List ℕ → List ℕ
+inFront new old = new ++ drop (length new) old
 
 -- "after a done call work areas beyond their needed front are unchanged": the front is k bytes where the call is done, and nothing where it is refused
 unfoldable pub Spared : Refusal → ℕ → List ℕ → List ℕ → Type 0

@@ -9,7 +9,7 @@ use Rattle.answers.specs.declared.err.Answer.{Answer}
 use Rattle.answers.specs.declared.err.Refusal.{Refusal}
 use Rattle.answers.specs.declared.err.Refusal.the-variants.{Done, TooLong, BadCount, CutShort, BookFull, AlreadyHeld, NotHeld}
 use Rattle.answers.specs.Answers.{answerOf}
-use Rattle.answers.specs.Checks.{Check, firstOf, tight, left}
+use Rattle.answers.specs.Checks.{Check, firstOf, tight, left, inFront}
 use Rattle.pyramid.specs.Opens.{levelIn, fileChecks, ownWidth}
 use Rattle.book.specs.Books.{most, entrySize, dataAt, bookOf, entriesIn, dataIn, freeIn, slotOf, isHeld, placeAt, sizeAt, couldBe}
 
@@ -32,7 +32,7 @@ pub record Book (b : List ℕ) : Type 0 where
 
 -- the area b with these entries and this data, and behind them the bytes that were there
 abbrev pub holding : List ℕ → List (List ℕ) → List ℕ → List ℕ
-holding b es d = bookOf es d ++ drop (length (bookOf es d)) b
+holding b es d = inFront (bookOf es d) b
 
 -- the answer r of a call that says s, and the area b′ that it leaves of the area b: `new` where it is done
 pub record Leaves (s : Refusal) (new b : List ℕ) (r : Answer) (b′ : List ℕ) : Type 0 where

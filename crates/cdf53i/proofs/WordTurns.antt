@@ -59,7 +59,7 @@ module _ {k : ℕ} (w : Width k) where
   unfolding wrap
   kept-val z u h = ap (val (256 ^ k)) (h ∙ word-wrap w z)
 
-  detail-val : (x : List ℤ) (i u : ℕ) → u ≡ residue (256 ^ k) (detail (wrap k) x i) → val (256 ^ k) u ≡ detail (wrap k) x i
+  pub detail-val : (x : List ℤ) (i u : ℕ) → u ≡ residue (256 ^ k) (detail (wrap k) x i) → val (256 ^ k) u ≡ detail (wrap k) x i
   unfolding detail
   detail-val x i u h = kept-val _ u h
 
@@ -143,16 +143,14 @@ module _ {k : ℕ} (w : Width k) where
   unfolding detailsFrom detailWord
   details-read x i j h l = word-read _ j h l
 
-  -- one approximation more, from the details i - 1 and r, of the words v and z
-  pub approx-more : (x : List ℕ) (i r : ℕ) {u v z g : ℕ} {s t : List ℕ} → Front k (approxLength (length x / k)) i (approxWord k x) s → i < approxLength (length x / k) → 2 ≤ length x / k → r ≡ min i (detailsLength (length x / k) - 1)
+  -- the word of approximation i, from those of its sample and of the details i - 1 and r
+  pub approx-from : (x : List ℕ) (i r : ℕ) {u v z : ℕ} → i < approxLength (length x / k) → 2 ≤ length x / k → r ≡ min i (detailsLength (length x / k) - 1)
       → u ≡ wordAt k x (2 * i) → v ≡ detailWord k x (i - 1) → z ≡ detailWord k x r
-      → g ≡ residue (256 ^ k) (val (256 ^ k) u +ℤ shrZ (val (256 ^ k) v +ℤ val (256 ^ k) z +ℤ pos 2) 4) → t ≡ putAt k s i g → Front k (approxLength (length x / k)) (i + 1) (approxWord k x) t
+      → residue (256 ^ k) (val (256 ^ k) u +ℤ shrZ (val (256 ^ k) v +ℤ val (256 ^ k) z +ℤ pos 2) 4) ≡ approxWord k x i
   unfolding approxWord detailWord approx details
-  approx-more x i r {u} {v} {z} h l two er eu ev ez eg put =
+  approx-from x i r {u} {v} {z} l two er eu ev ez =
       let y = decode k x in
-      front-more h refl l
-      (eg
-      ∙ rw (
+      rw (
         word-wrap w,
         length-tabulate (detailsLength (length y)) (detail (wrap k) y),
         length-decode k x,
@@ -163,8 +161,13 @@ module _ {k : ℕ} (w : Width k) where
         detail-val y r z ez,
         getD-tabulate (detailsLength (length x / k)) (detail (wrap k) y) (i - 1) (pos 0) (omega arith),
         getD-tabulate (detailsLength (length x / k)) (detail (wrap k) y) r (pos 0) (omega arith),
-      ))
-      put
+      )
+
+  -- one approximation more
+  pub approx-more : (x : List ℕ) (i r : ℕ) {u v z g : ℕ} {s t : List ℕ} → Front k (approxLength (length x / k)) i (approxWord k x) s → i < approxLength (length x / k) → 2 ≤ length x / k → r ≡ min i (detailsLength (length x / k) - 1)
+      → u ≡ wordAt k x (2 * i) → v ≡ detailWord k x (i - 1) → z ≡ detailWord k x r
+      → g ≡ residue (256 ^ k) (val (256 ^ k) u +ℤ shrZ (val (256 ^ k) v +ℤ val (256 ^ k) z +ℤ pos 2) 4) → t ≡ putAt k s i g → Front k (approxLength (length x / k)) (i + 1) (approxWord k x) t
+  approx-more x i r h l two er eu ev ez eg put = front-more h refl l (eg ∙ approx-from x i r l two er eu ev ez) put
 
   -- all approximations
   pub approximated : (x a : List ℕ) (i : ℕ) → Front k (approxLength (length x / k)) i (approxWord k x) a → i ≡ approxLength (length x / k) → a ≡ low k x

@@ -4,3 +4,4 @@ pub mod Fused
 pub mod Done
 pub mod ShutOut
 pub mod Book
+pub mod Stream

@@ -1,3 +1,4 @@
 pub mod Worked
 pub mod ShutOut
 pub mod Book
+pub mod Stream

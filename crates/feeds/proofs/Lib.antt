@@ -1,0 +1,5 @@
+pub mod Onward
+pub mod Fed
+pub mod Every
+pub mod Left
+pub mod Forward

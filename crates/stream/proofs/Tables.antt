@@ -1,0 +1,81 @@
+-- Areas of words: one that is not empty, and one that holds a part of a band. Over the width.
+use mathlib.Core.List.{List, [], _∷_, _++_}
+use mathlib.Core.Logic.{⊎-elim}
+use mathlib.Core.Path.{_≡_, refl, sym, ap, _∙_}
+use Prim.Native.Nat.{ℕ, zero, suc, _+_, _-_, _/_, _^_, _≤_, _<_}
+use native.Mathlib.Nat.{mul-zero, mul-one, mod-eq-of-lt}
+use native.Mathlib.Omega.{arith}
+use lib.ListN.{length, take, drop, length-drop}
+use lib.Seq.{ext-getD, getD-drop, getD-take, length-take-le}
+use Rattle.order.proofs.Order.{lt-or-le}
+use Rattle.sizes.specs.Lengths.{approxLength, detailsLength}
+use Rattle.samples.specs.Words.{tabulate, wordAt, bytesOf, Holds, Front}
+use Rattle.samples.specs.Integers.{wrap, decode}
+use Rattle.samples.proofs.Words.{length-tabulate, getD-tabulate, tabulate-same, bytes-append, word-bytes, bytes-take, bytes-drop}
+use Rattle.samples.proofs.Fronts.{front-all}
+use Rattle.samples.proofs.IntegerLaws.{length-decode, encode-tabulate}
+use Rattle.cdf53i.specs.Lift.{detail, details, approx, approxs}
+use Rattle.cdf53i.specs.Bands.{low, high, detailWord, approxWord}
+use Rattle.stream.specs.Calls.{between}
+
+-- an area that is not empty holds a word
+pub some-words : {k n : ℕ} {s : List ℕ} → Holds k n s → (length s ≡ 0 → ⊥) → 0 < n
+some-words {k} {n} h ne = ⊎-elim (λ l. l) (λ l. let e : n ≡ 0 = omega arith in absurd (ne (h .size ∙ rw e (mul-zero k)))) (lt-or-le 0 n)
+
+-- the first word that is stored
+pub first-word : {k n : ℕ} {g : ℕ → ℕ} {s : List ℕ} → Front k n 1 g s → take k s ≡ bytesOf k (tabulate 1 g)
+first-word {k} {s = s} h = ap (λ (e : ℕ). take e s) (sym (mul-one k)) ∙ h .front
+
+part : (i j n : ℕ) (g : ℕ → ℕ) → i ≤ j → j ≤ n → drop i (take j (tabulate n g)) ≡ tabulate (j - i) (λ p. g (i + p))
+part i j n g h l =
+    let all = length-tabulate n g in
+    let front : length (take j (tabulate n g)) ≡ j = length-take-le j (tabulate n g) (omega arith) in
+    let len : length (drop i (take j (tabulate n g))) ≡ j - i = length-drop i (take j (tabulate n g)) ∙ ap (λ (p : ℕ). p - i) front in
+    ext-getD 0 (drop i (take j (tabulate n g))) (tabulate (j - i) (λ p. g (i + p))) (len ∙ sym (length-tabulate (j - i) (λ p. g (i + p))))
+    (λ p q.
+    getD-drop i (take j (tabulate n g)) p 0
+    ∙ getD-take j (tabulate n g) (i + p) 0 (omega (arith, len))
+    ∙ getD-tabulate n g (i + p) 0 (omega (arith, len))
+    ∙ sym (getD-tabulate (j - i) (λ p. g (i + p)) p 0 (omega (arith, len))))
+
+-- a table is its first entry and the others
+table-first : (n : ℕ) (g : ℕ → ℕ) → tabulate (suc n) g ≡ g 0 ∷ tabulate n (λ p. g (1 + p))
+unfolding tabulate
+table-first zero g = refl
+table-first (suc n) g = rw (table-first n g) (ap (λ (p : ℕ). g 0 ∷ (tabulate n (λ p. g (1 + p)) ++ (g p ∷ []))) (omega arith))
+
+module _ (k : ℕ) where
+  -- a word of a table
+  pub table-word : (n : ℕ) (g : ℕ → ℕ) (j : ℕ) → j < n → g j < 256 ^ k → wordAt k (bytesOf k (tabulate n g)) j ≡ g j
+  table-word n g j h l = word-bytes k (tabulate n g) j (rw (length-tabulate n g) h) ∙ rw (getD-tabulate n g j 0 h) (mod-eq-of-lt l)
+
+  pub first-others : (n : ℕ) (g h : ℕ → ℕ) → 0 < n → ((p : ℕ) → 1 + p < n → h p ≡ g (1 + p)) → bytesOf k (tabulate 1 g) ++ bytesOf k (tabulate (n - 1) h) ≡ bytesOf k (tabulate n g)
+  unfolding tabulate
+  first-others n g h some e =
+      let more : n ≡ suc (n - 1) = omega arith in
+      sym (bytes-append k (tabulate 1 g) (tabulate (n - 1) h))
+      ∙ ap (bytesOf k)
+      (ap (λ r. g 0 ∷ r) (tabulate-same (n - 1) h (λ p. g (1 + p)) (λ p l. e p (omega arith))) ∙ sym (table-first (n - 1) g) ∙ ap (λ (m : ℕ). tabulate m g) (sym more))
+
+  between-table : (i j n : ℕ) (g : ℕ → ℕ) → i ≤ j → j ≤ n → between k i j (bytesOf k (tabulate n g)) ≡ bytesOf k (tabulate (j - i) (λ p. g (i + p)))
+  between-table i j n g h l = rw (bytes-take k (tabulate n g) j, bytes-drop k (take j (tabulate n g)) i, part i j n g h l)
+
+  -- coefficients i to j of each band, by their words
+  pub between-low : (x : List ℕ) (i j : ℕ) → i ≤ j → j ≤ approxLength (length x / k) → between k i j (low k x) ≡ bytesOf k (tabulate (j - i) (λ p. approxWord k x (i + p)))
+  unfolding low approxs approxWord
+  between-low x i j h l =
+      rw (length-decode k x, encode-tabulate k (approxLength (length x / k)) (approx (wrap k) (decode k x) (details (wrap k) (decode k x))))
+      (between-table i j (approxLength (length x / k)) (approxWord k x) h l)
+
+  pub between-high : (x : List ℕ) (i j : ℕ) → i ≤ j → j ≤ detailsLength (length x / k) → between k i j (high k x) ≡ bytesOf k (tabulate (j - i) (λ p. detailWord k x (i + p)))
+  unfolding high details detailWord
+  between-high x i j h l =
+      rw (length-decode k x, encode-tabulate k (detailsLength (length x / k)) (detail (wrap k) (decode k x)))
+      (between-table i j (detailsLength (length x / k)) (detailWord k x) h l)
+
+  -- an area that holds these words is that part of the band
+  pub lows-are : (x : List ℕ) (i j : ℕ) {a : List ℕ} → i ≤ j → j ≤ approxLength (length x / k) → Front k (j - i) (j - i) (λ p. approxWord k x (i + p)) a → a ≡ between k i j (low k x)
+  lows-are x i j h l f = front-all _ f refl refl ∙ sym (between-low x i j h l)
+
+  pub highs-are : (x : List ℕ) (i j : ℕ) {d : List ℕ} → i ≤ j → j ≤ detailsLength (length x / k) → Front k (j - i) (j - i) (λ p. detailWord k x (i + p)) d → d ≡ between k i j (high k x)
+  highs-are x i j h l f = front-all _ f refl refl ∙ sym (between-high x i j h l)

@@ -1,0 +1,3 @@
+pub mod States
+pub mod Calls
+pub mod Steps
