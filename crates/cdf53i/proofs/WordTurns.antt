@@ -3,17 +3,16 @@ use mathlib.Core.Path.{_≡_, refl, sym, ap, subst, _∙_}
 use mathlib.Core.List.{List}
 use mathlib.Core.Logic.{⊎-elim}
 use Prim.Native.Nat.{ℕ, _+_, _-_, _*_, _/_, _%_, _^_, _≤_, _<_, min}
-use native.Mathlib.Nat.{mod-eq-of-lt}
 use native.Mathlib.Omega.{arith}
 use borrow.Author.Tests.{eq-eqb, ne-eqb}
 use lib.IntN.{ℤ, pos, _+ℤ_, _-ℤ_}
 use lib.Signed.{shrZ}
 use lib.ListN.{length}
 use Rattle.sizes.specs.Lengths.{approxLength, detailsLength}
-use Rattle.samples.specs.Words.{tabulate, wordAt, putAt, Holds, Front}
+use Rattle.samples.specs.Words.{wordAt, putAt, Holds, Front}
 use Rattle.samples.specs.Integers.{val, residue, wrap, decode, Width}
 use Rattle.samples.proofs.LeLaws.{top-pos}
-use Rattle.samples.proofs.Words.{word-take, word-bytes, length-tabulate, getD-tabulate, holds, holds-on}
+use Rattle.samples.proofs.Words.{word-take, word-table, length-tabulate, getD-tabulate, holds, holds-on}
 use Rattle.samples.proofs.Fronts.{front-more, front-all}
 use Rattle.samples.proofs.IntegerLaws.{length-decode, at-decode, encode-tabulate, word-wrap, residue-lt}
 use Rattle.cdf53i.specs.Lift.{detail, details, approx, approxs, even, odd, sample, restored}
@@ -24,8 +23,7 @@ pub front-read : {k n i : ℕ} {g : ℕ → ℕ} {s : List ℕ} (j : ℕ) → Fr
 front-read {k} {n} {i} {g} {s} j h l b =
     sym (word-take k s i j l)
     ∙ ap (λ (w : List ℕ). wordAt k w j) (h .front)
-    ∙ word-bytes k (tabulate i g) j (rw (length-tabulate i g) l)
-    ∙ rw (getD-tabulate i g j 0 l) (mod-eq-of-lt b)
+    ∙ word-table k i g j l b
 
 -- the words are as many as the list holds now
 pub front-now : {k n i : ℕ} {g : ℕ → ℕ} {s : List ℕ} → Front k n i g s → Front k (length s / k) i g s

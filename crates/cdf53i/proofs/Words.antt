@@ -1,15 +1,14 @@
 -- One word of what the filter makes: of the approximations, of the details and of the samples. Once over the width.
 use mathlib.Core.List.{List}
-use mathlib.Core.Path.{_≡_, ap, _∙_}
-use Prim.Native.Nat.{ℕ, _+_, _/_, _%_, _^_, _<_}
-use native.Mathlib.Nat.{mod-eq-of-lt}
+use mathlib.Core.Path.{_≡_}
+use Prim.Native.Nat.{ℕ, _+_, _/_, _^_, _<_}
 use lib.IntN.{ℤ}
 use lib.ListN.{length}
 use Rattle.sizes.specs.Lengths.{approxLength, detailsLength}
 use Rattle.samples.specs.Words.{tabulate, wordAt}
 use Rattle.samples.specs.Integers.{residue, wrap, decode, encode}
 use Rattle.samples.proofs.LeLaws.{top-pos}
-use Rattle.samples.proofs.Words.{length-tabulate, getD-tabulate, word-bytes}
+use Rattle.samples.proofs.Words.{word-table}
 use Rattle.samples.proofs.IntegerLaws.{residue-lt, length-decode, encode-tabulate}
 use Rattle.cdf53i.specs.Lift.{evenCount, oddCount, detail, details, approx, approxs, sample, restored}
 use Rattle.cdf53i.specs.Bands.{low, high, back, detailWord, approxWord, sampleWord}
@@ -19,9 +18,7 @@ module _ (k : ℕ) where
   pub word-encode : (n : ℕ) (g : ℕ → ℤ) (i : ℕ) → i < n → wordAt k (encode k (tabulate n g)) i ≡ residue (256 ^ k) (g i)
   word-encode n g i h =
       let f : ℕ → ℕ = λ j. residue (256 ^ k) (g j) in
-      rw (encode-tabulate k n g)
-      (word-bytes k (tabulate n f) i (rw (length-tabulate n f) h)
-      ∙ rw (getD-tabulate n f i 0 h) (mod-eq-of-lt (residue-lt (256 ^ k) (g i) (top-pos k))))
+      rw (encode-tabulate k n g) (word-table k n f i h (residue-lt (256 ^ k) (g i) (top-pos k)))
 
   pub low-word : (x : List ℕ) (i : ℕ) → i < approxLength (length x / k) → wordAt k (low k x) i ≡ approxWord k x i
   unfolding low approxs approxWord

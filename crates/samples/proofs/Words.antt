@@ -159,6 +159,10 @@ module _ (k : ℕ) where
       let e : k * suc i ≡ length (leBytes k u) + k * i = rw (length-leBytes, mul-suc) (omega arith) in
       rw (e, leAt-skip) (word-bytes us i (le-of-suc-le-suc h))
 
+  -- word i of the bytes of a table
+  pub word-table : (n : ℕ) (g : ℕ → ℕ) (i : ℕ) → i < n → g i < 256 ^ k → wordAt k (bytesOf k (tabulate n g)) i ≡ g i
+  word-table n g i h l = word-bytes (tabulate n g) i (rw (length-tabulate n g) h) ∙ rw (getD-tabulate n g i 0 h) (mod-eq-of-lt l)
+
   -- words to bytes and back: each is kept modulo 256 ^ k
   pub words-bytes : 0 < k → (n : ℕ) (g : ℕ → ℕ) → wordsOf k (bytesOf k (tabulate n g)) ≡ tabulate n (λ i. g i % 256 ^ k)
   unfolding wordsOf

@@ -13,7 +13,7 @@ use Rattle.samples.specs.Le.{Bytes}
 use Rattle.samples.specs.Words.{tabulate, wordAt}
 use Rattle.samples.specs.Integers.{Width, val, residue, wrap}
 use Rattle.samples.proofs.LeLaws.{top-pos}
-use Rattle.samples.proofs.Words.{holds, length-tabulate, length-bytes, word-take}
+use Rattle.samples.proofs.Words.{holds, length-tabulate, length-bytes, word-take, word-table}
 use Rattle.samples.proofs.IntegerLaws.{residue-lt, word-val, word-wrap}
 use Rattle.cdf53i.specs.Lift.{floorDiv}
 use Rattle.cdf53i.specs.Bands.{high, detailWord}
@@ -23,7 +23,6 @@ use Rattle.cdf53i.proofs.Undo.{undoes-wrap}
 use Rattle.cdf53i.proofs.Lengths.{bytes-of}
 use Rattle.stream.specs.declared.state.Recorder.{Recorder}
 use Rattle.stream.specs.States.{fixed, waiting, stateOf, bound, standWord, standIn, Possible}
-use Rattle.stream.proofs.Tables.{table-word}
 use Rattle.stream.proofs.States.{word-past, word-none, kept-or, kept-small}
 
 -- what is kept of a sum with t, less t, is the word that t was added to
@@ -55,7 +54,7 @@ module _ {k : ℕ} (w : Width k) (s : Recorder) (p : Possible k s) where
   -- a word of the table
   stand-word : (j u : ℕ) → j < s .total → standWord k s j ≡ u → u < 256 ^ k → wordAt k x j ≡ u
   unfolding standIn
-  stand-word j u h e l = table-word k (s .total) (standWord k s) j h (rw e l) ∙ e
+  stand-word j u h e l = word-table k (s .total) (standWord k s) j h (rw e l) ∙ e
 
   -- ---- what waits: the words from 2 * m on
 

@@ -2,16 +2,16 @@
 use mathlib.Core.List.{List, [], _∷_, _++_}
 use mathlib.Core.Logic.{⊎-elim}
 use mathlib.Core.Path.{_≡_, refl, sym, ap, _∙_}
-use Prim.Native.Nat.{ℕ, zero, suc, _+_, _-_, _/_, _^_, _≤_, _<_}
-use native.Mathlib.Nat.{mul-zero, mul-one, mod-eq-of-lt}
+use Prim.Native.Nat.{ℕ, zero, suc, _+_, _-_, _/_, _≤_, _<_}
+use native.Mathlib.Nat.{mul-zero, mul-one}
 use native.Mathlib.Omega.{arith}
 use lib.ListN.{length, take, drop, length-drop}
 use lib.Seq.{ext-getD, getD-drop, getD-take, length-take-le}
 use Rattle.order.proofs.Order.{lt-or-le}
 use Rattle.sizes.specs.Lengths.{approxLength, detailsLength}
-use Rattle.samples.specs.Words.{tabulate, wordAt, bytesOf, Holds, Front}
+use Rattle.samples.specs.Words.{tabulate, bytesOf, Holds, Front}
 use Rattle.samples.specs.Integers.{wrap, decode}
-use Rattle.samples.proofs.Words.{length-tabulate, getD-tabulate, tabulate-same, bytes-append, word-bytes, bytes-take, bytes-drop}
+use Rattle.samples.proofs.Words.{length-tabulate, getD-tabulate, tabulate-same, bytes-append, bytes-take, bytes-drop}
 use Rattle.samples.proofs.Fronts.{front-all}
 use Rattle.samples.proofs.IntegerLaws.{length-decode, encode-tabulate}
 use Rattle.cdf53i.specs.Lift.{detail, details, approx, approxs}
@@ -45,10 +45,6 @@ table-first zero g = refl
 table-first (suc n) g = rw (table-first n g) (ap (λ (p : ℕ). g 0 ∷ (tabulate n (λ p. g (1 + p)) ++ (g p ∷ []))) (omega arith))
 
 module _ (k : ℕ) where
-  -- a word of a table
-  pub table-word : (n : ℕ) (g : ℕ → ℕ) (j : ℕ) → j < n → g j < 256 ^ k → wordAt k (bytesOf k (tabulate n g)) j ≡ g j
-  table-word n g j h l = word-bytes k (tabulate n g) j (rw (length-tabulate n g) h) ∙ rw (getD-tabulate n g j 0 h) (mod-eq-of-lt l)
-
   pub first-others : (n : ℕ) (g h : ℕ → ℕ) → 0 < n → ((p : ℕ) → 1 + p < n → h p ≡ g (1 + p)) → bytesOf k (tabulate 1 g) ++ bytesOf k (tabulate (n - 1) h) ≡ bytesOf k (tabulate n g)
   unfolding tabulate
   first-others n g h some e =

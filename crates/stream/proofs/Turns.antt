@@ -13,7 +13,7 @@ use lib.Signed.{shrZ}
 use Rattle.samples.specs.Words.{tabulate, wordAt, bytesOf, Holds, Front}
 use Rattle.samples.specs.Integers.{Width, val, residue}
 use Rattle.samples.proofs.LeLaws.{top-pos}
-use Rattle.samples.proofs.Words.{holds, word-drop}
+use Rattle.samples.proofs.Words.{holds, word-drop, word-table}
 use Rattle.samples.proofs.IntegerLaws.{residue-lt}
 use Rattle.cdf53i.specs.Bands.{detailWord}
 use Rattle.cdf53i.proofs.WordTurns.{sampleAt, detail-at, approx-from}
@@ -22,7 +22,7 @@ use Rattle.stream.specs.States.{fixed, waiting, standIn}
 use Rattle.stream.specs.Steps.{nextWord, nextDetail, nextApprox, newly, Taking, approxAmong}
 use Rattle.stream.proofs.States.{word-past, kept-small}
 use Rattle.stream.proofs.Joins.{joined, earlier, later}
-use Rattle.stream.proofs.Tables.{table-word, first-word, first-others}
+use Rattle.stream.proofs.Tables.{first-word, first-others}
 use Rattle.stream.proofs.Stands.{length-stand, count-stand, even-is, odd-is, detail-kept}
 
 -- a detail that mirrors nothing, from the words that it reads
@@ -137,7 +137,7 @@ module _ {k : ℕ} {s : Recorder} {y : List ℕ} (g : Taking k s y) where
 
       detail-read : (j : ℕ) → j < newly k s y → wordAt k d₂ j ≡ nextDetail k s y j
       unfolding detailWord
-      detail-read j h = ap (λ (l : List ℕ). wordAt k l j) details-all ∙ table-word k (newly k s y) (nextDetail k s y) j h (residue-lt (256 ^ k) _ (top-pos k))
+      detail-read j h = ap (λ (l : List ℕ). wordAt k l j) details-all ∙ word-table k (newly k s y) (nextDetail k s y) j h (residue-lt (256 ^ k) _ (top-pos k))
 
       pub approxs-all : {a₁ a₂ : List ℕ} → Front k (newly k s y) 1 (nextApprox k s y) a₁ → a₂ ≡ take k a₁ ++ bytesOf k (tabulate (length d₁ / k - 1) (approxAmong k z d₂))
           → a₂ ≡ bytesOf k (tabulate (newly k s y) (nextApprox k s y))

@@ -11,7 +11,7 @@ use lib.Dec.{eqb}
 use lib.ListN.{length, take}
 use Rattle.samples.specs.Words.{tabulate, wordAt, bytesOf, Holds}
 use Rattle.samples.proofs.LeLaws.{top-pos}
-use Rattle.samples.proofs.Words.{holds, length-bytes, length-tabulate, word-take}
+use Rattle.samples.proofs.Words.{holds, length-bytes, length-tabulate, word-take, word-table}
 use Rattle.samples.proofs.IntegerLaws.{residue-lt}
 use Rattle.cdf53i.specs.Bands.{high, detailWord}
 use Rattle.cdf53i.proofs.Words.{high-word}
@@ -20,7 +20,7 @@ use Rattle.stream.specs.States.{fixed, stateOf, standIn}
 use Rattle.stream.specs.Calls.{fixedBy}
 use Rattle.stream.specs.Steps.{nextWord, nextDetail, newly, Taking}
 use Rattle.stream.proofs.States.{word-none, kept-or}
-use Rattle.stream.proofs.Tables.{table-word, between-high}
+use Rattle.stream.proofs.Tables.{between-high}
 use Rattle.stream.proofs.Turns.{count, detail-before}
 use Rattle.stream.proofs.bands.next.Statement.{statement}
 use Rattle.stream.proofs.bands.next.Tie as tie
@@ -67,7 +67,7 @@ module _ {k : ℕ} {s : Recorder} {y : List ℕ} (g : Taking k s y) where
         pick false h =
             let some = eqb-false (newly k s y) 0 h in
             ap (λ (l : List ℕ). wordAt k l (newly k s y - 1)) words
-            ∙ table-word k (newly k s y) (nextDetail k s y) (newly k s y - 1) (omega arith) (residue-lt (256 ^ k) _ (top-pos k))
+            ∙ word-table k (newly k s y) (nextDetail k s y) (newly k s y - 1) (omega arith) (residue-lt (256 ^ k) _ (top-pos k))
             ∙ ap (detailWord k x) (omega arith)
             ∙ written (omega arith)
 
