@@ -549,6 +549,7 @@ static void tour_refused_transforms(void) {
     uint8_t x[8] = {0, 3, 252, 1, 7, 0, 0, 0}, a[8], d[8], w[8];
     provoked(BK_MIN_FILTER_SIZE, "one level of 2 samples", bk_cdf53_forward_i8(x, 2, a, 1, d, 1));
     provoked(BK_APPROX_SIZE_NOT_MATCHES, "room for 2 approximations of 5 samples", bk_cdf53_forward_i8(x, 5, a, 2, d, 2));
+    provoked(BK_DETAILS_SIZE_NOT_MATCHES, "room for 1 detail of 5 samples", bk_cdf53_forward_i8(x, 5, a, 3, d, 1));
     provoked(BK_OUTPUT_SIZE_IS_NOT_VALID, "5 samples back into room for 4", bk_cdf53_inverse_i8(x, 3, x + 3, 2, d, 4));
     provoked(BK_BUFFER_WAS_TOO_SMALL_FOR_LEVEL, "3 levels of 5 samples", bk_cdf53_multi_dwt_i8(x, 5, 3, a, 5, d, 5, w, 5));
     provoked(BK_ZEROED_BASE_SIZE, "many levels back without a length",

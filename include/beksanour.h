@@ -55,6 +55,12 @@
  * fewer than 64 points are held. Do not ask so with a piece of a recording: one that writes no coefficient needs no room, and is
  * taken. bk_stream_written says beforehand what a piece writes.
  *
+ * Which band is wrong. 2 is said of the approximations and 17 of the details, 2 first. Forward and dwt know the length of a level,
+ * so the number names the band. The inverse and multi_idwt go back, and know it only as the sum of the two bands: they say 17 only
+ * where 2 approximations come with too few details, in multi_idwt at the deepest level: 17 (1, 0) in 5/3, 17 (2, 0) and 17 (2, 1)
+ * in 9/7. All other bands that do not fit each other are 2, though the wrong one may be the details: 3 approximations and 1 detail
+ * are 2 (2, 3). After a 2 of these calls look at both.
+ *
  * A file whose width and point are not known. bk_pyramid_head reads them; hand them to bk_pyramid_open, which then refuses the
  * file only for what is wrong in it, or for the areas (7, 9). A head's width may be any byte, 0 too: bk_pyramid_open refuses it
  * with 8 if it is not 1, 2 or 4. Check it before you divide by it, or probe with empty areas. The head's samples is the n that
@@ -102,7 +108,7 @@ extern "C" {
 
 /* The version of this header and of the library that is installed with it; CHANGELOG.md has what changed. */
 #define BK_VERSION_MAJOR 0
-#define BK_VERSION_MINOR 8
+#define BK_VERSION_MINOR 9
 #define BK_VERSION_PATCH 0
 
 /*
@@ -116,11 +122,16 @@ typedef struct bk_answer {
     uint64_t second;
 } bk_answer;
 
-/* The refusals, with their two numbers. 17 to 19 are kept for later versions. */
+/*
+ * The refusals, with their two numbers. 18 and 19 are kept for later versions. 17 is new in 0.9.0: before, a wrong length of
+ * the details was 2 too, in the inverse and multi_idwt with the numbers of the approximations.
+ */
 enum {
     BK_DONE = 0,
     BK_MIN_FILTER_SIZE = 1,                /* the input is too short: its samples, the smallest input */
-    BK_APPROX_SIZE_NOT_MATCHES = 2,        /* a band's length is wrong: see the call */
+    BK_APPROX_SIZE_NOT_MATCHES = 2,        /* the approximations have a wrong length: got, the level's input length;
+                                              of the calls that go back: expected, got, and there the details may be
+                                              at fault: see "Which band is wrong" above */
     BK_OUTPUT_SIZE_IS_NOT_VALID = 3,       /* the output's length is wrong: got, wanted */
     BK_BUFFER_WAS_TOO_SMALL_FOR_LEVEL = 4, /* the recording has too few levels */
     BK_ZEROED_BASE_SIZE = 5,               /* no details list, or no approximations */
@@ -140,7 +151,9 @@ enum {
     BK_NO_SUCH_PLACE = 13,                 /* a place outside its range: the place, the limit */
     BK_BOOK_FULL = 14,                     /* the book holds 64 points, or has too little free room */
     BK_ALREADY_HELD = 15,                  /* the book holds a file of this point */
-    BK_NOT_HELD = 16                       /* the book holds no file of this point */
+    BK_NOT_HELD = 16,                      /* the book holds no file of this point */
+    BK_DETAILS_SIZE_NOT_MATCHES = 17       /* the details have a wrong length, and the approximations the right one: got, the
+                                              level's input length; of the calls that go back: expected, got */
 };
 
 /* The name of an answer's number, as in the list above; of a number that is not in it "unknown". */
@@ -163,6 +176,7 @@ static inline const char *bk_refusal_name(uint32_t number) {
     case BK_BOOK_FULL: return "BK_BOOK_FULL";
     case BK_ALREADY_HELD: return "BK_ALREADY_HELD";
     case BK_NOT_HELD: return "BK_NOT_HELD";
+    case BK_DETAILS_SIZE_NOT_MATCHES: return "BK_DETAILS_SIZE_NOT_MATCHES";
     default: return "unknown";
     }
 }
@@ -172,7 +186,7 @@ static inline const char *bk_refusal_sentence(uint32_t number) {
     switch (number) {
     case BK_DONE: return "The call is done.";
     case BK_MIN_FILTER_SIZE: return "The recording is too short for one level.";
-    case BK_APPROX_SIZE_NOT_MATCHES: return "A band does not have the length that its level gives.";
+    case BK_APPROX_SIZE_NOT_MATCHES: return "The approximations do not fit their level; going back, the details may be at fault.";
     case BK_OUTPUT_SIZE_IS_NOT_VALID: return "The output does not have the length that the result has.";
     case BK_BUFFER_WAS_TOO_SMALL_FOR_LEVEL: return "The number of levels does not fit the length of the recording.";
     case BK_ZEROED_BASE_SIZE: return "There are no lengths of details, or no approximations, to start from.";
@@ -187,6 +201,7 @@ static inline const char *bk_refusal_sentence(uint32_t number) {
     case BK_BOOK_FULL: return "The book holds 64 points, or has too little free room for the file.";
     case BK_ALREADY_HELD: return "The book holds a file of this measuring point already.";
     case BK_NOT_HELD: return "The book holds no file of this measuring point.";
+    case BK_DETAILS_SIZE_NOT_MATCHES: return "The details do not have the length that their level gives.";
     default: return "unknown";
     }
 }
@@ -215,7 +230,7 @@ bk_answer bk_cdf97_depth(uint64_t n);
  *   6               over 16,777,216 samples
  *   1 (n, 3)        fewer than 3 samples
  *   2 (got, n)      approx does not hold ceil(n/2) samples
- *   2 (got, n)      details does not hold floor(n/2) samples
+ *   17 (got, n)     details does not hold floor(n/2) samples
  */
 bk_answer bk_cdf53_forward_i8(const uint8_t *input, size_t input_bytes, uint8_t *approx, size_t approx_bytes,
                               uint8_t *details, size_t details_bytes);
@@ -230,9 +245,10 @@ bk_answer bk_cdf53_forward_i32(const uint8_t *input, size_t input_bytes, uint8_t
  * Refused, in this order:
  *   9 (0, length)        a slice's byte length is no multiple of the width: the first of approx, details, output
  *   6                    a slice of over 16,777,216 samples
- *   3 (got, wanted)      output does not hold as many samples as the two bands together
- *   2 (expected, got)    approx is not the band of so many samples: ceil(n/2), but at least 2
- *   2 (expected, got)    details is not: floor(n/2), but at least 1; the numbers are those of approx
+ *   3 (got, n)           output does not hold n samples, as many as the two bands together
+ *   2 (expected, got)    approx does not hold ceil(n/2) samples, or 2 if that is more
+ *   17 (expected, got)   details does not hold floor(n/2) samples, or 1 if that is more
+ * 2 may be the details' fault: see "Which band is wrong" above.
  */
 bk_answer bk_cdf53_inverse_i8(const uint8_t *approx, size_t approx_bytes, const uint8_t *details, size_t details_bytes,
                               uint8_t *output, size_t output_bytes);
@@ -262,7 +278,7 @@ bk_answer bk_cdf53_inverse_i32(const uint8_t *approx, size_t approx_bytes, const
  *   6               over 16,777,216 samples
  *   1 (n, least)    fewer than 3 samples (5/3), fewer than 4 (9/7)
  *   2 (got, n)      approx does not hold ceil(n/2) samples
- *   2 (got, n)      details does not hold floor(n/2) samples
+ *   17 (got, n)     details does not hold floor(n/2) samples
  */
 bk_answer bk_cdf53_forward_f32(const uint8_t *input, size_t input_bytes, uint8_t *approx, size_t approx_bytes,
                                uint8_t *details, size_t details_bytes);
@@ -284,9 +300,10 @@ bk_answer bk_cdf97_forward_f64(const uint8_t *input, size_t input_bytes, uint8_t
  * Refused, in this order:
  *   9 (0, length)        a slice's byte length is no multiple of the width: the first of approx, details, output
  *   6                    a slice of over 16,777,216 samples
- *   3 (got, wanted)      output does not hold as many samples as the two bands together
- *   2 (expected, got)    approx is not the band of so many samples: ceil(n/2), but at least 2
- *   2 (expected, got)    details is not: floor(n/2), but at least 1 (5/3) or 2 (9/7); the numbers are those of approx
+ *   3 (got, n)           output does not hold n samples, as many as the two bands together
+ *   2 (expected, got)    approx does not hold ceil(n/2) samples, or 2 if that is more
+ *   17 (expected, got)   details does not hold floor(n/2) samples, or 1 (5/3) or 2 (9/7) if that is more
+ * 2 may be the details' fault: see "Which band is wrong" above.
  */
 bk_answer bk_cdf53_inverse_f32(const uint8_t *approx, size_t approx_bytes, const uint8_t *details, size_t details_bytes,
                                uint8_t *output, size_t output_bytes);
@@ -308,7 +325,7 @@ bk_answer bk_cdf97_inverse_f64(const uint8_t *approx, size_t approx_bytes, const
  *   6               over 16,777,216 samples
  *   4               fewer levels in the recording than asked, or none
  *   2 (got, m)      approx does not hold ceil(m/2) samples
- *   2 (got, m)      details does not hold floor(m/2) samples
+ *   17 (got, m)     details does not hold floor(m/2) samples
  *   7 (have, n)     work1 holds fewer than n samples, then work2
  */
 bk_answer bk_cdf53_dwt_i8(const uint8_t *signal, size_t signal_bytes, uint32_t levels, uint8_t *approx,
@@ -384,13 +401,13 @@ bk_answer bk_cdf97_multi_dwt_f64(const uint8_t *signal, size_t signal_bytes, uin
  *   6                    over 16,777,216 samples in output, approx or details, or more than 23 lengths
  *   5                    no lengths, or no approximations
  *   9 (0, sum)           the lengths add up to sum, and not to the samples in details
- *   2 (expected, got)    level by level, from the deepest: the approximations, in approx or restored by the level before, are
- *                        not the band of m samples, m being those and the level's details together: ceil(m/2), but at least 2
- *   2 (expected, got)    at the same level: the details are not: floor(m/2), but at least 1 (5/3) or 2 (9/7); the numbers are
- *                        those of the approximations
+ *   2 (expected, got)    level by level, from the deepest, m being the samples of its two bands together: the approximations,
+ *                        in approx or restored by the level before, are not ceil(m/2) samples, or 2 if that is more
+ *   17 (expected, got)   at the same level: its details are not floor(m/2) samples, or 1 (5/3) or 2 (9/7) if that is more
  *   3 (got, n)           output does not hold n samples
  *   7 (have, n)          work1 holds fewer than n samples, then work2
  * Which 9 it is: a length where one of the six byte lengths is ragged, else the sum.
+ * 2 may be the details' fault: see "Which band is wrong" above.
  */
 bk_answer bk_cdf53_multi_idwt_i8(const uint8_t *approx, size_t approx_bytes, const uint8_t *details,
                                  size_t details_bytes, const uint8_t *lengths, size_t lengths_bytes, uint8_t *output,

@@ -7,8 +7,10 @@
 # --minutes asks --small and then rounds of --drawn, at least one, until the time is over. Each round has a seed of its
 # own, which is told where something differs, so that the round can be asked again. tests/run takes --minutes 0.
 #
-# The desk's answer must be the Rust's, and document 01's where it adds a refusal of its own, and the suite's where it
-# knows one; a request that none of them answers, or that is no call to either server, is a difference too. The shortest
+# The desk's answer must be the Rust's, and document 01's where it adds a refusal of its own, and document 02's where a
+# band is wrong, and the suite's where it knows one; a request that none of them answers, or that is no call to either
+# server, is a difference too. What the Rust says of wrong details is changed by the oracle (tests/oracle/requests.rs); in
+# tests/tally.py the lengths alone tell which band is wrong, and no other request may be answered with 2 or 17. The shortest
 # request that differs is kept in target/tests/differs.txt, a table for tests/ask.py. A request that takes a server
 # over ten minutes ends the run and is kept there too.
 # What a call must leave alone of lent slices is looked at too. What is counted is in tests/tally.py.

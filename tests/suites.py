@@ -367,6 +367,7 @@ def multi_idwt(random, size):
     yield [(p5, "0 0 0 x0003fc0107 - -")]
     yield from levels_and_back(random, "multi_idwt", of_levels(random, rounds))
     yield from plain(wrong_bands(random))
+    yield from plain(few_details(random))
     yield from plain(wrong_lists(random))
     yield from plain(wrong_rooms(random, "multi_idwt", 3000 * rounds))
     yield from plain(wrong_slices(random, 3000 * rounds))
@@ -540,17 +541,17 @@ def any_rooms(random, verb, count):
         yield LEVELS_CALLS[verb](random, filter, data, random.randrange(5), longer)
 
 
-# Each band of the last level one short and one long, and both, at every level.
+# Each band of the last level one short and one long, and both, at every level, with work areas and without.
 def wrong_last_bands(random):
     for filter, n in product(INTEGERS + FLOATS, (3, 4, 5, 6, 7, 8, 9, 12, 13, 33)):
-        for levels, *steps in product(range(depth_of(filter, n) + 2), (-1, 0, 1), (-1, 0, 1)):
+        for levels, *steps, room in product(range(depth_of(filter, n) + 2), (-1, 0, 1), (-1, 0, 1), (0, -n)):
             data = random.randbytes(filter.width * n)
-            yield dwt_call(random, filter, data, levels, [filter.width * step for step in (*steps, 0, 0)])
+            yield dwt_call(random, filter, data, levels, [filter.width * step for step in (*steps, room, room)])
 
 
-# multi_idwt on random bands of so many samples, with room for them.
-def bands_call(random, filter, approx, details, lengths):
-    counts = [filter.width * count for count in (approx, details, *3 * [approx + details])]
+# multi_idwt on random bands of so many samples; output and work areas are longer by so many samples than they must be.
+def bands_call(random, filter, approx, details, lengths, longer=(0, 0, 0)):
+    counts = [filter.width * count for count in (approx, details, *(approx + details + more for more in longer))]
     first, second, *rooms = map(random.randbytes, counts)
     return filter.request("multi_idwt", [first, second, packed("I", lengths), *rooms])
 
@@ -567,6 +568,17 @@ def wrong_bands(random):
                     wrong = [length + step * (at == place) for at, length in enumerate(lengths)]
                     yield bands_call(random, filter, approx, n - approx + step, wrong)
                     yield bands_call(random, filter, approx, n - approx, wrong)
+
+
+# None and one detail at the deepest level, and up to three levels above it with as many details as approximations. Beside 2
+# approximations this is the one way to a 17 back, but with one detail in 5/3 it is right; beside 1 and 3 it is always a 2.
+# Output and work areas are right or not.
+def few_details(random):
+    for filter, approx, few, levels in product(INTEGERS + FLOATS, (1, 2, 3), (0, 1), range(4)):
+        lengths = [few, *(2**level * (approx + few) for level in range(levels))]
+        n = approx + sum(lengths)
+        for longer in product((-1, 0, 1), (-n, 0), (-n, 0)):
+            yield bands_call(random, filter, approx, n - approx, lengths, longer)
 
 
 # Lists of lengths that are no pyramid's: in another order, with one more or fewer, empty, of the most levels and of one
@@ -718,6 +730,7 @@ def lengths_grid(random, filters):
         for n in range(10):
             for approx, details in product(range(n + 2), repeat=2):
                 yield any_call(random, "forward", filter, n * width, approx * width, details * width)
+        # among them all lengths with a 17 back: 2 approximations, and no detail or in 9/7 one
         for approx, details, n in product(range(7), range(7), range(14)):
             yield any_call(random, "inverse", filter, approx * width, details * width, n * width)
 
@@ -759,8 +772,9 @@ def at_the_limit(random, filters):
         yield any_call(random, "inverse", filter, 0, 0, filter.width * over)
     yield any_call(random, "inverse", first, first.width * over, 0, 0)
     yield any_call(random, "inverse", first, 0, first.width * over, 0)
-    # a band of forward has no limit of its own: 2
+    # a band of forward has no limit of its own: 2, and 17
     yield any_call(random, "forward", first, 5 * first.width, first.width * over, 2 * first.width)
+    yield any_call(random, "forward", first, 5 * first.width, 3 * first.width, first.width * over)
     yield any_call(random, "forward", last, last.width * over, 1, 0)  # 9 comes before 6
     yield any_call(random, "inverse", last, last.width * over, 0, 1)
 

@@ -5,7 +5,7 @@ from collections import Counter, defaultdict
 from typing import NamedTuple
 
 from ask import agree
-from suites import FORMATS, LIMIT, MOST_LEVELS, SLICES, WIDTHS
+from suites import FORMATS, LIMIT, MOST_LEVELS, SLICES, SMALLEST, WIDTHS
 
 # The oracle asks the Rust's multi_dwt for no more levels (TOO_MANY_LEVELS in tests/oracle/requests.rs).
 MOST_ASKED = 32
@@ -45,10 +45,14 @@ def too_long(call, shape, width):
     return ["6 0 0" for place, count in enumerate(call.counts) if count > limits.get(place, count)]
 
 
+def lengths_in(word):
+    return [number for number, in struct.iter_unpack("<I", bytes.fromhex(word[1:]))]
+
+
 def wrong_sum(call, shape, width):
     if shape.lengths is None:
         return []
-    total = sum(number for number, in struct.iter_unpack("<I", bytes.fromhex(call.slices[shape.lengths][1:])))
+    total = sum(lengths_in(call.slices[shape.lengths]))
     return [f"9 0 {total}"] if total * width != call.counts[1] else []
 
 
@@ -79,6 +83,55 @@ def addition(call, rust):
     return None, None
 
 
+# ---- which band is wrong, from the lengths of a request alone: document 01's 2 of approximations, document 02's 17 of details
+
+def half_up(n):
+    return (n + 1) // 2
+
+
+def wrong_forward(n, approx, details):
+    if approx != half_up(n):
+        return f"2 {approx} {n}"
+    return f"17 {details} {n}" if details != n // 2 else None
+
+
+# Level by level from the deepest; the details' least is 1 in 5/3 and 2 in 9/7.
+def wrong_inverse(approx, levels, least):
+    for details in levels:
+        n = approx + details
+        if approx != max(2, half_up(n)):
+            return f"2 {max(2, half_up(n))} {approx}"
+        if details != max(least, n // 2):
+            return f"17 {max(least, n // 2)} {details}"
+        approx = n
+    return None
+
+
+# The length of the last level's input; None where there are not so many levels.
+def last_input(n, levels, smallest):
+    for _ in range(max(1, levels) - 1):
+        if n < smallest:
+            break
+        n = half_up(n)
+    return n if n >= smallest else None
+
+
+# The refusal, of a call that nothing before the bands refuses: not 9, 6, 1, 4, 5, nor, in the inverse, 3.
+def wrong_band(call):
+    if call.verb not in ("forward", "inverse", "dwt", "multi_idwt"):
+        return None
+    shape, width, smallest = SLICES[call.verb], WIDTHS[call.kind], SMALLEST[call.wavelet]
+    if any(refusals(call, shape, width) for refusals in (ragged, too_long, wrong_sum)):
+        return None
+    first, second, third = (count // width for count in call.counts[:3])
+    if call.verb in ("forward", "dwt"):
+        last = last_input(first, call.numbers[0] if call.numbers else 1, smallest)
+        return last and wrong_forward(last, second, third)
+    if call.verb == "inverse":
+        return wrong_inverse(first, [second], smallest - 2) if third == first + second else None
+    return wrong_inverse(first, lengths_in(call.slices[2]), smallest - 2) if first else None
+
+
 # Whether the desk left alone what it must: after a refusal every lent slice, else work areas beyond the samples.
 def spared(call, said):
     if call.verb == "depth":
@@ -94,7 +147,7 @@ def spared(call, said):
 
 # ---- counting
 
-# What of a request the Rust was not asked, or otherwise; None where it was asked all of it.
+# What of a request the Rust was not asked, or otherwise, or what of its answer is changed; None where neither is.
 def apart(call, number, own):
     if own:
         return own
@@ -102,8 +155,10 @@ def apart(call, number, own):
         return "a depth: how far the Rust's dwt goes"
     if call.verb == "multi_dwt" and call.numbers[0] > MOST_ASKED:
         return f"multi_dwt of more than {MOST_ASKED} levels, of the Rust with {MOST_ASKED}"
-    if (call.verb, number) in (("dwt", "2"), ("multi_dwt", "3"), ("multi_idwt", "3")):
+    if (call.verb, number) in (("dwt", "2"), ("dwt", "17"), ("multi_dwt", "3"), ("multi_idwt", "3")):
         return f"{number} of {call.verb}: a lent output's length, which the Rust makes itself"
+    if number == "17":
+        return "17: asked of the Rust, whose 2 is changed"
     return None
 
 
@@ -140,8 +195,14 @@ class Tally:
     def count(self, suite, request, said, rust, wanted):
         call = taken_apart(request)
         own, refusal = addition(call, rust)
-        self.sort(suite, call, said.split(" ")[0], own)
-        known = {"the Rust": None if rust == "-" else rust, "document 01": refusal, "the suite": wanted}
+        number = said.split(" ")[0]
+        self.sort(suite, call, number, own)
+        band = wrong_band(call)
+        if not band and number in ("2", "17"):
+            self.differ(request, said, "document 02", f"no {number}, by the lengths of the bands")
+            return
+        band = band and " ".join([band, *call.slices[-SLICES[call.verb].lent:]])
+        known = {"the Rust": None if rust == "-" else rust, "document 01": refusal, "document 02": band, "the suite": wanted}
         known = {who: answer for who, answer in known.items() if answer is not None}
         for who, answer in known.items() or [("nobody", "an answer")]:
             if not (said[0].isdigit() and agree(answer, said)):
@@ -197,11 +258,14 @@ class Tally:
                 yield f"- {title}: " + "; ".join(f"{name} ({count:,})" for name, count in counts.items())
 
 
+# What the calls that are compared can be refused with.
+REFUSALS = ["1", "2", "3", "4", "5", "6", "7", "9", "17"]
+
+
 # A row for each pair of names: how many, how many done, how many refused with each number.
 def table(first, second, rows):
-    numbers = [str(number) for number in range(14)]
-    yield f"| {first} | {second} | asked | done | {' | '.join(numbers[1:])} |"
-    yield "|---" * (3 + len(numbers)) + "|"
+    yield f"| {first} | {second} | asked | done | {' | '.join(REFUSALS)} |"
+    yield "|---" * (4 + len(REFUSALS)) + "|"
     for names, counts in rows.items():
-        found = [counts.total(), *(counts[number] for number in numbers)]
+        found = [counts.total(), *(counts[number] for number in ["0", *REFUSALS])]
         yield "| " + " | ".join([*names, *(f"{count:,}" for count in found)]) + " |"

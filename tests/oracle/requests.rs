@@ -1,6 +1,8 @@
-// What a request line asks of the Rust, and its answer in document 01's numbers.
-// Answers that document 01 adds to the Rust are `-`, but for the lengths of slices that the Rust would make
-// itself: those stand where document 01's order of checks has them.
+// What a request line asks of the Rust, and its answer in the documents' numbers.
+// Of slices that it would make itself the Rust says nothing: the 2 and 17 of dwt's bands and the 3 of multi_dwt's
+// and multi_idwt's output are said here, by the documents and in their order. Other answers that document 01
+// adds to the Rust are `-`. A wrong details length in another call, which the Rust answers as one of
+// approximations, is answered as document 02 says (`by_document_02`).
 
 use crate::cdf53f::Cdf53;
 use crate::cdf53i::Cdf53Integer;
@@ -128,47 +130,102 @@ fn number<N: std::str::FromStr>(word: &str) -> Result<N, Stop> {
     }
 }
 
-// ---- the calls, each with document 01's order of checks
+// ---- document 02, C-16: a wrong details length is 17, with the details' numbers
 
-// A filter as the driver of all its calls.
-type Filter<'a, T> = &'a dyn DwtExecutor<T>;
+// Where the details of a level are wrong and its approximations are right: the two numbers that the Rust says,
+// and document 02's. It is told by the lengths of the request alone, never by what the Rust answers.
+type WrongDetails = Option<([usize; 2], [usize; 2])>;
+
+fn wrong_forward(smallest: usize, n: usize, approx: usize, details: usize) -> WrongDetails {
+    (n >= smallest && approx == n.div_ceil(2) && details != n / 2)
+        .then_some(([details, n], [details, n]))
+}
+
+// Level by level, from the deepest, through the first that is wrong in either band.
+fn wrong_inverse(smallest: usize, mut approx: usize, levels: &[usize]) -> WrongDetails {
+    for &details in levels {
+        let n = approx + details;
+        let expected = (n.div_ceil(2).max(2), (n / 2).max(smallest - 2));
+        if approx != expected.0 {
+            return None;
+        }
+        if details != expected.1 {
+            return Some(([expected.0, approx], [expected.1, details]));
+        }
+        approx = n;
+    }
+    None
+}
+
+// The one place where an answer of the Rust is changed: its second 2, with its own numbers, becomes 17. Another
+// answer there is a panic, so that the comparison tells it. Everywhere else the Rust's answer stays.
+fn by_document_02<R>(said: Result<R, OscletError>, wrong: WrongDetails) -> Result<R, Stop> {
+    let Some((rusts, [first, second])) = wrong else {
+        return Ok(said?);
+    };
+    match said {
+        Err(OscletError::ApproxSizeNotMatches(x, y)) if [x, y] == rusts => {
+            Err(Stop::Refusal(17, first, second))
+        }
+        _ => panic!("the details are wrong, and the Rust does not say 2 {rusts:?}"),
+    }
+}
+
+// ---- the calls, each with the documents' order of checks
+
+// A filter as the driver of all its calls, and the smallest input that it takes.
+#[derive(Clone, Copy)]
+struct Filter<'a, T> {
+    rust: &'a dyn DwtExecutor<T>,
+    smallest: usize,
+}
 
 // What a done call leaves in its outputs; the work areas after them are the port's alone.
 type Outputs = Result<Vec<String>, Stop>;
 
-// The Rust's own checks are document 01's.
-fn forward<T: Sample>(filter: Filter<T>, input: &str, approx: &str, details: &str) -> Outputs {
+// The Rust's own checks are document 01's, and document 02's by the change of its second 2.
+fn forward<T: Sample>(filter: Filter<T>, [input, approx, details]: [&str; 3]) -> Outputs {
     let (input, mut approx, mut details) = (
         samples_of(input)?,
         samples_of(approx)?,
         samples_of(details)?,
     );
     not_the_rusts_if(input.len() > LIMIT)?;
-    filter.execute_forward(&input, &mut approx, &mut details)?;
+    let wrong = wrong_forward(filter.smallest, input.len(), approx.len(), details.len());
+    let said = filter
+        .rust
+        .execute_forward(&input, &mut approx, &mut details);
+    by_document_02(said, wrong)?;
     Ok(vec![word_of(&approx), word_of(&details)])
 }
 
-// The Rust's own checks are document 01's.
-fn inverse<T: Sample>(filter: Filter<T>, approx: &str, details: &str, output: &str) -> Outputs {
+// The same; the Rust's 3 comes before its 2s.
+fn inverse<T: Sample>(filter: Filter<T>, [approx, details, output]: [&str; 3]) -> Outputs {
     let (approx, details, mut output) = (
         samples_of(approx)?,
         samples_of(details)?,
         samples_of(output)?,
     );
     not_the_rusts_if(approx.len().max(details.len()).max(output.len()) > LIMIT)?;
-    filter.execute_inverse(&approx, &details, &mut output)?;
+    let wrong = if output.len() == approx.len() + details.len() {
+        wrong_inverse(filter.smallest, approx.len(), &[details.len()])
+    } else {
+        None
+    };
+    let said = filter.rust.execute_inverse(&approx, &details, &mut output);
+    by_document_02(said, wrong)?;
     Ok(vec![word_of(&output)])
 }
 
-// The Rust's 4, then document 01's 2 and 2 for the lent bands.
+// The Rust's 4, then the documents' 2 and 17 for the lent bands.
 fn dwt<T: Sample>(filter: Filter<T>, signal: &str, level: &str, lent: [&str; 4]) -> Outputs {
     let (signal, level) = (samples_of::<T>(signal)?, number::<u32>(level)?);
     let [approx, details, work1, work2] = lengths_of::<T, 4>(lent)?;
     not_the_rusts_if(signal.len() > LIMIT)?;
-    let done = filter.dwt(&signal, level as usize)?;
+    let done = filter.rust.dwt(&signal, level as usize)?;
     let last = done.approximations.len() + done.details.len();
     refuse_if(approx != done.approximations.len(), 2, approx, last)?;
-    refuse_if(details != done.details.len(), 2, details, last)?;
+    refuse_if(details != done.details.len(), 17, details, last)?;
     not_the_rusts_if(work1.min(work2) < signal.len())?;
     Ok(vec![word_of(&done.approximations), word_of(&done.details)])
 }
@@ -179,6 +236,7 @@ fn multi_dwt<T: Sample>(filter: Filter<T>, signal: &str, levels: &str, lent: [&s
     let [output, work1, work2] = lengths_of::<T, 3>(lent)?;
     not_the_rusts_if(signal.len() > LIMIT)?;
     let done = filter
+        .rust
         .multi_dwt(&signal, (levels as usize).min(TOO_MANY_LEVELS))?
         .levels;
     refuse_if(output != signal.len(), 3, output, signal.len())?;
@@ -191,7 +249,8 @@ fn multi_dwt<T: Sample>(filter: Filter<T>, signal: &str, levels: &str, lent: [&s
     Ok(vec![word_of(&pyramid)])
 }
 
-// The Rust's 5, document 01's 9 for the lengths, the Rust's 2s, document 01's 3 for the lent output.
+// The Rust's 5, document 01's 9 for the lengths, the Rust's 2s with document 02's change, document 01's 3 for the
+// lent output.
 fn multi_idwt<T: Sample>(
     filter: Filter<T>,
     approx: &str,
@@ -205,17 +264,20 @@ fn multi_idwt<T: Sample>(
     not_the_rusts_if(
         approx.len().max(details.len()).max(output) > LIMIT || lengths.len() > MOST_LENGTHS,
     )?;
-    let whole = lengths.iter().map(|&length| length as usize).sum::<usize>() == details.len();
+    let lengths: Vec<usize> = lengths.iter().map(|&length| length as usize).collect();
+    let whole = lengths.iter().sum::<usize>() == details.len();
     not_the_rusts_if(!whole && !lengths.is_empty() && !approx.is_empty())?;
     // cut the details, which come deepest first, and turn them for the Rust
     let mut rest = details.as_slice();
-    let cut = |&length: &u32| rest.split_off(..length as usize).unwrap_or_default();
+    let cut = |&length: &usize| rest.split_off(..length).unwrap_or_default();
     let deepest_first: Vec<&[T]> = lengths.iter().map(cut).collect();
     let details = deepest_first.into_iter().rev().collect();
-    let done = filter.multi_idwt(&MultiLevelDwtRef {
+    let said = filter.rust.multi_idwt(&MultiLevelDwtRef {
         approximations: &approx,
         details,
-    })?;
+    });
+    let wrong = wrong_inverse(filter.smallest, approx.len(), &lengths);
+    let done = by_document_02(said, wrong)?;
     refuse_if(output != done.len(), 3, output, done.len())?;
     not_the_rusts_if(work1.min(work2) < output)?;
     Ok(vec![word_of(&done)])
@@ -232,12 +294,8 @@ fn lengths_of<T: Sample, const N: usize>(words: [&str; N]) -> Result<[usize; N],
 // The answer to a call of one filter. A refusal answers its outputs as they came, and no work area is told.
 fn call<T: Sample>(filter: Filter<T>, verb: &str, words: &[&str]) -> Result<String, Stop> {
     let (outputs, lent, works): (Outputs, &[&str], usize) = match (verb, words) {
-        ("forward", [input, approx, details]) => {
-            (forward(filter, input, approx, details), &words[1..], 0)
-        }
-        ("inverse", [approx, details, output]) => {
-            (inverse(filter, approx, details, output), &words[2..], 0)
-        }
+        ("forward", &[_, ref lent @ ..]) => (forward(filter, exactly(words)?), lent, 0),
+        ("inverse", &[_, _, ref lent @ ..]) => (inverse(filter, exactly(words)?), lent, 0),
         ("dwt", [signal, level, lent @ ..]) => {
             (dwt(filter, signal, level, exactly(lent)?), &words[2..4], 2)
         }
@@ -276,32 +334,40 @@ fn depth<T: Sample>(filter: Filter<T>, words: &[&str]) -> Result<String, Stop> {
     }
     let zeros = vec![T::default(); n as usize];
     let levels: Vec<usize> = (1..TOO_MANY_LEVELS).collect();
-    let depth = levels.partition_point(|&level| filter.dwt(&zeros, level).is_ok());
+    let depth = levels.partition_point(|&level| filter.rust.dwt(&zeros, level).is_ok());
     Ok(format!("0 {depth} 0"))
 }
 
 // ---- a request
 
+fn cdf53<T>(rust: &dyn DwtExecutor<T>) -> Filter<'_, T> {
+    Filter { rust, smallest: 3 }
+}
+
+fn cdf97<T>(rust: &dyn DwtExecutor<T>) -> Filter<'_, T> {
+    Filter { rust, smallest: 4 }
+}
+
 pub fn answer(request: &str) -> String {
     let words: Vec<&str> = request.split(' ').collect();
     let (name, words) = (words[0], &words[1..]);
     let asked = match name {
-        "cdf53_depth" => depth(&Cdf53Integer::<i8, i32>::default(), words),
-        "cdf97_depth" => depth(&Cdf97::<f32>::default(), words),
+        "cdf53_depth" => depth(cdf53(&Cdf53Integer::<i8, i32>::default()), words),
+        "cdf97_depth" => depth(cdf97(&Cdf97::<f32>::default()), words),
         _ => match taken_apart(name) {
             Some(("cdf53", verb, "i8")) => {
-                call::<i8>(&Cdf53Integer::<i8, i32>::default(), verb, words)
+                call::<i8>(cdf53(&Cdf53Integer::<i8, i32>::default()), verb, words)
             }
             Some(("cdf53", verb, "i16")) => {
-                call::<i16>(&Cdf53Integer::<i16, i32>::default(), verb, words)
+                call::<i16>(cdf53(&Cdf53Integer::<i16, i32>::default()), verb, words)
             }
             Some(("cdf53", verb, "i32")) => {
-                call::<i32>(&Cdf53Integer::<i32, i64>::default(), verb, words)
+                call::<i32>(cdf53(&Cdf53Integer::<i32, i64>::default()), verb, words)
             }
-            Some(("cdf53", verb, "f32")) => call::<f32>(&Cdf53::default(), verb, words),
-            Some(("cdf53", verb, "f64")) => call::<f64>(&Cdf53::default(), verb, words),
-            Some(("cdf97", verb, "f32")) => call::<f32>(&Cdf97::default(), verb, words),
-            Some(("cdf97", verb, "f64")) => call::<f64>(&Cdf97::default(), verb, words),
+            Some(("cdf53", verb, "f32")) => call::<f32>(cdf53(&Cdf53::default()), verb, words),
+            Some(("cdf53", verb, "f64")) => call::<f64>(cdf53(&Cdf53::default()), verb, words),
+            Some(("cdf97", verb, "f32")) => call::<f32>(cdf97(&Cdf97::default()), verb, words),
+            Some(("cdf97", verb, "f64")) => call::<f64>(cdf97(&Cdf97::default()), verb, words),
             _ => return format!("unknown {name}"),
         },
     };

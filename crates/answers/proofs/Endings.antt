@@ -7,12 +7,15 @@ use borrow.Author.Tests.{eq-eqb, ne-eqb}
 use lib.ListN.{drop}
 use Rattle.answers.specs.declared.err.Refusal.{Refusal}
 use Rattle.answers.specs.declared.err.Answer.{Answer}
-use Rattle.answers.specs.Answers.{answerOf, done}
+use Rattle.answers.specs.Answers.{answerOf, says, done}
 use Rattle.answers.specs.Checks.{left, Spared, Call}
 
--- the number tells whether the call is done
+-- the number tells what the call says, and whether it is done
+pub said-number : (n : ℕ) (s : Refusal) (r : Answer) → r ≡ answerOf s → r .number ≡ n → says n s ≡ true
+said-number n s r e h = eq-eqb (answerOf s .number) n (sym (ap (λ (q : Answer). q .number) e) ∙ h)
+
 pub is-done : (s : Refusal) (r : Answer) → r ≡ answerOf s → r .number ≡ 0 → done s ≡ true
-is-done s r e z = eq-eqb (answerOf s .number) 0 (sym (ap (λ (q : Answer). q .number) e) ∙ z)
+is-done s r e z = said-number 0 s r e z
 
 pub not-done : (s : Refusal) (r : Answer) → r ≡ answerOf s → (r .number ≡ 0 → ⊥) → done s ≡ false
 not-done s r e z = ne-eqb (answerOf s .number) 0 (λ q. z (ap (λ (q : Answer). q .number) e ∙ q))

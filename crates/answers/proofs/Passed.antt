@@ -1,4 +1,4 @@
--- From "done" to the facts: a call that is done has passed each of its checks.
+-- From what a call says to the facts: it has passed each check before the one that says it, and a call that is done has passed them all.
 use mathlib.Core.Bool.{Bool, true, false, cond, not}
 use mathlib.Core.List.{List, [], _∷_, _++_, append-nil}
 use mathlib.Core.Path.{_≡_, refl, sym, ap, subst, _∙_}
@@ -9,28 +9,41 @@ use borrow.Author.Tests.{ltb-false, eqb-true, not-false}
 use lib.Dec.{T, ltb, eqb}
 use Rattle.answers.specs.declared.err.Refusal.{Refusal}
 use Rattle.answers.specs.declared.err.Refusal.the-variants.{Done}
-use Rattle.answers.specs.Answers.{done}
+use Rattle.answers.specs.Answers.{says, done}
 use Rattle.answers.specs.Checks.{Check, firstOf}
 
-passed : (b : Bool) (x y : Refusal) → done x ≡ false → done (cond b x y) ≡ true → (b ≡ false) × (done y ≡ true)
-passed true x y p q = let z : true ≡ false = sym q ∙ p in absurd (subst T z tt)
-passed false x y p q = (refl, q)
+-- a test that passes does not refuse
+pub off : {A : Type 0} {t : Bool} → t ≡ false → t ≡ true → A
+off p q = let z : true ≡ false = sym q ∙ p in absurd (subst T z tt)
+
+passed : (n : ℕ) (b : Bool) (x y : Refusal) → says n x ≡ false → says n (cond b x y) ≡ true → (b ≡ false) × (says n y ≡ true)
+passed n true x y p q = off p q
+passed n false x y p q = (refl, q)
+
+-- no check of the list refuses with the number n
+abbrev pub Without : ℕ → List Check → Type 0
+Without n [] = Unit {0}
+Without n (p ∷ rest) = (says n (p .1) ≡ false) × Without n rest
 
 -- each check of the list refuses with what no done call says
 abbrev pub Refusing : List Check → Type 0
-Refusing [] = Unit {0}
-Refusing (p ∷ rest) = (done (p .1) ≡ false) × Refusing rest
+Refusing l = Without 0 l
 
 -- each check of the list passes
 abbrev pub Passing : List Check → Type 0
 Passing [] = Unit {0}
 Passing (p ∷ rest) = (p .0 ≡ false) × Passing rest
 
+-- a first part that does not say n has passed where the list says n, and the rest says it
+pub passed-before : (n : ℕ) (l m : List Check) (s : Refusal) → Without n l → says n (firstOf (l ++ m) s) ≡ true → Passing l × (says n (firstOf m s) ≡ true)
+passed-before n [] m s r h = (tt, h)
+passed-before n (p ∷ l) m s r h =
+    let q = passed n (p .0) (p .1) (firstOf (l ++ m) s) (r .0) h in
+    let o = passed-before n l m s (r .1) (q .1) in
+    ((q .0, o .0), o .1)
+
 pub passing : (l : List Check) (s : Refusal) → Refusing l → done (firstOf l s) ≡ true → Passing l
-passing [] s r h = tt
-passing (p ∷ rest) s r h =
-    let q = passed (p .0) (p .1) (firstOf rest s) (r .0) h in
-    (q .0, passing rest s (r .1) (q .1))
+passing l s r h = passed-before 0 l [] s r (ap (λ (m : List Check). done (firstOf m s)) (append-nil l) ∙ h) .0
 
 -- of two lists, both
 pub both-refuse : (l m : List Check) → Refusing l → Refusing m → Refusing (l ++ m)
@@ -56,7 +69,7 @@ pass-on [] m e h = refl
 pass-on (p ∷ l) m e h = ap (λ t. cond t (p .1) (firstOf (l ++ m) e)) (h .0) ∙ pass-on l m e (h .1)
 
 pub stop-there : (l m : List Check) (d e : Refusal) → done d ≡ true → done (firstOf l d) ≡ false → firstOf (l ++ m) e ≡ firstOf l d
-stop-there [] m d e z h = let w : true ≡ false = sym z ∙ h in absurd (subst T w tt)
+stop-there [] m d e z h = off h z
 stop-there (p ∷ l) m d e z h = pick (p .0) (λ g. stop-there l m d e z g) h
   where
     pick : (t : Bool) → (done (firstOf l d) ≡ false → firstOf (l ++ m) e ≡ firstOf l d) → done (cond t (p .1) (firstOf l d)) ≡ false → cond t (p .1) (firstOf (l ++ m) e) ≡ cond t (p .1) (firstOf l d)

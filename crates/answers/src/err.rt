@@ -3,6 +3,7 @@ ghost use mathlib.Core.Path.{_≡_};
 ghost use Rattle.answers.specs.Answers.{say, answerOf, done};
 
 // What a call has to say, with the values that document 01's table names; from 14 on document 02 has the numbers.
+// DetailsSizeNotMatches is osclet's name too, though none of the files that were ported returns it.
 pub enum Refusal {
     Done(usize, usize),
     MinFilterSize(usize, usize),
@@ -21,6 +22,7 @@ pub enum Refusal {
     BookFull,
     AlreadyHeld,
     NotHeld,
+    DetailsSizeNotMatches(usize, usize),
 }
 
 // The three numbers that the desk reads.
@@ -63,6 +65,7 @@ pub fn numbers(r: Refusal) -> Answer
         Refusal::BookFull => tell(14, 0, 0),
         Refusal::AlreadyHeld => tell(15, 0, 0),
         Refusal::NotHeld => tell(16, 0, 0),
+        Refusal::DetailsSizeNotMatches(a, b) => tell(17, a, b),
     }
 }
 

@@ -38,7 +38,7 @@ sizeChecks a d c n =
     ∷ (eqb a 0, ZeroedBaseSize)
     ∷ []
 
--- "2 level by level from the deepest, as in inverse": what a level restores is the next one's approximations
+-- "2 level by level from the deepest as in inverse", and 17 as there: what a level restores is the next one's approximations
 unfoldable pub bandChecks : Wavelet → ℕ → List ℕ → List Check
 bandChecks w a [] = []
 bandChecks w a (m ∷ ms) = inverseBands w (a + m) a m ++ bandChecks w (a + m) ms

@@ -75,7 +75,7 @@ sayMulti f l n m u v =
 abbrev pub Multi : Filter → ℕ → List ℕ → List ℕ → List ℕ → List ℕ → Answer → List ℕ → List ℕ → List ℕ → Type 0
 Multi f l x o u v = Call (sayMulti f l (length x) (length o) (length u) (length v)) (length x) (pyramid f (levelsOf l) x) o u v
 
--- "`dwt`: 6, 4 (n too short, or depth below the levels), 2, 2 as forward with the last level's input length, 7, 7"
+-- "6, 4 (n too short, or depth below the levels)", then the bands "as forward with the last level's input length", "7, 7"
 abbrev pub dwtChecks : Filter → ℕ → ℕ → ℕ → ℕ → ℕ → ℕ → List Check
 dwtChecks f l n a d u v =
     let m = countAt (levelsOf l - 1) n in

@@ -1,17 +1,17 @@
 -- The states that calls leave, from C-15: the test passes for these and for no others, and a call says 9 (0, 0) of the others. Over the width.
 use mathlib.Core.Bool.{Bool, true, false, cond, not}
 use mathlib.Core.List.{List, [], _∷_, _++_, append-nil, flatten}
-use mathlib.Core.Path.{_≡_, refl, sym, ap, subst, _∙_}
+use mathlib.Core.Path.{_≡_, refl, ap, subst, _∙_}
 use Prim.Native.Nat.{ℕ, _%_}
 use native.Mathlib.Nat.{zero-mod}
 use native.Mathlib.Omega.{arith}
-use lib.Dec.{T, eqb}
+use lib.Dec.{eqb}
 use Rattle.answers.specs.declared.err.Refusal.{Refusal}
 use Rattle.answers.specs.declared.err.Refusal.the-variants.{Done, BadCount}
 use Rattle.answers.specs.Answers.{answerOf}
 use Rattle.answers.specs.Checks.{Check, firstOf, ragged}
 use Rattle.answers.proofs.Chain.{same}
-use Rattle.answers.proofs.Passed.{Passing, pass-on}
+use Rattle.answers.proofs.Passed.{off, Passing, pass-on}
 use Rattle.samples.specs.Le.{Bytes}
 use Rattle.samples.specs.Integers.{Width}
 use Rattle.stream.specs.States.{stateOf, stateBytes, stateIn, couldBe, standIn}
@@ -23,10 +23,6 @@ use Rattle.feeds.proofs.Fed.{fed, could}
 use Rattle.feeds.proofs.Every.{every-cut}
 
 -- ---- checks that never say s
-
--- a test that passes does not refuse
-off : {t : Bool} → t ≡ false → t ≡ true → ⊥
-off e g = let z : true ≡ false = sym g ∙ e in subst T z tt
 
 -- each of the list passes, or refuses with something else
 abbrev Never : Refusal → List Check → Type 0
@@ -79,7 +75,7 @@ module _ {k : ℕ} (w : Width k) where
     nine-only : LeftBy k b → tells ≡ BadCount 0 0 → ⊥
     nine-only l =
         never (BadCount 0 0) (Done 0 0) (lentChecks k b y a d ++ m)
-        (whole-never k y, (whole-never k a, (whole-never k d, ((λ g. absurd (off (ap not (left-by-calls b bytes .1 l)) g)), own))))
+        (whole-never k y, (whole-never k a, (whole-never k d, ((λ g. off (ap not (left-by-calls b bytes .1 l)) g), own))))
         (λ q. omega (arith, number q))
 
     nine-every : (t : Bool) → couldBe k b ≡ t → Passing (ragged k y ∷ ragged k a ∷ ragged k d ∷ []) → (LeftBy k b → ⊥) → tells ≡ BadCount 0 0

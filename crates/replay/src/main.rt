@@ -1,4 +1,4 @@
-// The Rust's stored answers, asked of the calls behind the desk's functions again. data/README says how a list of them is laid out.
+// Stored answers of the Rust, with document 02's 17, asked of the calls behind the desk's functions again. data/README says how a list of them is laid out.
 ghost use Prim.Native.Nat.{_+_, _≤_, _<_};
 ghost use mathlib.Core.Path.{_≡_};
 ghost use lib.ListN.{length};

@@ -1,4 +1,4 @@
--- One level forward and back of any filter, from document 01, "Order of checks": the checks of each call as a list, and what each call promises.
+-- One level forward and back of any filter, from document 01, "Order of checks", and document 02, C-16: the checks of each call as a list, and what each call promises.
 -- A filter is its wavelet w, k bytes a sample, and what it makes of bytes: two bands `low` and `high`, and `back`.
 use mathlib.Core.Bool.{not}
 use mathlib.Core.List.{List, [], _∷_}
@@ -8,17 +8,17 @@ use lib.Dec.{ltb, eqb}
 use lib.ListN.{length}
 use Rattle.answers.specs.declared.err.Answer.{Answer}
 use Rattle.answers.specs.declared.err.Refusal.{Refusal}
-use Rattle.answers.specs.declared.err.Refusal.the-variants.{Done, MinFilterSize, ApproxSizeNotMatches, OutputSizeIsNotValid, TooLong}
+use Rattle.answers.specs.declared.err.Refusal.the-variants.{Done, MinFilterSize, ApproxSizeNotMatches, OutputSizeIsNotValid, TooLong, DetailsSizeNotMatches}
 use Rattle.answers.specs.Answers.{answerOf}
 use Rattle.answers.specs.Checks.{Check, firstOf, ragged, left}
 use Rattle.sizes.specs.declared.Wavelet.{Wavelet}
 use Rattle.sizes.specs.Lengths.{mostSamples, approxLength, detailsLength, smallestOf, expectedApprox, expectedDetails}
 
--- "2 approximations (got, n), 2 details (got, n)", also of `dwt`, "as forward with the last level's input length"
+-- "2 approximations (got, n)"; then, from document 02, 17 "in the places where 01 gives its second 2" with "(got, n) forward"; also of `dwt`, "as forward with the last level's input length"
 abbrev pub forwardBands : ℕ → ℕ → ℕ → List Check
-forwardBands n a d = (not (eqb a (approxLength n)), ApproxSizeNotMatches a n) ∷ (not (eqb d (detailsLength n)), ApproxSizeNotMatches d n) ∷ []
+forwardBands n a d = (not (eqb a (approxLength n)), ApproxSizeNotMatches a n) ∷ (not (eqb d (detailsLength n)), DetailsSizeNotMatches d n) ∷ []
 
--- "Forward: 6 (n over 16,777,216), 1, 2 approximations (got, n), 2 details (got, n)", by samples
+-- "Forward: 6 (n over 16,777,216), 1", then the bands, by samples
 abbrev pub forwardChecks : Wavelet → ℕ → ℕ → ℕ → List Check
 forwardChecks w n a d =
     (ltb mostSamples n, TooLong)
@@ -29,14 +29,14 @@ forwardChecks w n a d =
 unfoldable pub sayForward : Wavelet → ℕ → ℕ → ℕ → ℕ → Refusal
 sayForward w k x a d = firstOf (ragged k x ∷ ragged k a ∷ ragged k d ∷ forwardChecks w (x / k) (a / k) (d / k)) (Done 0 0)
 
--- "2 approximations (expected, got), 2 details, which reports the approximations' numbers", also of `multi_idwt`, "level by level .. as in inverse"
+-- "2 approximations (expected, got)"; then 17 with "details' numbers", "(expected, got) in the inverse"; also of `multi_idwt`, "level by level from the deepest as in inverse"
 abbrev pub inverseBands : Wavelet → ℕ → ℕ → ℕ → List Check
 inverseBands w n a d =
     (not (eqb a (expectedApprox n)), ApproxSizeNotMatches (expectedApprox n) a)
-    ∷ (not (eqb d (expectedDetails w n)), ApproxSizeNotMatches (expectedApprox n) a)
+    ∷ (not (eqb d (expectedDetails w n)), DetailsSizeNotMatches (expectedDetails w n) d)
     ∷ []
 
--- "Inverse: 6 (any slice), 3 (output against the sum), 2 approximations (expected, got), 2 details, which reports the approximations' numbers"
+-- "Inverse: 6 (any slice), 3 (output against the sum)", then the bands
 abbrev pub inverseChecks : Wavelet → ℕ → ℕ → ℕ → List Check
 inverseChecks w a d n =
     (ltb mostSamples a, TooLong)

@@ -1,4 +1,4 @@
-// The checks of one level, on byte lengths, for every filter. Document 01, "Order of checks".
+// The checks of one level, on byte lengths, for every filter. Document 01, "Order of checks", and document 02, C-16.
 ghost use mathlib.Core.Path.{_≡_};
 ghost use mathlib.Core.List.{[], _∷_};
 ghost use Prim.Native.Nat.{_<_};
@@ -51,7 +51,7 @@ pub fn forward_bands(n: usize, a: usize, d: usize) -> Refusal
         return Refusal::ApproxSizeNotMatches(a, n);
     }
     if d != details_length(n) {
-        return Refusal::ApproxSizeNotMatches(d, n);
+        return Refusal::DetailsSizeNotMatches(d, n);
     }
     Refusal::Done(0, 0)
 }
@@ -61,12 +61,11 @@ pub fn inverse_bands(w: Wavelet, n: usize, a: usize, d: usize) -> Refusal
     ensures { λ r. ⌜ r ≡ firstOf (inverseBands w n a d) (Refusal.Done 0 0) ⌝ }
 {
     let size = dwt_size(w, n);
-    let expected = size.approx;
-    if a != expected {
-        return Refusal::ApproxSizeNotMatches(expected, a);
+    if a != size.approx {
+        return Refusal::ApproxSizeNotMatches(size.approx, a);
     }
     if d != size.details {
-        return Refusal::ApproxSizeNotMatches(expected, a);
+        return Refusal::DetailsSizeNotMatches(size.details, d);
     }
     Refusal::Done(0, 0)
 }

@@ -1,0 +1,6 @@
+pub mod Bands
+pub mod Calls
+pub mod Levels
+pub mod Few
+pub mod PassedOn
+pub mod Figures

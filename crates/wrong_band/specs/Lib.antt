@@ -1,0 +1,2 @@
+pub mod WrongBand
+pub mod Figures
