@@ -7,10 +7,11 @@ use lib.ListN.{length, take, drop, getD, replicate, length-append, length-drop, 
 use lib.Seq.{paste, take-at, drop-at, drop-drop, length-take-le, split-at}
 use Rattle.samples.specs.Le.{Bytes, leBytes, stored}
 use Rattle.samples.proofs.LeLaws.{length-leBytes, stored-is}
-use Rattle.book.specs.Books.{most, entrySize, entryStart, totalAt, dataAt, joined, bookOf, entriesIn, totalIn, dataIn, slotOf, placeAt, sizeAt}
-use Rattle.book.specs.Calls.{Book, holding, freshIn, addedIn, withdrawnIn}
-use Rattle.book.proofs.Entries.{entries-few, entry-length, entry-is, place-next, place-most}
-use Rattle.book.proofs.Laid.{AllSized, entries-sized, joined-length, data-length, unused, flat, split, directory-length, book-length, checked, book-is}
+use Rattle.entries.specs.Books.{most, entrySize, entryStart, totalAt, dataAt, joined, bookOf, entriesIn, totalIn, dataIn, slotOf, placeAt, sizeAt}
+use Rattle.entries.specs.Checks.{Book}
+use Rattle.entries.proofs.Entries.{entries-few, entry-length, entry-is, place-next, place-most}
+use Rattle.entries.proofs.Laid.{AllSized, entries-sized, joined-length, data-length, unused, flat, split, directory-length, book-length, checked, book-is}
+use Rattle.book.specs.Calls.{holding, freshIn, addedIn, withdrawnIn}
 
 -- ---- lists of entries
 

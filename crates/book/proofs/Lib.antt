@@ -1,6 +1,2 @@
-pub mod Tests
-pub mod Entries
-pub mod Laid
-pub mod Passed
 pub mod Changed
 pub mod Leaves

@@ -1,7 +1,8 @@
 // The route book's calls.
 ghost use mathlib.Core.Path.{_≡_};
 ghost use Rattle.answers.specs.Answers.{answerOf};
-ghost use Rattle.book.specs.Calls.{Fresh, Add, sayFind, Withdraw, sayRoom};
+ghost use Rattle.entries.specs.Checks.{sayFind, sayRoom};
+ghost use Rattle.book.specs.Calls.{Fresh, Add, Withdraw};
 use answers::err::Answer;
 use book::calls::add;
 use book::calls::find;

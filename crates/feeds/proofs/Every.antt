@@ -10,18 +10,19 @@ use lib.Seq.{slice-empty}
 use Rattle.answers.specs.declared.err.Answer.{Answer}
 use Rattle.answers.specs.declared.err.Refusal.{Refusal}
 use Rattle.answers.specs.Answers.{answerOf, done}
+use Rattle.answers.specs.Checks.{inFront}
 use Rattle.answers.proofs.Endings.{left-done, left-refused}
 use Rattle.sizes.specs.Lengths.{mostSamples}
 use Rattle.samples.specs.Le.{Bytes}
 use Rattle.samples.specs.Integers.{Width}
 use Rattle.cdf53i.specs.Bands.{low, high, EnoughWords}
 use Rattle.cdf53i.proofs.WordTurns.{room-of}
-use Rattle.stream.specs.States.{fixed, stateOf, stateBytes, stateIn, standIn}
-use Rattle.answers.specs.Checks.{inFront}
-use Rattle.stream.specs.Calls.{fixedBy, sayPiece, Piece}
-use Rattle.stream.proofs.Joins.{joined}
+use Rattle.pieces.specs.States.{fixed, stateOf, standIn, fixedBy}
+use Rattle.pieces.proofs.Joins.{joined}
+use Rattle.pieces.proofs.Stands.{stands}
+use Rattle.stream.specs.StateBytes.{stateBytes, stateIn}
+use Rattle.stream.specs.Calls.{sayPiece, Piece}
 use Rattle.stream.proofs.States.{state-again}
-use Rattle.stream.proofs.Stands.{stands}
 use Rattle.stream.proofs.Ready.{piece-ready}
 use Rattle.stream.proofs.Streams.{streams-some}
 use Rattle.feeds.specs.Feeds.{Fed, begun, taken, EachWhole, AllDone, no-more, one-more, Served}

@@ -10,6 +10,7 @@ use lib.ListN.{length, take, drop, take-append-drop}
 use lib.Seq.{length-slice, length-take-le, take-all, take-at, take-take, drop-at}
 use Rattle.answers.specs.declared.err.Answer.{Answer}
 use Rattle.answers.specs.declared.err.Refusal.the-variants.{Done}
+use Rattle.answers.specs.Checks.{inFront}
 use Rattle.answers.proofs.Endings.{is-done}
 use Rattle.sizes.specs.Lengths.{mostSamples, approxLength, detailsLength}
 use Rattle.samples.specs.Le.{Bytes}
@@ -18,14 +19,14 @@ use Rattle.samples.specs.Integers.{Width}
 use Rattle.samples.proofs.Words.{holds}
 use Rattle.cdf53i.specs.Bands.{low, high, EnoughWords}
 use Rattle.cdf53i.proofs.Lengths.{length-low, length-high, bytes-join}
-use Rattle.stream.specs.declared.state.Recorder.{Recorder}
-use Rattle.stream.specs.States.{fixed, stateOf, stateSize, stateBytes, stateIn, couldBe, Possible, standIn}
-use Rattle.stream.specs.Steps.{Taking}
-use Rattle.answers.specs.Checks.{inFront}
-use Rattle.stream.specs.Calls.{between, fixedBy, restOf, fresh, sayPiece, sayFinish, Piece, Finish}
+use Rattle.pieces.specs.declared.recorder.Recorder.{Recorder}
+use Rattle.pieces.specs.States.{fixed, stateOf, Possible, standIn, between, fixedBy, restOf}
+use Rattle.pieces.specs.Steps.{Taking}
+use Rattle.pieces.proofs.Joins.{joined}
+use Rattle.pieces.proofs.Stands.{length-stand, stands}
+use Rattle.stream.specs.StateBytes.{stateSize, stateBytes, stateIn, couldBe}
+use Rattle.stream.specs.Calls.{sayPiece, Piece, fresh, sayFinish, Finish}
 use Rattle.stream.proofs.States.{length-state, possible-back, possible-could, left-possible, none-fresh}
-use Rattle.stream.proofs.Joins.{joined}
-use Rattle.stream.proofs.Stands.{length-stand, stands}
 use Rattle.stream.proofs.Ready.{piece-ready, piece-passes, finish-ready, finish-passes}
 use Rattle.stream.proofs.Streams.{refused-stays, done-leaves}
 use Rattle.feeds.specs.Feeds.{added, Fed, begun, taken, refused, unfinished, finished, After, allLows, allHighs}

@@ -14,10 +14,11 @@ use Rattle.answers.proofs.Chain.{same}
 use Rattle.answers.proofs.Passed.{off, Passing, pass-on}
 use Rattle.samples.specs.Le.{Bytes}
 use Rattle.samples.specs.Integers.{Width}
-use Rattle.stream.specs.States.{stateOf, stateBytes, stateIn, couldBe, standIn}
-use Rattle.stream.specs.Calls.{stateCheck, lentChecks, pieceChecks, finishChecks, sayPiece, sayFinish}
-use Rattle.stream.proofs.States.{could-be, state-again}
-use Rattle.stream.proofs.Stands.{length-stand, count-stand, bytes-stand, stands}
+use Rattle.pieces.specs.States.{stateOf, standIn}
+use Rattle.pieces.proofs.Stands.{length-stand, count-stand, bytes-stand, stands}
+use Rattle.stream.specs.StateBytes.{stateBytes, stateIn, couldBe}
+use Rattle.stream.specs.Calls.{stateCheck, lentChecks, pieceChecks, sayPiece, finishChecks, sayFinish}
+use Rattle.stream.proofs.States.{state-again, could-be}
 use Rattle.feeds.specs.Feeds.{LeftBy, Nine, EachWhole}
 use Rattle.feeds.proofs.Fed.{fed, could}
 use Rattle.feeds.proofs.Every.{every-cut}

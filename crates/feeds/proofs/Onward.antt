@@ -14,11 +14,10 @@ use Rattle.samples.proofs.Words.{holds, tabulate-same, word-take}
 use Rattle.cdf53i.specs.Bands.{low, high, detailWord, approxWord}
 use Rattle.cdf53i.proofs.Words.{low-word, high-word}
 use Rattle.cdf53i.proofs.Near.{detailAfter, high-prefix, low-sides, high-near}
-use Rattle.stream.specs.declared.state.Recorder.{Recorder}
-use Rattle.stream.specs.States.{fixed, stateOf}
-use Rattle.stream.specs.Calls.{between}
-use Rattle.stream.proofs.Joins.{joined, earlier, later}
-use Rattle.stream.proofs.Tables.{between-low, between-high}
+use Rattle.pieces.specs.declared.recorder.Recorder.{Recorder}
+use Rattle.pieces.specs.States.{fixed, stateOf, between}
+use Rattle.pieces.proofs.Joins.{joined, earlier, later}
+use Rattle.pieces.proofs.Tables.{between-low, between-high}
 
 module _ {k : ℕ} (w : Width k) where
   -- ---- parts of the bands of x and of y are equal when each word is

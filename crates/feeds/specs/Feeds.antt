@@ -10,8 +10,9 @@ use Rattle.answers.specs.Answers.{say}
 use Rattle.sizes.specs.Lengths.{mostSamples, approxLength, detailsLength}
 use Rattle.samples.specs.Le.{Bytes}
 use Rattle.cdf53i.specs.Bands.{low, high, EnoughWords}
-use Rattle.stream.specs.States.{fixed, stateOf, stateBytes}
-use Rattle.stream.specs.Calls.{fresh, Piece, Finish}
+use Rattle.pieces.specs.States.{fixed, stateOf}
+use Rattle.stream.specs.StateBytes.{stateBytes}
+use Rattle.stream.specs.Calls.{Piece, fresh, Finish}
 
 -- how many bytes of each band the piece y adds, after the samples x
 abbrev pub added : ℕ → List ℕ → List ℕ → ℕ

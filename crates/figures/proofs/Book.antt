@@ -15,7 +15,7 @@ use Rattle.trips.proofs.Undone.{bytes-take}
 use Rattle.pyramid.specs.Files.{bodyOf, fileOf}
 use Rattle.pyramid.specs.Walks.{oneOf, walkOf}
 use Rattle.pyramid.specs.Opens.{ownWidth}
-use Rattle.book.specs.Books.{dataAt}
+use Rattle.entries.specs.Books.{dataAt}
 use Rattle.route.specs.Maps.{AllLent, has, fileFor, mapTotal, bytesBefore, removed, mapAnswers}
 use Rattle.route.proofs.FileBytes.{file-bytes}
 use Rattle.route.proofs.IsMap.{is-map}

@@ -10,8 +10,9 @@ use Rattle.samples.specs.Words.{tabulate, wordAt, wordsOf, bytesOf}
 use Rattle.samples.specs.Integers.{val, residue, wrap, decode, encode}
 use Rattle.cdf53i.specs.Lift.{detail, details, approx, approxs}
 use Rattle.cdf53i.specs.Bands.{low, high}
-use Rattle.stream.specs.States.{stateOf, stateBytes, stateIn, couldBe, standWord, standIn}
-use Rattle.stream.specs.Calls.{fixedBy, restOf, fresh, sayPiece, sayFinish}
+use Rattle.pieces.specs.States.{stateOf, standWord, standIn, fixedBy, restOf}
+use Rattle.stream.specs.StateBytes.{stateBytes, stateIn, couldBe}
+use Rattle.stream.specs.Calls.{sayPiece, fresh, sayFinish}
 use Rattle.figures.specs.Stream.{Takes, Ends, Table, none, each, wrapping, Damaged, InPieces}
 
 -- what a done call leaves, from what it says and what it computes

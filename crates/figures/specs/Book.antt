@@ -9,7 +9,7 @@ use Rattle.answers.specs.Answers.{say}
 use Rattle.samples.specs.Le.{Bytes}
 use Rattle.dwt.specs.declared.filter.Filter.the-variants.{Cdf53I8}
 use Rattle.pyramid.specs.Files.{fileOf}
-use Rattle.book.specs.Books.{dataAt}
+use Rattle.entries.specs.Books.{dataAt}
 use Rattle.book.specs.Calls.{Fresh}
 use Rattle.route.specs.Maps.{BookCall, add, withdraw, find, room, Ran}
 use Rattle.figures.specs.Worked.{five}

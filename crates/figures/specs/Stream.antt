@@ -5,9 +5,9 @@ use Prim.Native.Nat.{ℕ}
 use Rattle.answers.specs.declared.err.Answer.{Answer}
 use Rattle.answers.specs.declared.err.Refusal.the-variants.{Done, MinFilterSize, TooLong, NoRoom, BadCount}
 use Rattle.answers.specs.Answers.{say}
-use Rattle.cdf53i.specs.Bands.{low, high}
 use Rattle.answers.specs.Checks.{inFront}
-use Rattle.stream.specs.Calls.{fresh, sayPiece, sayFinish, Piece, Finish}
+use Rattle.cdf53i.specs.Bands.{low, high}
+use Rattle.stream.specs.Calls.{sayPiece, Piece, fresh, sayFinish, Finish}
 use Rattle.figures.specs.Worked.{five}
 
 -- ---- a table of calls

@@ -9,10 +9,10 @@ use borrow.Author.Tests.{ltb-true, ne-eqb, eqb-true, eqb-false, not-true}
 use lib.Dec.{eqb}
 use lib.ListN.{length, take, drop, length-append, length-drop, take-append-drop}
 use lib.Seq.{take-at, drop-at, drop-drop, take-add, take-nil, drop-nil, take-length, length-take-le, take-append-le, drop-append-le}
-use Rattle.book.specs.Books.{pointBy, sizeBy, totalBy, slotOf, isHeld, placeAt, sizeAt, isHead, areEntries}
+use Rattle.entries.specs.Books.{pointBy, sizeBy, totalBy, slotOf, isHeld, placeAt, sizeAt, isHead, areEntries}
+use Rattle.entries.proofs.Entries.{place-next, place-most}
+use Rattle.entries.proofs.Laid.{AllSized}
 use Rattle.book.specs.Calls.{without}
-use Rattle.book.proofs.Entries.{place-next, place-most}
-use Rattle.book.proofs.Laid.{AllSized}
 use Rattle.book.proofs.Changed.{sized-append, sized-take, sized-drop}
 use Rattle.route.specs.Maps.{Map, has, fileFor, removed, filesBy}
 use Rattle.route.proofs.Files.{held-cons, front-size, rest-enough}

@@ -12,8 +12,9 @@ use Rattle.pyramid.specs.Files.{headSize}
 use Rattle.pyramid.specs.Opens.{filterOf, headIn, samplesIn}
 use Rattle.cuts.specs.Sees.{Openings}
 use Rattle.cuts.proofs.Opened.{openings}
-use Rattle.book.specs.Books.{dataAt}
-use Rattle.book.specs.Calls.{mostArea, sayFind, Fresh}
+use Rattle.entries.specs.Books.{dataAt}
+use Rattle.entries.specs.Checks.{mostArea, sayFind}
+use Rattle.book.specs.Calls.{Fresh}
 use Rattle.route.specs.Maps.{BookCall, Ran, AllLent, has, fileFor, placeFor, mapAfter}
 use Rattle.route.proofs.IsMap.{is-map}
 use Rattle.route.proofs.HeldWhole.{held-whole}

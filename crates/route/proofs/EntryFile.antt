@@ -24,8 +24,8 @@ use Rattle.pyramid.proofs.Opening.{filter-width, filter-integers}
 use Rattle.pyramid.proofs.Writing.{head-length, file-parts}
 use Rattle.cuts.proofs.Filed.{Recording, all-length}
 use Rattle.cuts.proofs.WrittenHead.{filed}
-use Rattle.book.specs.Books.{entrySize, pointBy, sizeBy, isHead}
-use Rattle.book.specs.Calls.{wholeChecks}
+use Rattle.entries.specs.Books.{entrySize, pointBy, sizeBy, isHead}
+use Rattle.entries.specs.Checks.{wholeChecks}
 use Rattle.route.proofs.ByteParts.{bytes-zeros}
 use Rattle.route.proofs.FileBytes.{file-bytes}
 use Rattle.route.proofs.WholeFile.{head-back}

@@ -8,7 +8,7 @@ use borrow.Author.Tests.{lt-ltb, ltb-true}
 use lib.Dec.{ltb, eqb, leb·suc-suc}
 use lib.ListN.{length, take, drop, length-drop}
 use lib.Seq.{drop-drop, length-take-le, take-append-le, drop-append-le}
-use Rattle.book.specs.Books.{pointBy, sizeBy, totalBy, slotOf, isHeld, placeAt, sizeAt}
+use Rattle.entries.specs.Books.{pointBy, sizeBy, totalBy, slotOf, isHeld, placeAt, sizeAt}
 use Rattle.route.specs.Maps.{Map, has, fileFor, mapTotal, bytesBefore, filesBy}
 
 -- an entry in front has the point, or the others hold it

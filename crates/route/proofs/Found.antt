@@ -13,8 +13,9 @@ use Rattle.answers.specs.declared.err.Refusal.the-variants.{Done, NotHeld}
 use Rattle.answers.specs.Answers.{answerOf, done}
 use Rattle.answers.proofs.Endings.{is-done}
 use Rattle.samples.specs.Le.{Bytes}
-use Rattle.book.specs.Books.{dataAt, pointBy, sizeBy, entriesIn, dataIn, isHeld, areEntries}
-use Rattle.book.specs.Calls.{sayFind, Add, Withdraw}
+use Rattle.entries.specs.Books.{dataAt, pointBy, sizeBy, entriesIn, dataIn, isHeld, areEntries}
+use Rattle.entries.specs.Checks.{sayFind}
+use Rattle.book.specs.Calls.{Add, Withdraw}
 use Rattle.route.specs.Maps.{Standing, Finds, add, withdraw, Map, has, fileFor, removed, placeFor, mapSays, filesBy, mapIn}
 use Rattle.route.proofs.Files.{has-held}
 use Rattle.route.proofs.Changed.{heads-parts}

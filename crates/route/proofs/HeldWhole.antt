@@ -10,8 +10,8 @@ use Rattle.answers.specs.declared.err.Refusal.the-variants.{Done}
 use Rattle.answers.specs.Answers.{done}
 use Rattle.answers.proofs.Passed.{Passing, passing, both-refuse, both-pass}
 use Rattle.samples.specs.Le.{Bytes}
-use Rattle.book.specs.Calls.{wholeChecks}
-use Rattle.book.proofs.Passed.{whole-refuses}
+use Rattle.entries.specs.Checks.{wholeChecks}
+use Rattle.entries.proofs.Passed.{whole-refuses}
 use Rattle.route.specs.Maps.{BookCall, fresh, add, withdraw, find, room, Lent, AllLent, Map, has, fileFor, removed, mapChecks, mapSays, changed, onMap, mapAfter}
 
 -- a file of bytes that adding takes for point p

@@ -14,8 +14,9 @@ use Rattle.answers.specs.Answers.{say, answerOf}
 use Rattle.answers.specs.Checks.{firstOf}
 use Rattle.answers.proofs.Passed.{Passing, pass-on}
 use Rattle.samples.specs.Le.{Bytes}
-use Rattle.book.specs.Books.{most, dataAt}
-use Rattle.book.specs.Calls.{mostArea, wholeChecks, Fresh, Add}
+use Rattle.entries.specs.Books.{most, dataAt}
+use Rattle.entries.specs.Checks.{mostArea, wholeChecks}
+use Rattle.book.specs.Calls.{Fresh, Add}
 use Rattle.route.specs.Maps.{Standing, Onward, mapChecks, BookCall, Ran, none, next, AllLent, Map, has, mapTotal, mapSays, onMap, mapAnswers, mapAfter, mapIn, Shows}
 use Rattle.route.proofs.Standing.{shows}
 use Rattle.route.proofs.Steps.{add-says, fresh-book, stay, step}

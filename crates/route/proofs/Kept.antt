@@ -8,10 +8,10 @@ use native.Mathlib.Omega.{arith}
 use lib.ListN.{length, take, drop, length-append, take-append-drop}
 use Rattle.samples.specs.Le.{Bytes}
 use Rattle.cdf53i.proofs.Lengths.{bytes-join}
-use Rattle.book.specs.Books.{most, entrySize, sizeBy, joined, totalBy, slotOf, isHeld, placeAt, sizeAt, areEntries}
+use Rattle.entries.specs.Books.{most, entrySize, sizeBy, joined, totalBy, slotOf, isHeld, placeAt, sizeAt, areEntries}
+use Rattle.entries.proofs.Laid.{AllSized}
+use Rattle.entries.proofs.Passed.{held-below}
 use Rattle.book.specs.Calls.{without}
-use Rattle.book.proofs.Laid.{AllSized}
-use Rattle.book.proofs.Passed.{held-below}
 use Rattle.book.proofs.Changed.{joined-append, sized-append, sized-one}
 use Rattle.route.proofs.Changed.{heads-more, total-append, sized-less, heads-less, less-length, total-less, place-within}
 use Rattle.route.proofs.WholeFile.{Whole}

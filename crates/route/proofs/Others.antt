@@ -7,8 +7,8 @@ use lib.ListN.{length}
 use Rattle.answers.specs.declared.err.Answer.{Answer}
 use Rattle.answers.specs.declared.err.Refusal.the-variants.{NotHeld}
 use Rattle.answers.specs.Answers.{done}
-use Rattle.book.specs.Books.{dataAt}
-use Rattle.book.specs.Calls.{sayFind}
+use Rattle.entries.specs.Books.{dataAt}
+use Rattle.entries.specs.Checks.{sayFind}
 use Rattle.route.specs.Maps.{Standing, Finds, Spares, AllSpare, BookCall, fresh, add, withdraw, find, room, Ran, none, next, AllLent, Map, has, fileFor, mapSays, changed, onMap, mapIn}
 use Rattle.route.proofs.Changed.{SameFile, same-removed, same-added}
 use Rattle.route.proofs.Standing.{shows}

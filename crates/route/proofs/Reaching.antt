@@ -17,9 +17,10 @@ use Rattle.answers.proofs.Passed.{Passing, pass-both, through}
 use Rattle.samples.proofs.LeLaws.{leAt-lt}
 use Rattle.samples.specs.Le.{leBytes, Bytes}
 use Rattle.pyramid.specs.Files.{sectionOf}
-use Rattle.book.specs.Books.{most, entrySize, dataAt, pointBy, sizeBy, joined, bookOf, entriesIn, totalBy, totalIn, dataIn, isHeld, slotOf, isHead, areEntries, couldBe}
-use Rattle.book.specs.Calls.{mostArea, wholeChecks, Fresh, sayFresh, freshIn, addedIn, Add}
-use Rattle.book.proofs.Laid.{AllSized, unused, book-length, book-is}
+use Rattle.entries.specs.Books.{most, entrySize, dataAt, pointBy, sizeBy, joined, bookOf, entriesIn, totalBy, totalIn, dataIn, isHeld, slotOf, isHead, areEntries, couldBe}
+use Rattle.entries.specs.Checks.{mostArea, wholeChecks, sayFresh}
+use Rattle.entries.proofs.Laid.{AllSized, unused, book-length, book-is}
+use Rattle.book.specs.Calls.{Fresh, freshIn, addedIn, Add}
 use Rattle.book.proofs.Changed.{joined-append, sized-drop}
 use Rattle.route.specs.Maps.{Standing, BookCall, add, Ran, none, next, AllLent, AllNumbered, mapTotal, mapChecks, mapSays, mapIn, Reached}
 use Rattle.route.proofs.ByteParts.{bytes-parts, bytes-zeros}

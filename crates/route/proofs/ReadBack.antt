@@ -12,8 +12,8 @@ use lib.Seq.{take-at, drop-at, drop-drop, getD-take}
 use Rattle.samples.specs.Le.{leAt, leBytes}
 use Rattle.samples.proofs.LeLaws.{length-leBytes, leAt-same, leAt-drop, leAt-bytes}
 use Rattle.pyramid.specs.Files.{sectionOf, headCount}
-use Rattle.book.specs.Books.{most, entrySize, entryStart, totalAt, dataAt, joined, bookOf, entryAt, isUsed, usedFrom, entriesIn, totalBy, dataIn, isHead, areEntries, allZero, couldBe}
-use Rattle.book.proofs.Laid.{AllSized, unused, joined-length, directory-length, book-length}
+use Rattle.entries.specs.Books.{most, entrySize, entryStart, totalAt, dataAt, joined, bookOf, entryAt, isUsed, usedFrom, entriesIn, totalBy, dataIn, isHead, areEntries, allZero, couldBe}
+use Rattle.entries.proofs.Laid.{AllSized, unused, joined-length, directory-length, book-length}
 use Rattle.route.proofs.Changed.{heads-parts}
 
 -- ---- the entries

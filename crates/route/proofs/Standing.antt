@@ -16,11 +16,12 @@ use Rattle.answers.proofs.Endings.{is-done}
 use Rattle.samples.specs.Le.{Bytes}
 use Rattle.cdf53i.proofs.Lengths.{bytes-join}
 use Rattle.trips.proofs.Undone.{bytes-take, bytes-drop}
-use Rattle.book.specs.Books.{most, entrySize, entryStart, dataAt, joined, bookOf, entryAt, isUsed, usedFrom, entriesIn, totalBy, totalIn, dataIn, freeIn, slotOf, isHeld, placeAt, sizeAt}
-use Rattle.book.specs.Calls.{mostArea, bookChecks, holding, sayFind, sayRoom}
-use Rattle.book.proofs.Passed.{book-refuses, book-passes}
-use Rattle.book.proofs.Entries.{entries-few}
-use Rattle.book.proofs.Laid.{book-length, entries-sized, data-length, checked}
+use Rattle.entries.specs.Books.{most, entrySize, entryStart, dataAt, joined, bookOf, entryAt, isUsed, usedFrom, entriesIn, totalBy, totalIn, dataIn, freeIn, slotOf, isHeld, placeAt, sizeAt}
+use Rattle.entries.specs.Checks.{mostArea, bookChecks, sayFind, sayRoom}
+use Rattle.entries.proofs.Passed.{book-refuses, book-passes}
+use Rattle.entries.proofs.Entries.{entries-few}
+use Rattle.entries.proofs.Laid.{book-length, entries-sized, data-length, checked}
+use Rattle.book.specs.Calls.{holding}
 use Rattle.route.specs.Maps.{Standing, Onward, Map, has, fileFor, mapTotal, bytesBefore, placeFor, mapSays, find, room, filesBy, mapIn, Shows}
 use Rattle.route.proofs.Files.{has-held, files-count, files-total, files-place, files-size, files-bytes, files-front}
 use Rattle.route.proofs.ByteParts.{bytes-zeros, bytes-number}

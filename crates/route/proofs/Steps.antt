@@ -14,9 +14,10 @@ use Rattle.answers.specs.Answers.{say, answerOf, done}
 use Rattle.answers.specs.Checks.{firstOf, left}
 use Rattle.answers.proofs.Passed.{Passing, passing, both-refuse, both-pass, pass-on, through}
 use Rattle.samples.specs.Le.{Bytes}
-use Rattle.book.specs.Books.{most, entrySize, dataAt, entriesIn, dataIn, freeIn, slotOf, isHeld, placeAt, sizeAt}
-use Rattle.book.specs.Calls.{mostArea, spaceChecks, bookChecks, wholeChecks, roomChecks, sayFresh, freshIn, Fresh, sayAdd, addedIn, sayWithdraw, withdrawnIn, without, sayFind, sayRoom}
-use Rattle.book.proofs.Passed.{whole-refuses, held-below}
+use Rattle.entries.specs.Books.{most, entrySize, dataAt, entriesIn, dataIn, freeIn, slotOf, isHeld, placeAt, sizeAt}
+use Rattle.entries.specs.Checks.{mostArea, spaceChecks, bookChecks, wholeChecks, roomChecks, sayFresh, sayAdd, sayWithdraw, sayFind, sayRoom}
+use Rattle.entries.proofs.Passed.{whole-refuses, held-below}
+use Rattle.book.specs.Calls.{freshIn, Fresh, addedIn, withdrawnIn, without}
 use Rattle.route.specs.Maps.{Standing, Onward, mapChecks, BookCall, fresh, add, withdraw, find, room, Does, Lent, Map, has, mapTotal, removed, mapSays, changed, onMap, filesBy, mapIn}
 use Rattle.route.proofs.Changed.{files-more, less-length, place-within, files-less}
 use Rattle.route.proofs.WholeFile.{whole-file}

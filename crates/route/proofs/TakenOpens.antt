@@ -28,7 +28,8 @@ use Rattle.cuts.proofs.Survives.{level-is, file-passes}
 use Rattle.cuts.proofs.Answers.{all-whole}
 use Rattle.cuts.proofs.Opened.{openings}
 use Rattle.cuts.proofs.Kept.{written, file-in}
-use Rattle.book.specs.Calls.{wholeChecks, sayFind, Add}
+use Rattle.entries.specs.Checks.{wholeChecks, sayFind}
+use Rattle.book.specs.Calls.{Add}
 use Rattle.route.specs.Maps.{Standing, Finds, AllSpare, BookCall, Ran, AllLent, Map, has, fileFor, placeFor, Shows}
 use Rattle.route.proofs.FileBytes.{file-bytes}
 use Rattle.route.proofs.Found.{added-found}

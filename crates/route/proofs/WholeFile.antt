@@ -22,8 +22,8 @@ use Rattle.pyramid.specs.Walks.{walkOf}
 use Rattle.pyramid.specs.Opens.{headIn, startChecks, fieldChecks, headChecks, wayIn, wayChecks, fileChecks, wholeDetails, levelIn, ownWidth}
 use Rattle.pyramid.proofs.Ways.{walk-size, walk-short}
 use Rattle.pyramid.proofs.Opening.{head-passes}
-use Rattle.book.specs.Books.{entrySize, pointBy, sizeBy, isHead}
-use Rattle.book.specs.Calls.{wholeChecks}
+use Rattle.entries.specs.Books.{entrySize, pointBy, sizeBy, isHead}
+use Rattle.entries.specs.Checks.{wholeChecks}
 
 -- its first bytes are an entry for point p, and it has as many bytes as they say
 pub record Whole (s : List ℕ) (p : ℕ) : Type 0 where

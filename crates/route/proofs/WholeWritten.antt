@@ -30,7 +30,7 @@ use Rattle.pyramid.proofs.Writing.{file-parts}
 use Rattle.cuts.proofs.SectionsBack.{Sections, sections-back}
 use Rattle.cuts.proofs.Filed.{Recording, Filed}
 use Rattle.cuts.proofs.WrittenHead.{filed}
-use Rattle.book.specs.Calls.{wholeChecks}
+use Rattle.entries.specs.Checks.{wholeChecks}
 use Rattle.route.proofs.WholeFile.{head-back, whole-went}
 
 module _ (s : List ℕ) (p : ℕ) (bs : Bytes s) (c : Passing (wholeChecks s p)) where

@@ -12,8 +12,9 @@ use Rattle.answers.specs.declared.err.Refusal.the-variants.{Done, BookFull, Alr
 use Rattle.answers.specs.Answers.{say, answerOf, done}
 use Rattle.answers.specs.Checks.{Check, firstOf}
 use Rattle.samples.specs.Le.{Bytes}
-use Rattle.book.specs.Books.{most, dataAt, pointBy, sizeBy, entriesIn, dataIn}
-use Rattle.book.specs.Calls.{Book, wholeChecks, sayFind, sayRoom, Fresh, Add, Withdraw}
+use Rattle.entries.specs.Books.{most, dataAt, pointBy, sizeBy, entriesIn, dataIn}
+use Rattle.entries.specs.Checks.{Book, wholeChecks, sayFind, sayRoom}
+use Rattle.book.specs.Calls.{Fresh, Add, Withdraw}
 
 -- ---- the calls
 

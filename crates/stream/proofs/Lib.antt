@@ -1,8 +1,6 @@
 pub mod States
 pub mod Ready
-pub mod Joins
-pub mod Tables
-pub mod Stands
-pub mod Turns
 pub mod Fronting
 pub mod Streams
+pub mod Rears
+pub mod Others

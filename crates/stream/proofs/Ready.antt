@@ -18,9 +18,10 @@ use Rattle.samples.specs.Integers.{Width}
 use Rattle.samples.proofs.Words.{holds}
 use Rattle.cdf53i.specs.Bands.{EnoughWords}
 use Rattle.cdf53i.proofs.WordTurns.{room-of}
-use Rattle.stream.specs.States.{fixed, stateSize, stateIn, couldBe, Possible}
+use Rattle.pieces.specs.States.{fixed, Possible}
+use Rattle.pieces.specs.Steps.{newly, Taking}
+use Rattle.stream.specs.StateBytes.{stateSize, stateIn, couldBe}
 use Rattle.stream.specs.Calls.{lentChecks, pieceChecks, sayPiece, finishChecks, sayFinish}
-use Rattle.stream.specs.Steps.{newly, Taking}
 use Rattle.stream.proofs.States.{could-be, passes}
 
 -- ---- the checks l, and those of m where they pass

@@ -1,23 +1,24 @@
 -- The 16 bytes of a state and the test of them: written and read again, which bytes pass, and that what samples leave passes. Over the width.
 use mathlib.Core.Bool.{Bool, true, false, and-eq-true-iff}
 use mathlib.Core.List.{List, [], _∷_}
-use mathlib.Core.Logic.{_⊎_, inl, inr, ⊎-elim}
 use mathlib.Core.Path.{_≡_, refl, _∙_}
-use Prim.Native.Nat.{ℕ, zero, suc, _+_, _-_, _*_, _/_, _^_, _≤_, _<_}
-use native.Mathlib.Nat.{mul-zero, mul-le-mul-left, mod-eq-of-lt, zero-div}
+use Prim.Native.Nat.{ℕ, _+_, _-_, _*_, _/_, _^_, _≤_, _<_}
+use native.Mathlib.Nat.{mul-le-mul-left, mod-eq-of-lt, zero-div}
 use native.Mathlib.Omega.{arith}
 use borrow.Author.Tests.{ltb-true, ltb-false, lt-ltb, leb-true, le-leb, eqb-true, eq-eqb}
 use lib.Dec.{ltb}
-use lib.ListN.{length, take, List·getD-eq-default}
+use lib.ListN.{length}
 use Rattle.sizes.specs.Lengths.{mostSamples}
-use Rattle.samples.specs.Le.{Bytes, leAt, leBytes}
+use Rattle.samples.specs.Le.{Bytes, leBytes}
 use Rattle.samples.specs.Words.{tabulate, wordAt, wordsOf, bytesOf}
 use Rattle.samples.specs.Integers.{Width, encode}
 use Rattle.samples.proofs.Words.{holds, length-bytes, word-bytes, word-take, word-lt, bytes-words}
 use Rattle.cdf53i.specs.Bands.{high}
 use Rattle.cdf53i.proofs.Lengths.{bytes-of}
-use Rattle.stream.specs.declared.state.Recorder.{Recorder}
-use Rattle.stream.specs.States.{fixed, waiting, stateOf, stateSize, stateBytes, stateIn, bound, couldBe, Possible}
+use Rattle.pieces.specs.declared.recorder.Recorder.{Recorder}
+use Rattle.pieces.specs.States.{fixed, waiting, stateOf, bound, Possible}
+use Rattle.pieces.proofs.Kept.{word-past, word-none}
+use Rattle.stream.specs.StateBytes.{stateSize, stateBytes, stateIn, couldBe}
 use Rattle.stream.specs.Calls.{fresh}
 
 -- ---- as bytes
@@ -74,20 +75,6 @@ possible-could {k} w s p = passes (stateBytes s) (length-state s) (rw (possible-
 
 -- ---- what samples leave is a possible state
 
--- past its end a list reads as 0
-le-past : (k : ℕ) (s : List ℕ) (p : ℕ) → length s ≤ p → leAt k s p ≡ 0
-unfolding leAt
-le-past zero s p h = refl
-le-past (suc k) s p h = rw (List·getD-eq-default s 0 h, le-past k s (p + 1) (omega arith))
-
-pub word-past : (k : ℕ) (s : List ℕ) (j : ℕ) → length s ≤ k * j → wordAt k s j ≡ 0
-unfolding wordAt
-word-past k s j h = le-past k s (k * j) h
-
--- and a part of no words does
-pub word-none : (k : ℕ) (s : List ℕ) (m j : ℕ) → m ≡ 0 → wordAt k (take (k * m) s) j ≡ 0
-word-none k s m j e = rw (e, mul-zero) (word-past k [] j (omega arith))
-
 -- a word that is kept where a < n, and is 0 where not
 kept : (k a n u : ℕ) → (a < n → u < 256 ^ k) → (n ≤ a → u ≡ 0) → u < bound k (ltb a n)
 kept k a n u some none = pick (ltb a n) refl
@@ -95,16 +82,6 @@ kept k a n u some none = pick (ltb a n) refl
     pick : (t : Bool) → ltb a n ≡ t → u < bound k t
     pick true e = some (ltb-true a n e)
     pick false e = omega (arith, none (ltb-false a n e))
-
-pub kept-or : (k a n u : ℕ) → u < bound k (ltb a n) → ((a < n) × (u < 256 ^ k)) ⊎ ((n ≤ a) × (u ≡ 0))
-kept-or k a n u h = pick (ltb a n) refl h
-  where
-    pick : (t : Bool) → ltb a n ≡ t → u < bound k t → ((a < n) × (u < 256 ^ k)) ⊎ ((n ≤ a) × (u ≡ 0))
-    pick true e h = inl (ltb-true a n e, h)
-    pick false e h = inr (ltb-false a n e, omega arith)
-
-pub kept-small : (k a n u : ℕ) → u < bound k (ltb a n) → a < n → u < 256 ^ k
-kept-small k a n u h l = ⊎-elim (λ q. q .1) (λ q. omega (arith, q .0)) (kept-or k a n u h)
 
 pub left-possible : {k : ℕ} → Width k → (x : List ℕ) → Bytes x → length x ≡ k * (length x / k) → length x / k ≤ mostSamples → Possible k (stateOf k x)
 unfolding stateOf high encode

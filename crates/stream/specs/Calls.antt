@@ -2,10 +2,9 @@
 use mathlib.Core.Bool.{not}
 use mathlib.Core.List.{List, [], _∷_, _++_}
 use mathlib.Core.Path.{_≡_}
-use Prim.Native.Nat.{ℕ, _+_, _-_, _*_, _/_}
+use Prim.Native.Nat.{ℕ, _+_, _-_, _/_}
 use lib.Dec.{ltb}
 use lib.ListN.{length, replicate}
-use lib.Seq.{slice}
 use Rattle.answers.specs.declared.err.Answer.{Answer}
 use Rattle.answers.specs.declared.err.Refusal.{Refusal}
 use Rattle.answers.specs.declared.err.Refusal.the-variants.{Done, MinFilterSize, TooLong, BadCount}
@@ -14,8 +13,8 @@ use Rattle.answers.specs.Checks.{Check, firstOf, ragged, tight, left, inFront}
 use Rattle.sizes.specs.declared.Wavelet.the-variants.{Cdf53}
 use Rattle.sizes.specs.Lengths.{mostSamples, approxLength, detailsLength, smallestOf}
 use Rattle.cdf53i.specs.Bands.{low, high}
-use Rattle.stream.specs.declared.state.Recorder.{Recorder}
-use Rattle.stream.specs.States.{fixed, stateOf, stateSize, stateBytes, stateIn, couldBe, standIn}
+use Rattle.pieces.specs.States.{fixed, stateOf, standIn, fixedBy, restOf}
+use Rattle.stream.specs.StateBytes.{stateSize, stateBytes, stateIn, couldBe}
 
 -- the answer r of a call that says this, and the state and the two areas that it leaves: the state `new`, and `lows` and `highs` at the front of the areas, where it is done
 pub record Streams (says : Refusal) (new lows highs b a d : List ℕ) (r : Answer) (b′ a′ d′ : List ℕ) : Type 0 where
@@ -23,10 +22,6 @@ pub record Streams (says : Refusal) (new lows highs b a d : List ℕ) (r : Answe
   pub state : b′ ≡ left says new b
   pub approx : a′ ≡ left says (inFront lows a) a
   pub details : d′ ≡ left says (inFront highs d) d
-
--- coefficients i to j - 1 of a band
-abbrev pub between : ℕ → ℕ → ℕ → List ℕ → List ℕ
-between k i j band = slice (k * i) (k * j) band
 
 -- "9 (0, 0) a state no calls could have left"
 abbrev pub stateCheck : ℕ → List ℕ → Check
@@ -49,10 +44,6 @@ pieceChecks k t y a d = let n = t + y / k in (ltb mostSamples n, TooLong) ∷ ba
 unfoldable pub sayPiece : ℕ → List ℕ → ℕ → ℕ → ℕ → Refusal
 sayPiece k b y a d = firstOf (lentChecks k b y a d ++ pieceChecks k (stateIn b .total) y a d) (Done 0 0)
 
--- the coefficients of a band that the piece y fixes: `band` is low or high
-abbrev pub fixedBy : (ℕ → List ℕ → List ℕ) → ℕ → Recorder → List ℕ → List ℕ
-fixedBy band k s y = between k (fixed (s .total)) (fixed (s .total + length y / k)) (band k (standIn k s ++ y))
-
 abbrev pub Piece : ℕ → List ℕ → List ℕ → List ℕ → List ℕ → Answer → List ℕ → List ℕ → List ℕ → Type 0
 Piece k b y a d =
     let s = stateIn b in
@@ -71,10 +62,6 @@ finishChecks k t a d =
 
 unfoldable pub sayFinish : ℕ → List ℕ → ℕ → ℕ → Refusal
 sayFinish k b a d = firstOf (lentChecks k b 0 a d ++ finishChecks k (stateIn b .total) a d) (Done 0 0)
-
--- what the end writes of a band: its coefficients that are not written yet
-abbrev pub restOf : (ℕ → List ℕ → List ℕ) → (ℕ → ℕ) → ℕ → Recorder → List ℕ
-restOf band count k s = between k (fixed (s .total)) (count (s .total)) (band k (standIn k s))
 
 abbrev pub Finish : ℕ → List ℕ → List ℕ → List ℕ → Answer → List ℕ → List ℕ → List ℕ → Type 0
 Finish k b a d =

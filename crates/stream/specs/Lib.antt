@@ -1,3 +1,3 @@
-pub mod States
+pub mod StateBytes
 pub mod Calls
-pub mod Steps
+pub mod Loops

@@ -1,39 +1,17 @@
-// What is kept of a recording between two pieces: as numbers, as 16 bytes, and whether calls can have left these.
+// What is kept of a recording between two pieces, as 16 bytes, and whether calls can have left these.
 ghost use mathlib.Core.Path.{_≡_};
 ghost use lib.ListN.{length};
 ghost use Rattle.samples.specs.Integers.{Width};
-ghost use Rattle.stream.specs.States.{stateSize, stateBytes, stateIn, isKept, couldBe};
+ghost use Rattle.stream.specs.StateBytes.{stateSize, stateBytes, stateIn, isKept, couldBe};
+use pieces::recorder::Recorder;
+use pieces::recorder::fixed;
+use pieces::recorder::waiting;
 use samples::le::read_u32;
 use samples::le::write_u32;
 use sizes::MOST_SAMPLES;
 
 // How many bytes a state has.
 const STATE_SIZE: usize = 16;
-
-// How many samples came, the words of the two that wait, and the word of the last detail that was written.
-pub struct Recorder {
-    pub total: u32,
-    pub even: u32,
-    pub odd: u32,
-    pub detail: u32,
-}
-
-// How many coefficients of each band t samples fix.
-pub fn fixed(t: usize) -> usize
-    ensures { λ r. ⌜ r ≡ Rattle.stream.specs.States.fixed t ⌝ }
-{
-    if t == 0 {
-        return 0;
-    }
-    (t - 1) / 2
-}
-
-// How many of the t samples wait for the next.
-pub fn waiting(t: usize) -> usize
-    ensures { λ r. ⌜ r ≡ Rattle.stream.specs.States.waiting t ⌝ }
-{
-    t - 2 * fixed(t)
-}
 
 // The state in 16 bytes.
 pub fn read(b: &[u8]) -> Recorder

@@ -2,7 +2,7 @@
 use borrow.Author.Needs.{needs}
 use mathlib.Core.Path.{sym, ap, _∙_}
 use Rattle.answers.specs.Answers.{done}
-use Rattle.book.proofs.Passed.{add-passes}
+use Rattle.entries.proofs.Passed.{add-passes}
 use Rattle.book.proofs.Leaves.{leaves-done, leaves-refused}
 use Rattle.book.proofs.calls.add.Statement.{statement}
 use Rattle.book.proofs.calls.add.Tie as tie

@@ -7,10 +7,10 @@ use native.Mathlib.Omega.{arith}
 use lib.ListN.{length}
 use lib.Seq.{length-take-le}
 use Rattle.samples.specs.Le.{Bytes}
-use Rattle.book.specs.Books.{entrySize, dataAt, totalIn}
-use Rattle.book.specs.Calls.{Addable}
-use Rattle.book.proofs.Entries.{total-is}
-use Rattle.book.proofs.Laid.{checked}
+use Rattle.entries.specs.Books.{entrySize, dataAt, totalIn}
+use Rattle.entries.specs.Checks.{Addable}
+use Rattle.entries.proofs.Entries.{total-is}
+use Rattle.entries.proofs.Laid.{checked}
 use Rattle.book.proofs.Changed.{added-is}
 use Rattle.book.proofs.calls.enter.Statement.{statement}
 use Rattle.book.proofs.calls.enter.Tie as tie

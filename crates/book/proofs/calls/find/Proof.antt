@@ -8,10 +8,10 @@ use lib.ListN.{length}
 use Rattle.answers.specs.declared.err.Refusal.the-variants.{Done}
 use Rattle.answers.specs.Answers.{answerOf, done}
 use Rattle.answers.proofs.Passed.{Passing, passing, through, other-end}
-use Rattle.book.specs.Books.{dataAt, sizeBy, entriesIn, slotOf, placeAt, sizeAt}
-use Rattle.book.specs.Calls.{Book, heldChecks, sayFind}
-use Rattle.book.proofs.Entries.{entries-few, entry-is}
-use Rattle.book.proofs.Passed.{held-refuses, held-passes, held-below}
+use Rattle.entries.specs.Books.{dataAt, sizeBy, entriesIn, slotOf, placeAt, sizeAt}
+use Rattle.entries.specs.Checks.{Book, heldChecks, sayFind}
+use Rattle.entries.proofs.Entries.{entries-few, entry-is}
+use Rattle.entries.proofs.Passed.{held-refuses, held-passes, held-below}
 use Rattle.book.proofs.calls.find.Statement.{statement}
 use Rattle.book.proofs.calls.find.Tie as tie
 

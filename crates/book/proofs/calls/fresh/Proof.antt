@@ -6,9 +6,9 @@ use lib.ListN.{length}
 use Rattle.answers.specs.declared.err.Refusal.the-variants.{Done}
 use Rattle.answers.specs.Answers.{done}
 use Rattle.answers.proofs.Passed.{passing, roomy}
-use Rattle.book.specs.Books.{dataAt}
-use Rattle.book.specs.Calls.{spaceChecks, sayFresh}
-use Rattle.book.proofs.Passed.{space-refuses}
+use Rattle.entries.specs.Books.{dataAt}
+use Rattle.entries.specs.Checks.{spaceChecks, sayFresh}
+use Rattle.entries.proofs.Passed.{space-refuses}
 use Rattle.book.proofs.Leaves.{leaves-done, leaves-refused}
 use Rattle.book.proofs.calls.fresh.Statement.{statement}
 use Rattle.book.proofs.calls.fresh.Tie as tie

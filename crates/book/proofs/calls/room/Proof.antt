@@ -8,11 +8,11 @@ use lib.ListN.{length}
 use Rattle.answers.specs.declared.err.Refusal.the-variants.{Done}
 use Rattle.answers.specs.Answers.{answerOf, done}
 use Rattle.answers.proofs.Passed.{Passing, passing, through, other-end}
-use Rattle.book.specs.Books.{dataAt, totalIn}
-use Rattle.book.specs.Calls.{Book, bookChecks, sayRoom}
-use Rattle.book.proofs.Entries.{total-is}
-use Rattle.book.proofs.Laid.{checked}
-use Rattle.book.proofs.Passed.{book-refuses, book-passes}
+use Rattle.entries.specs.Books.{dataAt, totalIn}
+use Rattle.entries.specs.Checks.{Book, bookChecks, sayRoom}
+use Rattle.entries.proofs.Entries.{total-is}
+use Rattle.entries.proofs.Laid.{checked}
+use Rattle.entries.proofs.Passed.{book-refuses, book-passes}
 use Rattle.book.proofs.calls.room.Statement.{statement}
 use Rattle.book.proofs.calls.room.Tie as tie
 

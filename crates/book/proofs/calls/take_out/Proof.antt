@@ -5,10 +5,10 @@ use Prim.Native.Nat.{suc, _+_, _≤_, _<_}
 use native.Mathlib.Omega.{arith}
 use lib.ListN.{length}
 use Rattle.samples.specs.Le.{Bytes}
-use Rattle.book.specs.Books.{dataAt, sizeBy, entriesIn, totalIn, slotOf, sizeAt}
-use Rattle.book.proofs.Entries.{entries-few, entry-is, place-next, place-most, total-is}
-use Rattle.book.proofs.Laid.{checked}
-use Rattle.book.proofs.Passed.{held-below}
+use Rattle.entries.specs.Books.{dataAt, sizeBy, entriesIn, totalIn, slotOf, sizeAt}
+use Rattle.entries.proofs.Entries.{entries-few, entry-is, place-next, place-most, total-is}
+use Rattle.entries.proofs.Laid.{checked}
+use Rattle.entries.proofs.Passed.{held-below}
 use Rattle.book.proofs.Changed.{withdrawn-is}
 use Rattle.book.proofs.calls.take_out.Statement.{statement}
 use Rattle.book.proofs.calls.take_out.Tie as tie

@@ -4,8 +4,8 @@ use mathlib.Core.Path.{sym, ap, _∙_}
 use Rattle.answers.specs.declared.err.Refusal.the-variants.{Done}
 use Rattle.answers.specs.Answers.{done}
 use Rattle.answers.proofs.Passed.{passing}
-use Rattle.book.specs.Calls.{heldChecks, sayWithdraw}
-use Rattle.book.proofs.Passed.{held-refuses, held-passes}
+use Rattle.entries.specs.Checks.{heldChecks, sayWithdraw}
+use Rattle.entries.proofs.Passed.{held-refuses, held-passes}
 use Rattle.book.proofs.Leaves.{leaves-done, leaves-refused}
 use Rattle.book.proofs.calls.withdraw.Statement.{statement}
 use Rattle.book.proofs.calls.withdraw.Tie as tie

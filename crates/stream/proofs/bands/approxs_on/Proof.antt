@@ -6,7 +6,7 @@ use native.Mathlib.Omega.{arith}
 use lib.ListN.{length}
 use Rattle.samples.specs.Words.{Front}
 use Rattle.samples.proofs.Fronts.{front-none, front-more, front-at}
-use Rattle.stream.specs.Steps.{approxAmong}
+use Rattle.stream.specs.Loops.{approxAmong}
 use Rattle.stream.proofs.bands.approxs_on.Statement.{statement}
 use Rattle.stream.proofs.bands.approxs_on.Tie as tie
 

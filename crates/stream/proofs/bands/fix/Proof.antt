@@ -9,13 +9,14 @@ use lib.ListN.{length, drop}
 use Rattle.samples.specs.Words.{tabulate, bytesOf, Front}
 use Rattle.samples.proofs.Fronts.{front-none, front-all}
 use Rattle.cdf53i.specs.Bands.{low, high}
-use Rattle.stream.specs.declared.state.Recorder.{Recorder}
-use Rattle.stream.specs.States.{fixed, waiting, standIn}
-use Rattle.stream.specs.Calls.{fixedBy}
-use Rattle.stream.specs.Steps.{nextApprox, nextDetail, newly, Taking, Others}
-use Rattle.stream.proofs.Tables.{some-words, between-low, between-high}
-use Rattle.stream.proofs.Turns.{count, holds-z, details-all, approxs-all}
-use Rattle.stream.proofs.Fronting.{rearOf, rear-is}
+use Rattle.pieces.specs.declared.recorder.Recorder.{Recorder}
+use Rattle.pieces.specs.States.{fixed, waiting, standIn, fixedBy}
+use Rattle.pieces.specs.Steps.{nextDetail, nextApprox, newly, Taking}
+use Rattle.pieces.proofs.Tables.{some-words, between-low, between-high}
+use Rattle.pieces.proofs.Turns.{count}
+use Rattle.stream.specs.Loops.{Others}
+use Rattle.stream.proofs.Rears.{rearOf, rear-is}
+use Rattle.stream.proofs.Others.{holds-z, details-all, approxs-all}
 use Rattle.stream.proofs.bands.fix.Statement.{statement}
 use Rattle.stream.proofs.bands.fix.Tie as tie
 

@@ -15,13 +15,12 @@ use Rattle.samples.proofs.Words.{holds, length-bytes, length-tabulate, word-tak
 use Rattle.samples.proofs.IntegerLaws.{residue-lt}
 use Rattle.cdf53i.specs.Bands.{high, detailWord}
 use Rattle.cdf53i.proofs.Words.{high-word}
-use Rattle.stream.specs.declared.state.Recorder.{Recorder}
-use Rattle.stream.specs.States.{fixed, stateOf, standIn}
-use Rattle.stream.specs.Calls.{fixedBy}
-use Rattle.stream.specs.Steps.{nextWord, nextDetail, newly, Taking}
-use Rattle.stream.proofs.States.{word-none, kept-or}
-use Rattle.stream.proofs.Tables.{between-high}
-use Rattle.stream.proofs.Turns.{count, detail-before}
+use Rattle.pieces.specs.declared.recorder.Recorder.{Recorder}
+use Rattle.pieces.specs.States.{fixed, stateOf, standIn, fixedBy}
+use Rattle.pieces.specs.Steps.{nextWord, nextDetail, newly, Taking}
+use Rattle.pieces.proofs.Kept.{word-none, kept-or}
+use Rattle.pieces.proofs.Tables.{between-high}
+use Rattle.pieces.proofs.Turns.{count, detail-before}
 use Rattle.stream.proofs.bands.next.Statement.{statement}
 use Rattle.stream.proofs.bands.next.Tie as tie
 

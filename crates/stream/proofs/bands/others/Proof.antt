@@ -2,11 +2,11 @@
 use borrow.Author.Needs.{needs}
 use mathlib.Core.List.{List}
 use mathlib.Core.Path.{refl}
-use Prim.Native.Nat.{ℕ, _-_}
+use Prim.Native.Nat.{ℕ}
 use native.Mathlib.Omega.{arith}
 use Rattle.samples.proofs.Fronts.{front-all}
-use Rattle.stream.specs.Steps.{Inner, Others}
-use Rattle.stream.proofs.Fronting.{Behind, rearOf, behind, behind-back, behind-holds}
+use Rattle.stream.specs.Loops.{Inner, Others}
+use Rattle.stream.proofs.Rears.{rearOf, Behind, behind, behind-back, behind-holds}
 use Rattle.stream.proofs.bands.others.Statement.{statement}
 use Rattle.stream.proofs.bands.others.Tie as tie
 

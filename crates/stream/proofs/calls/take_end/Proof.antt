@@ -7,8 +7,9 @@ use Rattle.sizes.specs.Lengths.{approxLength, detailsLength}
 use Rattle.samples.specs.Le.{leBytes}
 use Rattle.samples.specs.Words.{bytesOf}
 use Rattle.cdf53i.specs.Bands.{low, high}
-use Rattle.stream.specs.States.{fixed, stateBytes, stateIn}
-use Rattle.stream.specs.Calls.{restOf, fresh}
+use Rattle.pieces.specs.States.{fixed, restOf}
+use Rattle.stream.specs.StateBytes.{stateBytes, stateIn}
+use Rattle.stream.specs.Calls.{fresh}
 use Rattle.stream.proofs.Fronting.{Lends, lends, lent-back}
 use Rattle.stream.proofs.calls.take_end.Statement.{statement}
 use Rattle.stream.proofs.calls.take_end.Tie as tie

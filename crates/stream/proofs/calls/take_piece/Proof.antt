@@ -5,10 +5,10 @@ use mathlib.Core.Path.{sym, ap, _∙_}
 use Prim.Native.Nat.{ℕ, _-_, _*_}
 use native.Mathlib.Omega.{arith}
 use Rattle.cdf53i.specs.Bands.{low, high, EnoughWords}
-use Rattle.stream.specs.declared.state.Recorder.{Recorder}
-use Rattle.stream.specs.States.{stateOf, stateBytes, stateIn, standIn}
-use Rattle.stream.specs.Calls.{fixedBy}
-use Rattle.stream.specs.Steps.{newly}
+use Rattle.pieces.specs.declared.recorder.Recorder.{Recorder}
+use Rattle.pieces.specs.States.{stateOf, standIn, fixedBy}
+use Rattle.pieces.specs.Steps.{newly}
+use Rattle.stream.specs.StateBytes.{stateBytes, stateIn}
 use Rattle.stream.proofs.Fronting.{Lends, lends, lent-back}
 use Rattle.stream.proofs.calls.take_piece.Statement.{statement}
 use Rattle.stream.proofs.calls.take_piece.Tie as tie

@@ -3,7 +3,7 @@ use borrow.Author.Needs.{needs}
 use borrow.Author.Tests.{lt-ltb, le-ltb}
 use mathlib.Core.Path.{refl}
 use Rattle.answers.proofs.Chain.{by, stop}
-use Rattle.stream.specs.States.{stateIn}
+use Rattle.stream.specs.StateBytes.{stateIn}
 use Rattle.stream.specs.Calls.{lentChecks, finishChecks, sayFinish}
 use Rattle.stream.proofs.Ready.{Split, split, lent-of}
 use Rattle.stream.proofs.checks.check_finish.Statement.{statement}

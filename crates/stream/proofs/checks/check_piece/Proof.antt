@@ -6,7 +6,7 @@ use Prim.Native.Nat.{_+_, _/_}
 use native.Mathlib.Omega.{arith}
 use Rattle.answers.proofs.Chain.{by, stop}
 use Rattle.sizes.specs.Lengths.{mostSamples}
-use Rattle.stream.specs.States.{stateIn}
+use Rattle.stream.specs.StateBytes.{stateIn}
 use Rattle.stream.specs.Calls.{lentChecks, pieceChecks, sayPiece}
 use Rattle.stream.proofs.Ready.{Split, split, Lent, lent-of}
 use Rattle.stream.proofs.checks.check_piece.Statement.{statement}

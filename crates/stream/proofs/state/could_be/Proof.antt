@@ -4,7 +4,8 @@ use borrow.Author.Tests.{eq-eqb, ne-eqb, le-leb, lt-leb, not-true, not-false}
 use mathlib.Core.Bool.{Bool, _&&_}
 use mathlib.Core.Path.{_≡_, sym, _∙_}
 use lib.Dec.{ltb}
-use Rattle.stream.specs.States.{fixed, waiting, stateIn, isKept, couldBe}
+use Rattle.pieces.specs.States.{fixed, waiting}
+use Rattle.stream.specs.StateBytes.{stateIn, isKept, couldBe}
 use Rattle.stream.proofs.state.could_be.Statement.{statement}
 use Rattle.stream.proofs.state.could_be.Tie as tie
 

@@ -7,7 +7,7 @@ use lib.ListN.{getD}
 use Rattle.samples.specs.Words.{tabulate, putAt}
 use Rattle.samples.proofs.Words.{holds}
 use Rattle.samples.proofs.Fronts.{front-none, front-more, front-all}
-use Rattle.stream.specs.States.{stateBytes}
+use Rattle.stream.specs.StateBytes.{stateBytes}
 use Rattle.stream.proofs.state.write.Statement.{statement}
 use Rattle.stream.proofs.state.write.Tie as tie
 

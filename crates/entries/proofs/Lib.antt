@@ -1,0 +1,4 @@
+pub mod Tests
+pub mod Entries
+pub mod Laid
+pub mod Passed

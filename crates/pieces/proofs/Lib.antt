@@ -1,0 +1,5 @@
+pub mod Kept
+pub mod Joins
+pub mod Tables
+pub mod Stands
+pub mod Turns
