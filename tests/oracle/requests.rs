@@ -141,7 +141,8 @@ fn wrong_forward(smallest: usize, n: usize, approx: usize, details: usize) -> Wr
         .then_some(([details, n], [details, n]))
 }
 
-// Level by level, from the deepest, through the first that is wrong in either band.
+// Level by level, from the deepest, through the first that is wrong in either band. The least number of details that
+// is expected, 1 in 5/3 and 2 in 9/7, is the smallest input less 2.
 fn wrong_inverse(smallest: usize, mut approx: usize, levels: &[usize]) -> WrongDetails {
     for &details in levels {
         let n = approx + details;

@@ -5,7 +5,6 @@ use mathlib.Core.Path.{_≡_, refl, ap, _∙_}
 use Prim.Native.Nat.{ℕ, zero, suc, _+_, _-_, _≤_, _<_}
 use native.Mathlib.Omega.{arith}
 use borrow.Author.Tests.{eq-eqb, ne-eqb}
-use lib.Dec.{eqb}
 use lib.ListN.{length, drop, getD, length-drop}
 use lib.Seq.{drop-cons, length-take-le, drop-length}
 use Rattle.samples.specs.Le.{leAt}
@@ -118,16 +117,6 @@ slot-on p e es h = ap (λ (t : Bool). cond t 0 (suc (slotOf p es))) (ne-eqb (poi
 pub slot-none : (p : ℕ) (es : List (List ℕ)) (i : ℕ) → i ≡ length es → slotOf p (drop i es) ≡ 0
 unfolding slotOf
 slot-none p es i h = ap (λ (l : List (List ℕ)). slotOf p l) (ap (λ (n : ℕ). drop n es) h ∙ drop-length es)
-
--- ---- the point is at most behind the last
-pub slot-most : (p : ℕ) (es : List (List ℕ)) → slotOf p es ≤ length es
-unfolding slotOf
-slot-most p [] = omega arith
-slot-most p (e ∷ es) = pick (eqb (pointBy e) p) (slot-most p es)
-  where
-    pick : (t : Bool) → slotOf p es ≤ length es → cond t 0 (suc (slotOf p es)) ≤ suc (length es)
-    pick true h = omega arith
-    pick false h = omega arith
 
 -- each entry can begin a file, and has its point alone
 pub heads-on : (e : List ℕ) (es : List (List ℕ)) → isOnly e es ≡ true → areEntries (e ∷ es) ≡ areEntries es

@@ -1,4 +1,4 @@
--- The checks of the book's calls, from C-14, in order, and what each call says. What a call leaves of the area is in `book`.
+-- The checks of the book's calls, from C-14, in order, what each call says, and what is known where they pass. What a call leaves of the area is in `book`.
 use mathlib.Core.Bool.{true, not}
 use mathlib.Core.List.{List, [], _∷_, _++_}
 use mathlib.Core.Path.{_≡_}

@@ -27,6 +27,15 @@ word-past k s j h = le-past k s (k * j) h
 pub word-none : (k : ℕ) (s : List ℕ) (m j : ℕ) → m ≡ 0 → wordAt k (take (k * m) s) j ≡ 0
 word-none k s m j e = rw (e, mul-zero) (word-past k [] j (omega arith))
 
+-- a word that is kept where a < n, and is 0 where not
+pub kept : (k a n u : ℕ) → (a < n → u < 256 ^ k) → (n ≤ a → u ≡ 0) → u < bound k (ltb a n)
+kept k a n u some none = pick (ltb a n) refl
+  where
+    pick : (t : Bool) → ltb a n ≡ t → u < bound k t
+    pick true e = some (ltb-true a n e)
+    pick false e = omega (arith, none (ltb-false a n e))
+
+-- and back
 pub kept-or : (k a n u : ℕ) → u < bound k (ltb a n) → ((a < n) × (u < 256 ^ k)) ⊎ ((n ≤ a) × (u ≡ 0))
 kept-or k a n u h = pick (ltb a n) refl h
   where

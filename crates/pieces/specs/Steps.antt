@@ -1,4 +1,4 @@
--- What the inner functions of the two calls ask and promise.
+-- What the functions on a state and a piece ask and promise, here and in `stream`.
 use mathlib.Core.List.{List, _++_}
 use Prim.Native.Nat.{ℕ, _+_, _-_, _*_, _/_, _≤_}
 use lib.ListN.{length}

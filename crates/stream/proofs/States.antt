@@ -5,7 +5,7 @@ use mathlib.Core.Path.{_≡_, refl, _∙_}
 use Prim.Native.Nat.{ℕ, _+_, _-_, _*_, _/_, _^_, _≤_, _<_}
 use native.Mathlib.Nat.{mul-le-mul-left, mod-eq-of-lt, zero-div}
 use native.Mathlib.Omega.{arith}
-use borrow.Author.Tests.{ltb-true, ltb-false, lt-ltb, leb-true, le-leb, eqb-true, eq-eqb}
+use borrow.Author.Tests.{ltb-true, lt-ltb, leb-true, le-leb, eqb-true, eq-eqb}
 use lib.Dec.{ltb}
 use lib.ListN.{length}
 use Rattle.sizes.specs.Lengths.{mostSamples}
@@ -17,7 +17,7 @@ use Rattle.cdf53i.specs.Bands.{high}
 use Rattle.cdf53i.proofs.Lengths.{bytes-of}
 use Rattle.pieces.specs.declared.recorder.Recorder.{Recorder}
 use Rattle.pieces.specs.States.{fixed, waiting, stateOf, bound, Possible}
-use Rattle.pieces.proofs.Kept.{word-past, word-none}
+use Rattle.pieces.proofs.Kept.{word-past, word-none, kept}
 use Rattle.stream.specs.StateBytes.{stateSize, stateBytes, stateIn, couldBe}
 use Rattle.stream.specs.Calls.{fresh}
 
@@ -74,14 +74,6 @@ pub possible-could : {k : ℕ} → Width k → (s : Recorder) → Possible k s �
 possible-could {k} w s p = passes (stateBytes s) (length-state s) (rw (possible-back w s p) p)
 
 -- ---- what samples leave is a possible state
-
--- a word that is kept where a < n, and is 0 where not
-kept : (k a n u : ℕ) → (a < n → u < 256 ^ k) → (n ≤ a → u ≡ 0) → u < bound k (ltb a n)
-kept k a n u some none = pick (ltb a n) refl
-  where
-    pick : (t : Bool) → ltb a n ≡ t → u < bound k t
-    pick true e = some (ltb-true a n e)
-    pick false e = omega (arith, none (ltb-false a n e))
 
 pub left-possible : {k : ℕ} → Width k → (x : List ℕ) → Bytes x → length x ≡ k * (length x / k) → length x / k ≤ mostSamples → Possible k (stateOf k x)
 unfolding stateOf high encode
