@@ -5,9 +5,9 @@ use mathlib.Core.Path.{_≡_, refl, ap, _∙_}
 use Prim.Native.Nat.{ℕ, zero, suc, _*_, _/_, _<_}
 use native.Mathlib.Nat.{mul-le-mul-left}
 use native.Mathlib.Omega.{arith}
-use lib.Dec.{leb, eqb·suc-zero}
+use lib.Dec.{leb, eqb, eqb·suc-zero}
 use Rattle.answers.specs.declared.err.Refusal.the-variants.{Done, BufferWasTooSmallForLevel}
-use Rattle.answers.specs.Answers.{done}
+use Rattle.answers.specs.Answers.{says, done}
 use Rattle.answers.specs.Checks.{ragged}
 use Rattle.answers.proofs.Passed.{Refusing, passing, whole, roomy, right}
 use Rattle.sizes.specs.Lengths.{mostSamples}
@@ -21,18 +21,22 @@ pub levels-pos : (l : ℕ) → 0 < levelsOf l
 levels-pos zero = omega arith
 levels-pos (suc l) = simp (eqb·suc-zero l) (omega arith)
 
-short-refuses : (f : Filter) (n : ℕ) → done (tooShort f n) ≡ false
-short-refuses Cdf53I8 n = refl
-short-refuses Cdf53I16 n = refl
-short-refuses Cdf53I32 n = refl
-short-refuses Cdf53F32 n = refl
-short-refuses Cdf53F64 n = refl
-short-refuses Cdf97F32 n = refl
-short-refuses Cdf97F64 n = refl
+-- a depth below the levels is refused with 1 or 4, so with no number i that is neither
+short-says : (i : ℕ) → eqb 1 i ≡ false → eqb 4 i ≡ false → (f : Filter) (n : ℕ) → says i (tooShort f n) ≡ false
+short-says i p q Cdf53I8 n = p
+short-says i p q Cdf53I16 n = p
+short-says i p q Cdf53I32 n = p
+short-says i p q Cdf53F32 n = q
+short-says i p q Cdf53F64 n = q
+short-says i p q Cdf97F32 n = q
+short-says i p q Cdf97F64 n = q
+
+pub shallow-says : (i : ℕ) → eqb 1 i ≡ false → eqb 4 i ≡ false → (f : Filter) (n : ℕ) (t : Bool) → says i (cond t (tooShort f n) BufferWasTooSmallForLevel) ≡ false
+shallow-says i p q f n true = short-says i p q f n
+shallow-says i p q f n false = q
 
 pub shallow-refused : (f : Filter) (n : ℕ) (t : Bool) → done (cond t (tooShort f n) BufferWasTooSmallForLevel) ≡ false
-shallow-refused f n true = short-refuses f n
-shallow-refused f n false = refl
+shallow-refused f n t = shallow-says 0 refl refl f n t
 
 -- the checks of the levels refuse with what no done call says
 pub depth-refuse : (f : Filter) (l n : ℕ) → Refusing (depthChecks f l n)

@@ -1,6 +1,5 @@
 -- "Every driver passes it on unchanged": a 17 of `dwt` and of `multi_idwt` is the answer that the call of one level gives on that level's bands; and `multi_dwt`, which
 -- is lent no band, says neither 2 nor 17. Looks into no filter.
-use mathlib.Core.Bool.{Bool, true, false, cond}
 use mathlib.Core.List.{List, _∷_}
 use mathlib.Core.Path.{_≡_, refl, sym, ap, _∙_}
 use Prim.Native.Nat.{ℕ, _+_, _-_, _*_, _/_, _≤_, _<_}
@@ -9,8 +8,8 @@ use native.Mathlib.Omega.{arith}
 use lib.ListN.{length, getD}
 use lib.Dec.{leb}
 use Rattle.answers.specs.declared.err.Answer.{Answer}
-use Rattle.answers.specs.declared.err.Refusal.the-variants.{Done, BufferWasTooSmallForLevel}
-use Rattle.answers.specs.Answers.{say, says}
+use Rattle.answers.specs.declared.err.Refusal.the-variants.{Done}
+use Rattle.answers.specs.Answers.{say}
 use Rattle.answers.specs.Checks.{firstOf, ragged}
 use Rattle.answers.proofs.Endings.{said-number}
 use Rattle.sizes.specs.declared.Wavelet.{Wavelet}
@@ -22,12 +21,11 @@ use Rattle.sizes.proofs.Depths.{two-below, long-enough}
 use Rattle.sizes.proofs.OneLevel.{count-is}
 use Rattle.samples.specs.Words.{wordsOf}
 use Rattle.dwt.specs.declared.filter.Filter.{Filter}
-use Rattle.dwt.specs.declared.filter.Filter.the-variants.{Cdf53I8, Cdf53I16, Cdf53I32, Cdf53F32, Cdf53F64, Cdf97F32, Cdf97F64}
 use Rattle.dwt.specs.Filters.{widthOf, waveletOf, lowOf, highOf, backOf}
-use Rattle.dwt.specs.Calls.{tooShort, multiChecks, sayMulti, OneForward, OneInverse, Dwt, Multi}
+use Rattle.dwt.specs.Calls.{multiChecks, sayMulti, OneForward, OneInverse, Dwt, Multi}
 use Rattle.dwt.specs.Backward.{MultiBack}
 use Rattle.dwt.proofs.Cuts.{width-pos}
-use Rattle.dwt.proofs.Multi.{levels-pos}
+use Rattle.dwt.proofs.Multi.{levels-pos, shallow-says}
 use Rattle.wrong_band.specs.WrongBand.{ForwardBefore, InverseBefore}
 use Rattle.wrong_band.proofs.Bands.{quiet}
 use Rattle.wrong_band.proofs.Calls.{forward-names, dwt-names}
@@ -91,23 +89,13 @@ back-passes-on f a d ls o u v r o′ u′ v′ h g m rest lm e s ee es q s′ t 
 
 -- ---- `multi_dwt`
 
--- what a depth below the levels is refused with
-shallow : (f : Filter) (n : ℕ) (t : Bool) → (says 2 (cond t (tooShort f n) BufferWasTooSmallForLevel) ≡ false) × (says 17 (cond t (tooShort f n) BufferWasTooSmallForLevel) ≡ false)
-shallow f n false = (refl, refl)
-shallow Cdf53I8 n true = (refl, refl)
-shallow Cdf53I16 n true = (refl, refl)
-shallow Cdf53I32 n true = (refl, refl)
-shallow Cdf53F32 n true = (refl, refl)
-shallow Cdf53F64 n true = (refl, refl)
-shallow Cdf97F32 n true = (refl, refl)
-shallow Cdf97F64 n true = (refl, refl)
-
 pub multi-never : (f : Filter) (l : ℕ) (x o u v : List ℕ) (r : Answer) (o′ u′ v′ : List ℕ) → Multi f l x o u v r o′ u′ v′ → (r .number ≡ 2 → ⊥) × (r .number ≡ 17 → ⊥)
 unfolding sayMulti
 multi-never f l x o u v r o′ u′ v′ h =
     let k = widthOf f in
-    let z = shallow f (length x / k) (leb l 1) in
+    let n = length x / k in
+    let t = leb l 1 in
     let all = ragged k (length x) ∷ ragged k (length o) ∷ ragged k (length u) ∷ ragged k (length v) ∷ multiChecks f l (length x / k) (length o / k) (length u / k) (length v / k) in (
-      (λ g. quiet 2 all (refl, (refl, (refl, (refl, (refl, (z .0, (refl, (refl, (refl, tt))))))))) refl (said-number 2 (firstOf all (Done 0 0)) r (h .answer) g)),
-      (λ g. quiet 17 all (refl, (refl, (refl, (refl, (refl, (z .1, (refl, (refl, (refl, tt))))))))) refl (said-number 17 (firstOf all (Done 0 0)) r (h .answer) g)),
+      (λ g. quiet 2 all (refl, (refl, (refl, (refl, (refl, (shallow-says 2 refl refl f n t, (refl, (refl, (refl, tt))))))))) refl (said-number 2 (firstOf all (Done 0 0)) r (h .answer) g)),
+      (λ g. quiet 17 all (refl, (refl, (refl, (refl, (refl, (shallow-says 17 refl refl f n t, (refl, (refl, (refl, tt))))))))) refl (said-number 17 (firstOf all (Done 0 0)) r (h .answer) g)),
     )
