@@ -20,7 +20,7 @@ use Rattle.sizes.specs.Levels.{afterLevels, countAt}
 use Rattle.sizes.proofs.Counts.{count-at-le}
 use Rattle.dwt.specs.declared.filter.Filter.{Filter}
 use Rattle.dwt.specs.Filters.{widthOf, lowOf, highOf}
-use Rattle.dwt.specs.Pyramids.{approxAt}
+use Rattle.dwt.specs.Pyramids.{approxAt, laidOut}
 use Rattle.dwt.proofs.Cuts.{split-width}
 use Rattle.trips.proofs.Lengths.{length-low, length-high, length-approx}
 use Rattle.pyramid.specs.declared.head.Head.{Head}
@@ -43,7 +43,7 @@ restOf f (suc i) n x = restOf f i (approxLength n) (lowOf f x) ++ sectionOf (det
 
 -- the sections of i + j levels are those of j levels of the approximations after i, and the rest
 body-deeper : (f : Filter) (i j n : ℕ) (x : List ℕ) → bodyOf f (i + j) n x ≡ bodyOf f j (countAt i n) (approxAt f i x) ++ restOf f i n x
-unfolding bodyOf afterLevels restOf
+unfolding laidOut afterLevels restOf
 body-deeper f zero j n x = rw (zero-add j) (sym (append-nil (bodyOf f j n x)))
 body-deeper f (suc i) j n x =
     rw (suc-add i j)
@@ -149,7 +149,7 @@ module _ {z : ℕ} {f : Filter} {l n p : ℕ} {x s : List ℕ} (d : Filed z f l 
 
     -- section 1 is the deepest approximations
     pub section-approx : upTo z k l n 1 ≤ b → take (lengthOf h 1) (drop (startOf t h 1) t) ≡ approxAt f l x
-    unfolding bodyOf
+    unfolding laidOut
     section-approx up =
         let y = approxAt f l x in
         let rest = restOf f l n x in
@@ -165,7 +165,7 @@ module _ {z : ℕ} {f : Filter} {l n p : ℕ} {x s : List ℕ} (d : Filed z f l 
 
     -- section j + 2 is the details of level l - j, of the approximations of the level before it
     pub section-details : (j : ℕ) → j < l → upTo z k l n (j + 2) ≤ b → take (lengthOf h (j + 2)) (drop (startOf t h (j + 2)) t) ≡ highOf f (approxAt f (l - 1 - j) x)
-    unfolding bodyOf
+    unfolding laidOut
     section-details j less up =
         let i = l - 1 - j in
         let y = approxAt f i x in

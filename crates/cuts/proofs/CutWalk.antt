@@ -17,6 +17,7 @@ use Rattle.samples.specs.Le.{leAt, leBytes}
 use Rattle.samples.proofs.LeLaws.{leAt-bytes, leAt-drop, leAt-take}
 use Rattle.dwt.specs.declared.filter.Filter.{Filter}
 use Rattle.dwt.specs.Filters.{widthOf, lowOf, highOf}
+use Rattle.dwt.specs.Pyramids.{laidOut}
 use Rattle.dwt.proofs.Cuts.{split-width}
 use Rattle.trips.proofs.Lengths.{length-low, length-high}
 use Rattle.pyramid.specs.declared.walk.Way.{Way}
@@ -120,7 +121,7 @@ past front b r z j e h =
 -- the walk over the first b bytes of the sections of a file, after any front, and whatever stands behind them
 pub walk-cut : (f : Filter) (l n : ℕ) (x front t : List ℕ) (b : ℕ) → length x ≡ widthOf f * n → n < 256 ^ 4 → b ≤ length (bodyOf f l n x ++ t)
     → walkOf (front ++ take b (bodyOf f l n x ++ t)) (widthOf f) l n (length front) ≡ wayWithin (widthOf f) l n (length front) b
-unfolding walkOf bodyOf wayWithin
+unfolding walkOf laidOut wayWithin
 walk-cut f zero n x front t b h hn hb =
     let s = front ++ take b (sectionOf n x ++ t) in
     let a = length-append front (take b (sectionOf n x ++ t)) in

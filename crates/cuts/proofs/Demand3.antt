@@ -13,13 +13,11 @@ use Rattle.sizes.specs.Lengths.{mostSamples}
 use Rattle.sizes.specs.Levels.{depthOf, levelsOf}
 use Rattle.sizes.proofs.OneLevel.{count-is}
 use Rattle.samples.specs.Le.{Bytes}
-use Rattle.dwt.proofs.Integers.{own-depth}
 use Rattle.dwt.specs.declared.filter.Filter.{Filter}
 use Rattle.dwt.specs.Filters.{widthOf, Integers}
-use Rattle.dwt.specs.Calls.{Ready}
 use Rattle.dwt.specs.Backward.{Area}
 use Rattle.dwt.proofs.Cuts.{width-pos}
-use Rattle.dwt.proofs.Multi.{levels-pos}
+use Rattle.dwt.proofs.Integers.{lent-ready}
 use Rattle.pyramid.specs.Files.{headSize, fileSize}
 use Rattle.pyramid.specs.Writes.{sayWrite, Write}
 use Rattle.cuts.specs.Sees.{Openings}
@@ -33,16 +31,8 @@ pub demand3-levels : (f : Filter) → Integers f → (l n p : ℕ) → levelsOf 
 demand3-levels f i l n p deep most hp x bx size b u v file first second a b′ u′ v′ w =
     let k = widthOf f in
     let en : length x / k ≡ n = count-is k n (length x) (width-pos f) size in
-    let ready : Ready f (levelsOf l) n (length x) (length u) (length v) = record {
-      some = levels-pos l;
-      deep = own-depth f i (levelsOf l) n deep;
-      short = most;
-      whole = size;
-      first = omega (arith, size, first .room);
-      second = omega (arith, size, second .room);
-    } in
     let says : sayWrite f l (length x) (length b) (length u) (length v) ≡ Done 0 0 =
-    write-fits f l n (length u / k) (length v / k) (length x) (length b) (length u) (length v) ready file (first .samples) (second .samples) in
+    write-fits f l n (length u / k) (length v / k) (length x) (length b) (length u) (length v) (lent-ready f i l n deep most x u v size first second) file (first .samples) (second .samples) in
     let done : a ≡ say 0 0 0 = w .answer ∙ ap answerOf says in
     let z : a .number ≡ 0 = ap (λ (q : Answer). q .number) done in
     (done, subst (λ (m : ℕ). Openings headSize f (levelsOf l) m p x b′) en (kept f l p x i bx hp b u v a b′ u′ v′ w z))

@@ -1,32 +1,28 @@
 -- The calls, by what they promise: every front of a file that was written opens as `Openings` says; and two writes of one recording are the same bytes. Each of
 -- the integer filters.
 use mathlib.Core.Bool.{true}
-use mathlib.Core.List.{List, _∷_, _++_}
-use mathlib.Core.Path.{_≡_, refl, sym, ap, subst, _∙_}
+use mathlib.Core.List.{List, _++_}
+use mathlib.Core.Path.{_≡_, sym, ap, subst, _∙_}
 use Prim.Native.Nat.{ℕ, _/_, _^_, _≤_, _<_}
 use native.Mathlib.Omega.{arith}
-use lib.Dec.{leb}
 use lib.ListN.{length, take, drop}
 use lib.Seq.{take-at, take-take}
 use Rattle.answers.specs.declared.err.Answer.{Answer}
-use Rattle.answers.specs.declared.err.Refusal.the-variants.{Done}
 use Rattle.answers.specs.Answers.{done}
-use Rattle.answers.specs.Checks.{ragged}
 use Rattle.answers.proofs.Endings.{is-done, left-done}
-use Rattle.answers.proofs.Passed.{passing, whole, roomy}
+use Rattle.answers.proofs.Passed.{whole}
 use Rattle.sizes.specs.declared.Wavelet.{Wavelet}
 use Rattle.sizes.specs.declared.Wavelet.the-variants.{Cdf53}
-use Rattle.sizes.specs.Lengths.{mostSamples}
 use Rattle.sizes.specs.Levels.{depthOf, levelsOf}
 use Rattle.sizes.proofs.Depths.{step}
 use Rattle.samples.specs.Le.{Bytes}
 use Rattle.dwt.proofs.Integers.{wavelet-is}
 use Rattle.dwt.specs.declared.filter.Filter.{Filter}
-use Rattle.dwt.specs.Filters.{widthOf, waveletOf, Integers}
-use Rattle.dwt.proofs.Multi.{levels-pos, shallow-refused}
+use Rattle.dwt.specs.Filters.{widthOf, Integers}
 use Rattle.pyramid.specs.Files.{headSize, fileOf, fileSize}
 use Rattle.pyramid.specs.Opens.{Open}
-use Rattle.pyramid.specs.Writes.{writeChecks, sayWrite, Write}
+use Rattle.pyramid.specs.Writes.{sayWrite, Write}
+use Rattle.pyramid.proofs.Writing.{write-ready}
 use Rattle.cuts.specs.Sees.{Openings}
 use Rattle.cuts.proofs.Filed.{Recording, Filed, all-length}
 use Rattle.cuts.proofs.WrittenHead.{filed}
@@ -35,22 +31,18 @@ use Rattle.cuts.proofs.Opened.{openings}
 -- samples that were written are a recording
 pub recorded : (f : Filter) (l p : ℕ) (x : List ℕ) (b u v : ℕ) → Integers f → Bytes x → p < 2 ^ 32 → done (sayWrite f l (length x) b u v) ≡ true
     → Recording f (levelsOf l) (length x / widthOf f) p x
-unfolding sayWrite
 recorded f l p x b u v i bx hp h =
-    let k = widthOf f in
-    let n = length x / k in
-    let q = passing (ragged k (length x) ∷ ragged k u ∷ ragged k v ∷ writeChecks f l n b (u / k) (v / k)) (Done 0 0)
-    (refl, (refl, (refl, (refl, (shallow-refused f n (leb l 1), (refl, (refl, (refl, tt)))))))) h in
-    let w = q .1 .1 .1 in
-    let deep : levelsOf l ≤ depthOf Cdf53 n = subst (λ (y : Wavelet). levelsOf l ≤ depthOf y n) (wavelet-is f i) (roomy (depthOf (waveletOf f) n) (levelsOf l) (w .1 .0)) in
-    let st = step 3 (omega arith) 0 n (omega (arith, levels-pos l)) in
+    let n = length x / widthOf f in
+    let r = write-ready f l (length x) b u v h .0 in
+    let deep : levelsOf l ≤ depthOf Cdf53 n = subst (λ (y : Wavelet). levelsOf l ≤ depthOf y n) (wavelet-is f i) (r .deep) in
+    let st = step 3 (omega arith) 0 n (omega (arith, r .some)) in
     record {
       integers = i;
       bytes = bx;
-      size = whole k (length x) (q .0);
+      size = r .whole;
       least = st .0;
-      most = roomy mostSamples n (w .0);
-      some = levels-pos l;
+      most = r .short;
+      some = r .some;
       deep = deep;
       point = hp;
     }

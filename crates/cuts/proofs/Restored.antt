@@ -17,7 +17,7 @@ use Rattle.samples.proofs.LeLaws.{length-leBytes}
 use Rattle.cdf53i.specs.Bands.{back}
 use Rattle.dwt.specs.declared.filter.Filter.{Filter}
 use Rattle.dwt.specs.Filters.{widthOf, waveletOf, lowOf, highOf, Integers}
-use Rattle.dwt.specs.Pyramids.{approxAt}
+use Rattle.dwt.specs.Pyramids.{approxAt, laidOut}
 use Rattle.dwt.proofs.Cuts.{split-width}
 use Rattle.trips.proofs.Lengths.{length-low, length-high}
 use Rattle.trips.proofs.Undone.{Undoes, undoes}
@@ -67,7 +67,7 @@ module _ (f : Filter) (int : Integers f) where
   -- sections that are all there restore the samples, after any front, and whatever stands behind them
   pub restored-whole : (l n : ℕ) (x front t : List ℕ) (b : ℕ) → Bytes x → length x ≡ widthOf f * n → l ≤ depthOf (waveletOf f) n → bodySize (widthOf f) l n ≤ b
       → restoredAt (widthOf f) (front ++ take b (bodyOf f l n x ++ t)) l n (length front) ≡ x
-  unfolding restoredAt bodyOf
+  unfolding restoredAt laidOut
   restored-whole zero n x front t b v h g c =
       bytes-whole (front ++ take b (sectionOf n x ++ t)) x t (widthOf f) n (length front) b (drop-at front (take b (sectionOf n x ++ t)) (length front) refl) h (omega arith)
   restored-whole (suc l) n x front t b v h g c =
@@ -94,7 +94,7 @@ module _ (f : Filter) (int : Integers f) where
   pub restored-cut : (l n : ℕ) (x front t : List ℕ) (b : ℕ) → Bytes x → length x ≡ widthOf f * n → l ≤ depthOf (waveletOf f) n → bodySize (widthOf f) 0 (countAt l n) ≤ b
       → restoredAt (widthOf f) (front ++ take b (bodyOf f l n x ++ t)) (wholeIn (widthOf f) l n b) (countAt (l - wholeIn (widthOf f) l n b) n) (length front)
       ≡ approxAt f (l - wholeIn (widthOf f) l n b) x
-  unfolding bodyOf afterLevels wholeIn
+  unfolding laidOut afterLevels wholeIn
   restored-cut zero n x front t b v h g c = restored-whole zero n x front t b v h g c
   restored-cut (suc l) n x front t b v h g c =
       let k = widthOf f in

@@ -16,6 +16,7 @@ use Rattle.samples.proofs.LeLaws.{leBytes-at}
 use Rattle.cdf53i.specs.Bands.{back}
 use Rattle.dwt.specs.declared.filter.Filter.{Filter}
 use Rattle.dwt.specs.Filters.{widthOf, waveletOf, lowOf, highOf, backOf, Integers}
+use Rattle.dwt.specs.Pyramids.{laidOut}
 use Rattle.dwt.proofs.Cuts.{split-width}
 use Rattle.trips.proofs.Lengths.{length-back}
 use Rattle.trips.proofs.Undone.{Undoes, undoes, bytes-take, bytes-drop}
@@ -77,7 +78,7 @@ module _ (f : Filter) (int : Integers f) (s : List ℕ) (bs : Bytes s) where
 
   -- all of them, whatever stands behind: the two bands of what a level restores are those that stand there
   pub sections-back : (l n at q : ℕ) → at ≤ length s → l ≤ depthOf (waveletOf f) n → walkOf s k l n at ≡ Went q → Sections f s l n at
-  unfolding walkOf restoredAt bodyOf
+  unfolding walkOf restoredAt laidOut
   sections-back zero n at q h g e =
       let one = section-back n 1 at q h e in
       let z : bodySize k 0 n ≡ 4 + k * n = omega arith in

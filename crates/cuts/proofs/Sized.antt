@@ -9,6 +9,7 @@ use Rattle.samples.specs.Le.{leBytes}
 use Rattle.samples.proofs.LeLaws.{length-leBytes}
 use Rattle.dwt.specs.declared.filter.Filter.{Filter}
 use Rattle.dwt.specs.Filters.{widthOf, lowOf, highOf}
+use Rattle.dwt.specs.Pyramids.{laidOut}
 use Rattle.dwt.proofs.Cuts.{split-width}
 use Rattle.trips.proofs.Lengths.{length-low, length-high}
 use Rattle.pyramid.specs.Files.{sectionOf, bodyOf, bodySize, fileSize}
@@ -19,7 +20,7 @@ section-length c b = length-append (leBytes 4 c) b ∙ ap (λ (m : ℕ). m + len
 
 -- "Size: 14 + 4(L+1) + width·n", without section 0
 pub body-length : (f : Filter) (l n : ℕ) (x : List ℕ) → length x ≡ widthOf f * n → length (bodyOf f l n x) ≡ bodySize (widthOf f) l n
-unfolding bodyOf
+unfolding laidOut
 body-length f zero n x h = omega (arith, section-length n x)
 body-length f (suc l) n x h =
     let i = body-length f l (approxLength n) (lowOf f x) (length-low f x n h) in

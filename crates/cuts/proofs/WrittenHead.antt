@@ -3,7 +3,6 @@ use mathlib.Core.Bool.{not}
 use mathlib.Core.List.{List, _++_}
 use mathlib.Core.Path.{_≡_, refl, sym, ap, subst, _∙_}
 use Prim.Native.Nat.{ℕ, _+_, _≤_, _<_}
-use native.Mathlib.Nat.{mul-le-mul-right}
 use native.Mathlib.Omega.{arith}
 use borrow.Author.Tests.{lt-ltb, le-ltb, ne-eqb}
 use lib.ListN.{length, take}
@@ -16,16 +15,16 @@ use Rattle.answers.proofs.Passed.{Passing}
 use Rattle.sizes.specs.declared.Wavelet.the-variants.{Cdf53}
 use Rattle.sizes.specs.Lengths.{mostSamples}
 use Rattle.sizes.specs.Levels.{depthOf}
-use Rattle.sizes.proofs.Depths.{depth-at-most}
 use Rattle.samples.specs.Le.{leAt, leBytes}
 use Rattle.samples.proofs.LeLaws.{leAt-take}
-use Rattle.dwt.proofs.Integers.{common}
+use Rattle.dwt.proofs.Integers.{own-depth, common}
 use Rattle.dwt.specs.declared.filter.Filter.{Filter}
-use Rattle.dwt.specs.Filters.{widthOf}
+use Rattle.dwt.specs.Filters.{widthOf, waveletOf}
+use Rattle.dwt.proofs.Cuts.{few-levels}
 use Rattle.pyramid.specs.declared.head.Head.{Head}
 use Rattle.pyramid.specs.Files.{mostBytes, headCount, headOf, headSize, bodyOf, fileOf, fileSize}
 use Rattle.pyramid.specs.Opens.{headIn, fieldChecks, headChecks}
-use Rattle.pyramid.proofs.Writing.{head-length, file-parts}
+use Rattle.pyramid.proofs.Writing.{head-length, file-most, file-parts}
 use Rattle.cuts.proofs.Sized.{file-length}
 use Rattle.cuts.proofs.Filed.{Recording, Filed}
 
@@ -39,13 +38,12 @@ module _ {f : Filter} {l n p : ℕ} {x : List ℕ} (r : Recording f l n p x) whe
   parts : s ≡ headOf k l n p ++ bodyOf f l n x
   parts = file-parts f l p n x (r .size)
 
-  -- its levels are few
-  few : l ≤ 23
-  few = omega (arith, r .deep, depth-at-most Cdf53 23 n (r .most))
+  deep : l ≤ depthOf (waveletOf f) n
+  deep = own-depth f (r .integers) l n (r .deep)
 
-  -- so it is not too long
+  -- it is not too long
   most : fileSize headSize k l n ≤ mostBytes
-  most = let g = mul-le-mul-right n (common f (r .integers) .narrow) in omega (arith, few, r .most)
+  most = file-most f (r .integers) l n deep (r .most)
 
   size : (b : ℕ) → b ≤ fileSize headSize k l n → length (take b s) ≡ b
   size b e = length-take-le b s (omega (arith, file-length f l n headSize x (headOf k l n p) s (r .size) (head-length k l n p) parts))
@@ -63,7 +61,7 @@ module _ {f : Filter} {l n p : ℕ} {x : List ℕ} (r : Recording f l n p x) whe
   unfolding leAt leBytes
   head-read b c =
       let ek : leAt 1 (take b s) 4 ≡ k = number-read 1 4 b (omega arith) c ∙ omega (arith, common f (r .integers) .narrow) in
-      let el : leAt 1 (take b s) 5 ≡ l = number-read 1 5 b (omega arith) c ∙ omega (arith, few) in
+      let el : leAt 1 (take b s) 5 ≡ l = number-read 1 5 b (omega arith) c ∙ omega (arith, few-levels (waveletOf f) l n deep (r .most)) in
       let en : leAt 4 (take b s) 6 ≡ n = number-read 4 6 b (omega arith) c ∙ omega (arith, r .most) in
       let ep : leAt 4 (take b s) 10 ≡ p = number-read 4 10 b (omega arith) c ∙ omega (arith, r .point) in
       λ i. record { width = ek i; levels = el i; samples = en i; point = ep i; body = headSize }

@@ -7,10 +7,10 @@ ghost use Rattle.dwt.specs.Backward.{MultiBack};
 use answers::err::Answer;
 use backward::back::multi_idwt;
 use deepest::last::dwt;
+use downward::levels::multi_dwt;
 use dwt::filter::Filter;
 use dwt::filter::execute_forward;
 use dwt::filter::execute_inverse;
-use dwt::levels::multi_dwt;
 use sizes::Wavelet;
 use sizes::ask_depth;
 

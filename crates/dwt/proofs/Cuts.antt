@@ -3,7 +3,10 @@ use mathlib.Core.Path.{_≡_, ap, _∙_}
 use Prim.Native.Nat.{ℕ, _+_, _*_, _^_, _≤_, _<_}
 use native.Mathlib.Nat.{mul-add}
 use native.Mathlib.Omega.{arith}
+use Rattle.sizes.specs.declared.Wavelet.{Wavelet}
 use Rattle.sizes.specs.Lengths.{mostSamples, approxLength, detailsLength}
+use Rattle.sizes.specs.Levels.{depthOf}
+use Rattle.sizes.proofs.Depths.{depth-at-most}
 use Rattle.dwt.specs.declared.filter.Filter.{Filter}
 use Rattle.dwt.specs.declared.filter.Filter.the-variants.{Cdf53I8, Cdf53I16, Cdf53I32, Cdf53F32, Cdf53F64, Cdf97F32, Cdf97F64}
 use Rattle.dwt.specs.Filters.{widthOf}
@@ -27,6 +30,10 @@ width-room Cdf53F32 n h = omega arith
 width-room Cdf53F64 n h = omega arith
 width-room Cdf97F32 n h = omega arith
 width-room Cdf97F64 n h = omega arith
+
+-- levels within the depth fit a byte
+pub few-levels : (w : Wavelet) (l n : ℕ) → l ≤ depthOf w n → n ≤ mostSamples → l < 256
+few-levels w l n h s = omega (arith, h, depth-at-most w 23 n s)
 
 pub split-width : (k n : ℕ) → k * n ≡ k * approxLength n + k * detailsLength n
 split-width k n = let e : n ≡ approxLength n + detailsLength n = omega arith in ap (λ m. k * m) e ∙ mul-add k (approxLength n) (detailsLength n)

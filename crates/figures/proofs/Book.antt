@@ -11,8 +11,9 @@ use Rattle.samples.specs.Integers.{val, residue, wrap, decode, encode}
 use Rattle.cdf53i.specs.Lift.{detail, details, approx, approxs}
 use Rattle.cdf53i.specs.Bands.{low, high}
 use Rattle.dwt.specs.declared.filter.Filter.the-variants.{Cdf53I8}
+use Rattle.dwt.specs.Pyramids.{laidOut}
 use Rattle.trips.proofs.Undone.{bytes-take}
-use Rattle.pyramid.specs.Files.{bodyOf, fileOf}
+use Rattle.pyramid.specs.Files.{fileOf}
 use Rattle.pyramid.specs.Walks.{oneOf, walkOf}
 use Rattle.pyramid.specs.Opens.{ownWidth}
 use Rattle.entries.specs.Books.{dataAt}
@@ -30,7 +31,7 @@ lent =
     (at 14, (at 15, (tt, (at 15, (at 16, (tt, (tt, (tt, (tt, (tt, (at 15, (bytes-take 30 (fileAt 16) (at 16), (at 16, (tt, tt))))))))))))))
 
 on-map : mapAnswers 62 [] (asked day) ≡ answered day
-unfolding asked answered mapAnswers has fileFor mapTotal bytesBefore removed fileOf bodyOf oneOf walkOf ownWidth afterLevels depthFrom depthWithin leAt leBytes tabulate wordAt wordsOf bytesOf val residue wrap decode encode detail details approx approxs low high
+unfolding asked answered mapAnswers has fileFor mapTotal bytesBefore removed fileOf laidOut oneOf walkOf ownWidth afterLevels depthFrom depthWithin leAt leBytes tabulate wordAt wordsOf bytesOf val residue wrap decode encode detail details approx approxs low high
 on-map = refl
 
 pub a-day : Day

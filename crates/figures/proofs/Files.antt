@@ -14,8 +14,8 @@ use Rattle.samples.specs.Integers.{val, residue, wrap, decode, encode}
 use Rattle.cdf53i.specs.Lift.{detail, details, approx, approxs}
 use Rattle.cdf53i.specs.Bands.{low, high}
 use Rattle.dwt.specs.declared.filter.Filter.the-variants.{Cdf53I8}
-use Rattle.dwt.specs.Pyramids.{approxAt, lengthsOf}
-use Rattle.pyramid.specs.Files.{headSize, bodyOf, fileOf}
+use Rattle.dwt.specs.Pyramids.{approxAt, lengthsOf, laidOut}
+use Rattle.pyramid.specs.Files.{headSize, fileOf}
 use Rattle.pyramid.specs.Opens.{sayOpen}
 use Rattle.cuts.specs.Sees.{firstWhole, wholeOf, Sampled, Roomy, OpensTo}
 use Rattle.cuts.proofs.Filed.{Recording}
@@ -25,7 +25,7 @@ use Rattle.cuts.proofs.Answers.{opens-whole}
 use Rattle.figures.specs.Worked.{five, thirtyOne, File}
 
 file : fileOf Cdf53I8 2 14 five ≡ thirtyOne
-unfolding fileOf bodyOf leAt leBytes tabulate wordAt wordsOf bytesOf val residue wrap decode encode detail details approx approxs low high
+unfolding fileOf laidOut leAt leBytes tabulate wordAt wordsOf bytesOf val residue wrap decode encode detail details approx approxs low high
 file = refl
 
 pub five-bytes : (i : ℕ) → getD five i 0 < 256

@@ -4,7 +4,6 @@ use mathlib.Core.Bool.{true, false, not}
 use mathlib.Core.List.{List, [], _∷_, _++_}
 use mathlib.Core.Path.{_≡_, refl, sym, ap, _∙_}
 use Prim.Native.Nat.{ℕ, _*_, _/_, _≤_, _<_}
-use native.Mathlib.Nat.{mul-le-mul-right}
 use native.Mathlib.Omega.{arith}
 use borrow.Author.Tests.{lt-ltb, le-ltb}
 use lib.ListN.{length}
@@ -18,7 +17,6 @@ use Rattle.answers.proofs.Endings.{is-done, not-done}
 use Rattle.answers.proofs.Passed.{Passing, passing, pass-both, pass-on, other-end, then-stop, through, roomy}
 use Rattle.sizes.specs.Lengths.{mostSamples}
 use Rattle.sizes.specs.Levels.{depthOf, levelsOf}
-use Rattle.sizes.proofs.Depths.{depth-at-most}
 use Rattle.sizes.proofs.OneLevel.{whole-passes, count-is}
 use Rattle.dwt.proofs.Integers.{common}
 use Rattle.dwt.specs.declared.filter.Filter.{Filter}
@@ -30,6 +28,7 @@ use Rattle.dwt.proofs.Multi.{depth-refuse}
 use Rattle.pyramid.specs.Files.{mostBytes, headSize, fileSize}
 use Rattle.pyramid.specs.Opens.{filterOf}
 use Rattle.pyramid.specs.Writes.{writeChecks, sayWrite, Write}
+use Rattle.pyramid.proofs.Writing.{file-most}
 use Rattle.heads.specs.Heads.{saySize}
 
 own-filter : (f : Filter) → Integers f → filterOf (widthOf f) ≡ f
@@ -56,11 +55,8 @@ module _ (f : Filter) (i : Integers f) (l n : ℕ) where
   size-told {s} told z =
       let p = size-passes (is-done (saySize (widthOf f) n l) s told z) in
       let e = told ∙ ap answerOf (size-says ∙ through (depthChecks f l n) (Done (fileSize headSize (widthOf f) (levelsOf l) n) 0) p) in
-      let most = roomy mostSamples n (p .0) in
-      let few = depth-at-most (waveletOf f) 23 n most in
-      let deep = roomy (depthOf (waveletOf f) n) (levelsOf l) (p .1 .0) in
-      let narrow = mul-le-mul-right n (common f i .narrow) in
-      (e, omega (arith, ap (λ (a : Answer). a .first) e, few, deep, most, narrow))
+      let most = file-most f i (levelsOf l) n (roomy (depthOf (waveletOf f) n) (levelsOf l) (p .1 .0)) (roomy mostSamples n (p .0)) in
+      (e, omega (arith, ap (λ (a : Answer). a .first) e, most))
 
 -- n samples in x, a file area b, and work areas u and v of p and q samples
 module _ (f : Filter) (i : Integers f) (l n : ℕ) (x b u v : List ℕ) (p q : ℕ) (ex : length x ≡ widthOf f * n) (eu : length u ≡ widthOf f * p) (ev : length v ≡ widthOf f * q) where

@@ -1,34 +1,34 @@
--- Writing a file: numbers stored one after the other, sections, sizes, and what a done call has passed.
+-- Writing a file: numbers stored one after the other, section 0, the whole file, and what a done call has passed.
 -- Looks into no filter but for its width.
 use mathlib.Core.Bool.{true}
 use mathlib.Core.Path.{_≡_, refl, sym, ap, _∙_}
 use mathlib.Core.List.{List, [], _∷_, _++_, append-assoc}
-use Prim.Native.Nat.{ℕ, suc, _+_, _-_, _*_, _/_, _≤_, _<_}
-use native.Mathlib.Nat.{mod-eq-of-lt, mul-le-mul-left}
+use Prim.Native.Nat.{ℕ, _+_, _*_, _/_, _≤_, _<_}
+use native.Mathlib.Nat.{mod-eq-of-lt, mul-le-mul-right}
 use native.Mathlib.Omega.{arith}
 use lib.Dec.{leb}
 use lib.ListN.{length, take, drop, set, length-append, length-set}
-use lib.Seq.{take-at, drop-at, drop-drop, length-take-le}
+use lib.Seq.{take-at, drop-at, drop-drop}
 use Rattle.answers.specs.declared.err.Refusal.{Refusal}
 use Rattle.answers.specs.declared.err.Refusal.the-variants.{Done}
 use Rattle.answers.specs.Answers.{done}
 use Rattle.answers.specs.Checks.{firstOf, ragged}
-use Rattle.answers.proofs.Passed.{passing, whole, roomy}
+use Rattle.answers.proofs.Passed.{passing, roomy}
 use Rattle.samples.specs.Le.{leBytes, stored}
 use Rattle.samples.proofs.Words.{holds}
 use Rattle.samples.proofs.LeLaws.{length-leBytes, length-stored, stored-is}
-use Rattle.sizes.specs.declared.Wavelet.{Wavelet}
-use Rattle.sizes.specs.Lengths.{mostSamples, approxLength, detailsLength}
+use Rattle.sizes.specs.Lengths.{mostSamples}
 use Rattle.sizes.specs.Levels.{depthOf, levelsOf}
 use Rattle.sizes.proofs.Depths.{depth-at-most}
 use Rattle.dwt.specs.declared.filter.Filter.{Filter}
 use Rattle.dwt.specs.declared.filter.Filter.the-variants.{Cdf53I8, Cdf53I16, Cdf53I32, Cdf53F32, Cdf53F64, Cdf97F32, Cdf97F64}
-use Rattle.dwt.specs.Filters.{widthOf, waveletOf, lowOf, highOf}
+use Rattle.dwt.specs.Filters.{widthOf, waveletOf, Integers}
 use Rattle.dwt.specs.Calls.{Ready}
-use Rattle.dwt.proofs.Cuts.{width-pos, split-width}
-use Rattle.dwt.proofs.Multi.{levels-pos, shallow-refused}
-use Rattle.dwt.proofs.Lists.{put-end, later}
-use Rattle.pyramid.specs.Files.{sectionOf, headCount, headOf, headSize, bodyOf, bodySize, fileSize, fileOf}
+use Rattle.dwt.proofs.Cuts.{width-pos}
+use Rattle.dwt.proofs.Integers.{common}
+use Rattle.dwt.proofs.Multi.{shallow-refused, checked-ready}
+use Rattle.dwt.proofs.Lists.{later}
+use Rattle.pyramid.specs.Files.{mostBytes, headCount, headOf, headSize, bodyOf, bodySize, fileSize, fileOf}
 use Rattle.pyramid.specs.Writes.{writeChecks, sayWrite}
 
 -- ---- numbers that fit
@@ -41,10 +41,6 @@ width-byte Cdf53F32 = omega arith
 width-byte Cdf53F64 = omega arith
 width-byte Cdf97F32 = omega arith
 width-byte Cdf97F64 = omega arith
-
--- levels within the depth fit a byte
-pub few-levels : (w : Wavelet) (l n : ℕ) → l ≤ depthOf w n → n ≤ mostSamples → l < 256
-few-levels w l n h s = omega (arith, h, depth-at-most w 23 n s)
 
 -- ---- numbers stored one after the other
 
@@ -96,35 +92,6 @@ pub head-length : (w l n p : ℕ) → length (headOf w l n p) ≡ headSize
 unfolding leBytes
 head-length w l n p = refl
 
--- ---- sections
-
--- a count stored at p, and y put after it up to the end
-pub section-laid : (o o₁ y : List ℕ) (p c : ℕ) → p + 4 ≤ length o → o₁ ≡ stored 4 o p c → take (p + 4) o₁ ++ (y ++ drop (length o₁ - (p + 4)) (drop (p + 4) o₁)) ≡ take p o ++ sectionOf c y
-section-laid o o₁ y p c h q =
-    let long : length o₁ ≡ length o = ap length q ∙ length-stored 4 o p c in
-    let a = take p o ++ leBytes 4 c in
-    let la : length a ≡ p + 4 = length-append (take p o) (leBytes 4 c) ∙ omega (arith, length-take-le p o (omega arith), length-leBytes 4 c) in
-    let front : take (p + 4) o₁ ≡ a = ap (take (p + 4)) (q ∙ stored-is 4 o p c h ∙ sym (append-assoc (take p o) (leBytes 4 c) (drop (p + 4) o))) ∙ take-at a (drop (p + 4) o) (p + 4) la in
-    put-end (p + 4) o₁ y (omega arith) ∙ rw front (append-assoc (take p o) (leBytes 4 c) y)
-
--- the sections of no level, and of a level more: those below it wrote r over the front of what it left
-pub body-none : (f : Filter) (l n : ℕ) (x : List ℕ) → l ≡ 0 → bodyOf f l n x ≡ sectionOf n x
-unfolding bodyOf
-body-none f l n x e = ap (λ (k : ℕ). bodyOf f k n x) e
-
-pub body-more : (f : Filter) (l n : ℕ) (x o t r : List ℕ) (p cut : ℕ) → (l ≡ 0 → ⊥) → p ≤ length o → length (lowOf f x) ≡ cut
-    → r ≡ bodyOf f (l - 1) (approxLength n) (take cut (lowOf f x ++ t)) → r ++ drop p (take p o ++ sectionOf (detailsLength n) (highOf f x)) ≡ bodyOf f l n x
-unfolding bodyOf
-body-more f l n x o t r p cut z h e q =
-    let s : suc (l - 1) ≡ l = omega arith in
-    ap (λ (k : List ℕ). r ++ k) (drop-at (take p o) (sectionOf (detailsLength n) (highOf f x)) p (length-take-le p o h))
-    ∙ ap (λ (k : List ℕ). k ++ sectionOf (detailsLength n) (highOf f x)) (q ∙ ap (λ (k : List ℕ). bodyOf f (l - 1) (approxLength n) k) (take-at (lowOf f x) t cut e))
-    ∙ ap (λ (k : ℕ). bodyOf f k n x) s
-
--- the bytes of a level more
-pub size-more : (k l n : ℕ) → (l ≡ 0 → ⊥) → bodySize k l n ≡ bodySize k (l - 1) (approxLength n) + 4 + k * detailsLength n
-size-more k l n z = omega (arith, split-width k n)
-
 -- ---- the whole file
 
 -- a is in front of b, z bytes, and y is put after it
@@ -133,6 +100,10 @@ part-laid a y b b₁ z m e q =
     let front : take z b₁ ≡ a = ap (take z) q ∙ take-at a (drop z b) z e in
     let after : drop m (drop z b₁) ≡ drop (z + m) b = ap (drop m) (ap (drop z) q ∙ drop-at a (drop z b) z e) ∙ drop-drop m z b in
     rw (front, after) (sym (append-assoc a y (drop (z + m) b)))
+
+-- "at most 67,108,974", of an integer filter
+pub file-most : (f : Filter) → Integers f → (l n : ℕ) → l ≤ depthOf (waveletOf f) n → n ≤ mostSamples → fileSize headSize (widthOf f) l n ≤ mostBytes
+file-most f i l n deep most = omega (arith, mul-le-mul-right n (common f i .narrow), depth-at-most (waveletOf f) 23 n most)
 
 -- a file of n samples is section 0 and the sections of its levels
 pub file-parts : (f : Filter) (l p n : ℕ) (x : List ℕ) → length x ≡ widthOf f * n → fileOf f l p x ≡ headOf (widthOf f) l n p ++ bodyOf f l n x
@@ -161,20 +132,7 @@ write-ready f l x b u v h =
     let p = passing (ragged k x ∷ ragged k u ∷ ragged k v ∷ writeChecks f l (x / k) b (u / k) (v / k)) (Done 0 0)
     (refl, (refl, (refl, (refl, (shallow-refused f (x / k) (leb l 1), (refl, (refl, (refl, tt)))))))) h in
     let q = p .1 .1 .1 in
-    let eu = whole k u (p .1 .0) in
-    let ev = whole k v (p .1 .1 .0) in
-    let lu = mul-le-mul-left k (roomy (u / k) (x / k) (q .1 .1 .1 .0)) in
-    let lv = mul-le-mul-left k (roomy (v / k) (x / k) (q .1 .1 .1 .1 .0)) in (
-      record {
-        some = levels-pos l;
-        deep = roomy (depthOf (waveletOf f) (x / k)) (levelsOf l) (q .1 .0);
-        short = roomy mostSamples (x / k) (q .0);
-        whole = whole k x (p .0);
-        first = omega arith;
-        second = omega arith;
-      },
-      roomy b (fileSize headSize k (levelsOf l) (x / k)) (q .1 .1 .0),
-    )
+    (checked-ready f l x u v (p .0, (p .1 .0, (p .1 .1 .0, tt))) (q .0, (q .1 .0, tt)) (q .1 .1 .1), roomy b (fileSize headSize k (levelsOf l) (x / k)) (q .1 .1 .0))
 
 -- the same of i levels and k bytes, which are the ones asked for
 pub ready-for : (f : Filter) (l x b u v i k : ℕ) → i ≡ levelsOf l → k ≡ widthOf f → done (sayWrite f l x b u v) ≡ true → Ready f i (x / k) x u v × (fileSize headSize (widthOf f) i (x / k) ≤ b)

@@ -1,11 +1,11 @@
 -- The pyramid file, from document 01: "sections in a fixed order, each after its count. Counts are u32, little-endian." Over the filter, which is an integer one.
 use mathlib.Core.List.{List, _++_}
-use Prim.Native.Nat.{ℕ, zero, suc, _+_, _*_, _/_}
+use Prim.Native.Nat.{ℕ, _+_, _/_}
 use lib.ListN.{length}
 use Rattle.samples.specs.Le.{leBytes}
-use Rattle.sizes.specs.Lengths.{approxLength, detailsLength}
 use Rattle.dwt.specs.declared.filter.Filter.{Filter}
-use Rattle.dwt.specs.Filters.{widthOf, lowOf, highOf}
+use Rattle.dwt.specs.Filters.{widthOf}
+use Rattle.dwt.specs.Pyramids.{laidOut, laidSize}
 
 -- "at most 67,108,974"
 abbrev pub mostBytes : ℕ
@@ -26,14 +26,13 @@ headOf k l n p = sectionOf headCount (leBytes 1 k ++ (leBytes 1 l ++ (leBytes 4 
 abbrev pub headSize : ℕ
 headSize = 4 + headCount
 
--- "Section 1: number of deepest approximations, then those. Section 2 to L+1: number of details of level L down to 1, then those": of l levels of the n samples in x
-unfoldable pub bodyOf : Filter → ℕ → ℕ → List ℕ → List ℕ
-bodyOf f zero n x = sectionOf n x
-bodyOf f (suc l) n x = bodyOf f l (approxLength n) (lowOf f x) ++ sectionOf (detailsLength n) (highOf f x)
+-- "Section 1: number of deepest approximations, then those. Section 2 to L+1: number of details of level L down to 1, then those": the bands of l levels of the n samples in x, each after its count
+abbrev pub bodyOf : Filter → ℕ → ℕ → List ℕ → List ℕ
+bodyOf f l n x = laidOut f 4 l n x
 
 -- how many bytes these sections are, at k bytes a sample
 abbrev pub bodySize : ℕ → ℕ → ℕ → ℕ
-bodySize k l n = 4 * (l + 1) + k * n
+bodySize k l n = laidSize 4 k l n
 
 -- "Size: 14 + 4(L+1) + width·n", behind a section 0 of z bytes
 abbrev pub fileSize : ℕ → ℕ → ℕ → ℕ → ℕ

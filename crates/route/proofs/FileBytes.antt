@@ -9,6 +9,7 @@ use Rattle.cdf53i.specs.Bands.{high}
 use Rattle.cdf53i.proofs.Lengths.{bytes-join, bytes-of, bytes-low}
 use Rattle.dwt.specs.declared.filter.Filter.{Filter}
 use Rattle.dwt.specs.Filters.{widthOf, lowOf, highOf, Integers}
+use Rattle.dwt.specs.Pyramids.{laidOut}
 use Rattle.dwt.proofs.Integers.{each-width}
 use Rattle.pyramid.specs.Files.{sectionOf, headCount, bodyOf, fileOf}
 use Rattle.route.proofs.ByteParts.{bytes-number}
@@ -26,7 +27,7 @@ section-bytes : (c : ℕ) (s : List ℕ) → Bytes s → Bytes (sectionOf c s)
 section-bytes c s h = bytes-join (leBytes 4 c) s (bytes-number 4 c) h
 
 body-bytes : (f : Filter) → Integers f → (l n : ℕ) (x : List ℕ) → Bytes x → Bytes (bodyOf f l n x)
-unfolding bodyOf
+unfolding laidOut
 body-bytes f i zero n x h = section-bytes n x h
 body-bytes f i (suc l) n x h =
     bytes-join (bodyOf f l (approxLength n) (lowOf f x)) (sectionOf (detailsLength n) (highOf f x))

@@ -12,13 +12,12 @@ use Rattle.sizes.specs.Lengths.{mostSamples, approxLength, detailsLength}
 use Rattle.sizes.specs.Levels.{countAt, depthOf, levelsOf}
 use Rattle.samples.specs.Integers.{wrap, decode, encode}
 use Rattle.trips.specs.T800Levels.{lowsAt, highsAfter, allHighs, backsAt}
-use Rattle.dwt.proofs.Integers.{own-depth}
+use Rattle.dwt.proofs.Integers.{own-depth, lent-ready}
 use Rattle.dwt.specs.declared.filter.Filter.{Filter}
 use Rattle.dwt.specs.Filters.{widthOf, waveletOf, Integers}
 use Rattle.dwt.specs.Pyramids.{lengthsOf}
 use Rattle.dwt.specs.Calls.{sayMulti, Multi, sayDwt, Dwt, Ready}
 use Rattle.dwt.specs.Backward.{total, sayBack, MultiBack, Area, LengthsIn}
-use Rattle.dwt.proofs.Multi.{levels-pos}
 use Rattle.trips.proofs.Lengths.{count-at-total}
 use Rattle.trips.proofs.Fitting.{lengths-fit, back-fits, multi-fits, dwt-fits}
 use Rattle.trips.proofs.T800Levels.{dwt-t800, multi-t800, back-t800}
@@ -27,14 +26,7 @@ use Rattle.trips.proofs.T800Levels.{dwt-t800, multi-t800, back-t800}
 module _ (f : Filter) (i : Integers f) (l n : ℕ) (deep : levelsOf l ≤ depthOf Cdf53 n) (most : n ≤ mostSamples) (x u v : List ℕ) (size : length x ≡ widthOf f * n)
     (first : Area (widthOf f) (length x) u) (second : Area (widthOf f) (length x) v) where
   ready : Ready f (levelsOf l) n (length x) (length u) (length v)
-  ready = record {
-    some = levels-pos l;
-    deep = own-depth f i (levelsOf l) n deep;
-    short = most;
-    whole = size;
-    first = omega (arith, size, first .room);
-    second = omega (arith, size, second .room);
-  }
+  ready = lent-ready f i l n deep most x u v size first second
 
   -- `dwt` into bands of the last level's lengths
   pub dwt-gives-t800 : (a d : List ℕ) → length a ≡ widthOf f * approxLength (countAt (levelsOf l - 1) n) → length d ≡ widthOf f * detailsLength (countAt (levelsOf l - 1) n)

@@ -18,7 +18,7 @@ use Rattle.dwt.specs.Calls.{depthChecks}
 use Rattle.dwt.proofs.Multi.{depth-refuse}
 use Rattle.pyramid.specs.Files.{headSize, fileSize}
 use Rattle.pyramid.proofs.Opening.{filter-width}
-use Rattle.pyramid.proofs.Writing.{few-levels}
+use Rattle.dwt.proofs.Cuts.{few-levels}
 use Rattle.heads.specs.Heads.{saySize}
 use Rattle.heads.proofs.size.Statement.{statement}
 use Rattle.heads.proofs.size.Tie as tie

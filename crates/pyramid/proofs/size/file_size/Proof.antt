@@ -13,5 +13,5 @@ file-size-spec =
     tie.close
     (tie.spec
     (λ c κs. search needs)
-    (λ c. let st = c .before in omega (arith, c .body-size .ensures, st .pre, width-room (st .args .f) (st .args .n) (st .pre .1)))
-    (λ c. ap (λ (i : ℕ). headSize + i) (c .body-size .ensures)))
+    (λ c. let st = c .before in omega (arith, c .laid-size .ensures, st .pre, width-room (st .args .f) (st .args .n) (st .pre .1)))
+    (λ c. ap (λ (i : ℕ). headSize + i) (c .laid-size .ensures)))

@@ -19,7 +19,7 @@ use Rattle.dwt.specs.Calls.{depthChecks}
 use Rattle.dwt.proofs.Multi.{depth-refuse}
 use Rattle.pyramid.specs.Files.{headSize, fileSize}
 use Rattle.pyramid.specs.Writes.{writeChecks}
-use Rattle.pyramid.proofs.Writing.{few-levels}
+use Rattle.dwt.proofs.Cuts.{few-levels}
 use Rattle.writes.proofs.write.write_lengths.Statement.{statement}
 use Rattle.writes.proofs.write.write_lengths.Tie as tie
 

@@ -9,9 +9,9 @@ use Rattle.answers.specs.Answers.{done}
 use Rattle.answers.specs.Checks.{Check, firstOf, ragged}
 use Rattle.answers.proofs.Chain.{by, stop, same, other}
 use Rattle.answers.proofs.Passed.{then-rest, then-stop}
 use Rattle.dwt.specs.Calls.{multiChecks, sayMulti}
-use Rattle.dwt.proofs.levels.check_multi.Statement.{statement}
-use Rattle.dwt.proofs.levels.check_multi.Tie as tie
+use Rattle.downward.proofs.levels.check_multi.Statement.{statement}
+use Rattle.downward.proofs.levels.check_multi.Tie as tie
 
 -- the byte lengths of the signal, the output and the first work area
 front : ℕ → ℕ → ℕ → ℕ → List Check

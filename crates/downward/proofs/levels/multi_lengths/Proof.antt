@@ -3,10 +3,10 @@ use borrow.Author.Needs.{needs}
 use mathlib.Core.Path.{_∙_, sym}
 use Rattle.answers.specs.declared.err.Refusal.the-variants.{Done}
 use Rattle.answers.proofs.Passed.{say-rest, say-stop}
 use Rattle.dwt.specs.Calls.{depthChecks, roomChecks}
 use Rattle.dwt.proofs.Multi.{depth-refuse}
-use Rattle.dwt.proofs.levels.multi_lengths.Statement.{statement}
-use Rattle.dwt.proofs.levels.multi_lengths.Tie as tie
+use Rattle.downward.proofs.levels.multi_lengths.Statement.{statement}
+use Rattle.downward.proofs.levels.multi_lengths.Tie as tie
 
 returns : tie.Need-returns
 returns c =
