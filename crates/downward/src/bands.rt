@@ -81,15 +81,8 @@ fn lay(
         lay_deepest(counted, n, &from[..all], out);
     } else {
         let at = lay_level(f, counted, levels, n, &from[..all], to, out);
-        lay(
-            f,
-            counted,
-            levels - 1,
-            approx_length(n),
-            to,
-            from,
-            &mut out[..at],
-        );
+        let half = approx_length(n);
+        lay(f, counted, levels - 1, half, to, from, &mut out[..at]);
     }
 }
 
@@ -111,13 +104,6 @@ pub fn lay_bands(
     ensures { λ _. ⌜ drop (widthOf f * n) (now (two .exit)) ≡ drop (widthOf f * n) (now (two .entry)) ⌝ }
 {
     let at = lay_level(f, counted, levels, n, signal, one, out);
-    lay(
-        f,
-        counted,
-        levels - 1,
-        approx_length(n),
-        one,
-        two,
-        &mut out[..at],
-    );
+    let half = approx_length(n);
+    lay(f, counted, levels - 1, half, one, two, &mut out[..at]);
 }

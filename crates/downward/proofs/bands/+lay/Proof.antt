@@ -80,7 +80,7 @@ lay-requires t c κs =
     let r = st .pre .1 .0 in
     let p = some t (lv .before .before .before .before) in
     let half = c .before .before .before .approx-length .ensures in
-    (omega (arith, p), (rw half (room-below (a .f) r (a .levels - 1) (omega (arith, p)) (omega (arith, r .second, lv .lay-level .kept)) (r .first)), rw half (size-below (a .counted) (lv .lay-level .ensures) p (st .pre .1 .1) (lv .lay-level .kept .1 .1 .1 .1 .1 .1 .0))))
+    (omega (arith, p), (rw half (room-below (a .f) r (a .levels - 1) (omega (arith, p)) (omega (arith, r, lv .lay-level .kept)) (omega (arith, r, lv .lay-level .kept))), rw half (size-below (a .counted) (lv .lay-level .ensures) p (st .pre .1 .1) (lv .lay-level .kept .1 .1 .1 .1 .1 .1 .0))))
 
 returns : (t : ℕ) → lay-lts.Need-returns (claims t) (lay-at t) lay.Post
 returns t c =
@@ -112,7 +112,7 @@ pub +lay-spec : {M : Type 1} → statement M
     (λ c κs. let st = c .before .before .before in width-room (st .args .f) (st .args .n) (st .pre .1 .0 .short))
     (λ c. let st = c .before .before .before .before .before in omega (arith, c .before .bytes-of .ensures, st .pre .1 .0 .first)) (λ c. sym (read t (c .before .before))) (deepest-requires t)
     (λ c. let st = c .before .before .before .before .before in omega (arith, c .before .bytes-of .ensures, st .pre .1 .0 .first)) (λ c. sym (read t (c .before .before))) (level-requires t)
-    (λ c. search needs) (λ c κs. search needs)
+    (λ c κs. search needs) (λ c. search needs)
     (λ c. fits t (c .before .before .before .before .before .before .before)) (λ c. sym (length-take-le _ _ (fits t (c .before .before .before .before .before .before .before .before)))) (lay-requires t)
     (λ c. search needs) (λ c. search needs) (returns t)
     (λ c. search needs) (λ c. search needs) (λ c. search needs) (returns-2 t)

@@ -47,5 +47,5 @@ pub lay-bands-spec : {M : Type 1} → statement M
 lay-bands-spec =
     tie.close
     (tie.spec
-    level-requires (λ c. search needs) (λ c κs. search needs) (λ c. fits (c .before .before .before .before .before .before .before)) (λ c. sym (length-take-le _ _ (fits (c .before .before .before .before .before .before .before .before)))) lay-requires
+    level-requires (λ c κs. search needs) (λ c. search needs) (λ c. fits (c .before .before .before .before .before .before .before)) (λ c. sym (length-take-le _ _ (fits (c .before .before .before .before .before .before .before .before)))) lay-requires
     (λ c. search needs) (λ c. search needs) (λ c. search needs) returns)
