@@ -1,5 +1,5 @@
--- "Every driver passes it on unchanged": a 17 of `dwt` and of `multi_idwt` is the answer that the call of one level gives on that level's bands; and `multi_dwt`, which
--- is lent no band, says neither 2 nor 17. Looks into no filter.
+-- "Every driver passes it on unchanged", both ways: a 17 of `dwt` and of `multi_idwt` is the answer that the call of one level gives on that level's bands, and where
+-- that call says 17 the driver says it; and `multi_dwt`, which is lent no band, says neither 2 nor 17. Looks into no filter.
 use mathlib.Core.List.{List, _∷_}
 use mathlib.Core.Path.{_≡_, refl, sym, ap, _∙_}
 use Prim.Native.Nat.{ℕ, _+_, _-_, _*_, _/_, _≤_, _<_}
@@ -26,11 +26,11 @@ use Rattle.dwt.specs.Calls.{multiChecks, sayMulti, OneForward, OneInverse, Dwt,
 use Rattle.dwt.specs.Backward.{MultiBack}
 use Rattle.dwt.proofs.Cuts.{width-pos}
 use Rattle.dwt.proofs.Multi.{levels-pos, shallow-says}
-use Rattle.wrong_band.specs.WrongBand.{ForwardBefore, InverseBefore}
+use Rattle.wrong_band.specs.WrongBand.{ForwardBefore, DwtBefore, InverseBefore, BackBefore}
 use Rattle.wrong_band.proofs.Bands.{quiet}
 use Rattle.wrong_band.proofs.Calls.{forward-names, dwt-names}
 use Rattle.wrong_band.proofs.Levels.{back-names}
-use Rattle.wrong_band.proofs.Few.{back-few, few-inverse}
+use Rattle.wrong_band.proofs.Few.{inverse-few, few-inverse, back-few, few-back}
 
 -- y is any recording as long as the last level's input
 pub dwt-passes-on : (f : Filter) (l : ℕ) (x a d u v : List ℕ) (r : Answer) (a′ d′ u′ v′ : List ℕ) → Dwt f l x a d u v r a′ d′ u′ v′ → r .number ≡ 17
@@ -53,6 +53,18 @@ dwt-passes-on f l x a d u v r a′ d′ u′ v′ h g y e q a″ d″ t =
       long = rw c (long-enough (smallestOf w) (two-below w) (levelsOf l) (levelsOf l - 1) n (p .0 .deep) (omega arith));
     } in
     forward-names w k (lowOf f) (highOf f) y a d q a″ d″ t .wrong .details-wrong b (rw c (p .1)) (rw c (p .2)) ∙ rw c (sym (s .wrong .details-wrong (p .0) (p .1) (p .2)))
+
+-- and the other way: where nothing before the bands is wrong, a 17 of that call is the answer of `dwt`
+pub dwt-from-forward : (f : Filter) (l : ℕ) (x a d u v : List ℕ) (r : Answer) (a′ d′ u′ v′ : List ℕ) → Dwt f l x a d u v r a′ d′ u′ v′
+    → DwtBefore f l (length x) (length a) (length d) (length u) (length v) → (y : List ℕ) → length y ≡ widthOf f * countAt (levelsOf l - 1) (length x / widthOf f)
+    → (q : Answer) (a″ d″ : List ℕ) → OneForward f y a d q a″ d″ → q .number ≡ 17 → r ≡ q
+dwt-from-forward f l x a d u v r a′ d′ u′ v′ h b y e q a″ d″ t g =
+    let k = widthOf f in
+    let m = countAt (levelsOf l - 1) (length x / k) in
+    let s = forward-names (waveletOf f) k (lowOf f) (highOf f) y a d q a″ d″ t in
+    let p = s .says-seventeen g in
+    let c : length y / k ≡ m = count-is k m (length y) (width-pos f) e in
+    dwt-names f l x a d u v r a′ d′ u′ v′ h .wrong .details-wrong b (rw c at (p .1)) (rw c at (p .2)) ∙ sym (rw c at (s .wrong .details-wrong (p .0) (p .1) (p .2)))
 
 least-most : (w : Wavelet) → leastDetails w ≤ 2
 least-most Cdf53 = omega arith
@@ -86,6 +98,17 @@ back-passes-on f a d ls o u v r o′ u′ v′ h g m rest lm e s ee es q s′ t 
       sum = n;
     } in
     few-inverse w k (backOf f) a e s q s′ t b two few ∙ ap (λ (i : ℕ). say 17 (leastDetails w) i) (cj ∙ sym same) ∙ sym (x .few .answer)
+
+-- and the other way: where nothing before the bands is wrong, a 17 of that call, whatever its output, is the answer of `multi_idwt`
+pub back-from-inverse : (f : Filter) (a d ls o u v : List ℕ) (r : Answer) (o′ u′ v′ : List ℕ) → MultiBack f a d ls o u v r o′ u′ v′
+    → BackBefore (widthOf f) (length a) (length d) ls (length o) (length u) (length v) → (m : ℕ) (rest : List ℕ) → wordsOf 4 ls ≡ m ∷ rest
+    → (e s : List ℕ) → length e ≡ widthOf f * m → (q : Answer) (s′ : List ℕ) → OneInverse f a e s q s′ → q .number ≡ 17 → r ≡ q
+back-from-inverse f a d ls o u v r o′ u′ v′ h b m rest lm e s ee q s′ t g =
+    let k = widthOf f in
+    let w = waveletOf f in
+    let x = inverse-few w k (backOf f) a e s q s′ t g in
+    let cj : length e / k ≡ m = count-is k m (length e) (width-pos f) ee in
+    few-back f a d ls o u v r o′ u′ v′ h b m rest lm (x .approx) (rw cj at (x .details)) ∙ sym (rw cj at (x .answer))
 
 -- ---- `multi_dwt`
 
