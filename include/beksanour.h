@@ -58,8 +58,8 @@
  * Which band is wrong. 2 is said of the approximations and 17 of the details, 2 first. Forward and dwt know the length of a level,
  * so the number names the band. The inverse and multi_idwt go back, and know it only as the sum of the two bands: they say 17 only
  * where 2 approximations come with too few details, in multi_idwt at the deepest level: 17 (1, 0) in 5/3, 17 (2, 0) and 17 (2, 1)
- * in 9/7. All other bands that do not fit each other are 2, though the wrong one may be the details: 3 approximations and 1 detail
- * are 2 (2, 3). After a 2 of these calls look at both.
+ * in 9/7. All other bands that do not fit each other, where no earlier check refuses, are 2, though the wrong one may be the
+ * details: 3 approximations and 1 detail are 2 (2, 3). After a 2 of these calls look at both.
  *
  * A file whose width and point are not known. bk_pyramid_head reads them; hand them to bk_pyramid_open, which then refuses the
  * file only for what is wrong in it, or for the areas (7, 9). A head's width may be any byte, 0 too: bk_pyramid_open refuses it

@@ -249,7 +249,7 @@ class Tally:
         yield ""
         del self.apart[None]
         for title, counts in {
-            "Not asked of the Rust, or asked otherwise": self.apart,
+            "Not asked of the Rust, or asked or answered otherwise": self.apart,
             "Samples of the calls that were done": {name: self.lengths[name] for name in LENGTHS.values()},
             "Levels of the dwt, multi_dwt and multi_idwt that were done": dict(sorted(self.levels.items())),
             "Among the samples of the calls that were done": self.contents,

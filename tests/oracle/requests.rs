@@ -136,14 +136,14 @@ fn number<N: std::str::FromStr>(word: &str) -> Result<N, Stop> {
 // and document 02's. It is told by the lengths of the request alone, never by what the Rust answers.
 type WrongDetails = Option<([usize; 2], [usize; 2])>;
 
-fn wrong_forward(smallest: usize, n: usize, approx: usize, details: usize) -> WrongDetails {
+fn wrong_details_forward(smallest: usize, n: usize, approx: usize, details: usize) -> WrongDetails {
     (n >= smallest && approx == n.div_ceil(2) && details != n / 2)
         .then_some(([details, n], [details, n]))
 }
 
 // Level by level, from the deepest, through the first that is wrong in either band. The least number of details that
 // is expected, 1 in 5/3 and 2 in 9/7, is the smallest input less 2.
-fn wrong_inverse(smallest: usize, mut approx: usize, levels: &[usize]) -> WrongDetails {
+fn wrong_details_back(smallest: usize, mut approx: usize, levels: &[usize]) -> WrongDetails {
     for &details in levels {
         let n = approx + details;
         let expected = (n.div_ceil(2).max(2), (n / 2).max(smallest - 2));
@@ -158,8 +158,8 @@ fn wrong_inverse(smallest: usize, mut approx: usize, levels: &[usize]) -> WrongD
     None
 }
 
-// The one place where an answer of the Rust is changed: its second 2, with its own numbers, becomes 17. Another
-// answer there is a panic, so that the comparison tells it. Everywhere else the Rust's answer stays.
+// The one place where a refusal of the Rust is changed: its second 2, with its own numbers, becomes 17. Another
+// answer there is a panic, so that the comparison tells it. Every other refusal stays.
 fn by_document_02<R>(said: Result<R, OscletError>, wrong: WrongDetails) -> Result<R, Stop> {
     let Some((rusts, [first, second])) = wrong else {
         return Ok(said?);
@@ -192,7 +192,7 @@ fn forward<T: Sample>(filter: Filter<T>, [input, approx, details]: [&str; 3]) ->
         samples_of(details)?,
     );
     not_the_rusts_if(input.len() > LIMIT)?;
-    let wrong = wrong_forward(filter.smallest, input.len(), approx.len(), details.len());
+    let wrong = wrong_details_forward(filter.smallest, input.len(), approx.len(), details.len());
     let said = filter
         .rust
         .execute_forward(&input, &mut approx, &mut details);
@@ -209,7 +209,7 @@ fn inverse<T: Sample>(filter: Filter<T>, [approx, details, output]: [&str; 3]) -
     );
     not_the_rusts_if(approx.len().max(details.len()).max(output.len()) > LIMIT)?;
     let wrong = if output.len() == approx.len() + details.len() {
-        wrong_inverse(filter.smallest, approx.len(), &[details.len()])
+        wrong_details_back(filter.smallest, approx.len(), &[details.len()])
     } else {
         None
     };
@@ -277,7 +277,7 @@ fn multi_idwt<T: Sample>(
         approximations: &approx,
         details,
     });
-    let wrong = wrong_inverse(filter.smallest, approx.len(), &lengths);
+    let wrong = wrong_details_back(filter.smallest, approx.len(), &lengths);
     let done = by_document_02(said, wrong)?;
     refuse_if(output != done.len(), 3, output, done.len())?;
     not_the_rusts_if(work1.min(work2) < output)?;

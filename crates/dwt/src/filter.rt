@@ -126,7 +126,7 @@ fn inverse(f: Filter, approx: &[u8], details: &[u8], output: &mut [u8])
     }
 }
 
-// One level forward with document 01's checks.
+// One level forward with its checks.
 pub fn execute_forward(f: Filter, input: &[u8], approx: &mut [u8], details: &mut [u8]) -> Answer
     ensures { λ r. ⌜ OneForward f (now (input .entry)) (now (approx .entry)) (now (details .entry)) r (now (approx .exit)) (now (details .exit)) ⌝ }
 {
@@ -144,7 +144,7 @@ pub fn execute_forward(f: Filter, input: &[u8], approx: &mut [u8], details: &mut
     r
 }
 
-// One level back with document 01's checks.
+// One level back with its checks.
 pub fn execute_inverse(f: Filter, approx: &[u8], details: &[u8], output: &mut [u8]) -> Answer
     ensures { λ r. ⌜ OneInverse f (now (approx .entry)) (now (details .entry)) (now (output .entry)) r (now (output .exit)) ⌝ }
 {
