@@ -29,7 +29,7 @@ use Rattle.pyramid.specs.declared.walk.Way.the-variants.{Went, Short}
 use Rattle.pyramid.specs.Files.{sectionOf, bodyOf, bodySize, fileSize}
 use Rattle.pyramid.specs.Walks.{walkOf, lastCount}
 use Rattle.pyramid.specs.Opens.{headIn, headChecks, wayTo, sectionChecks, numberChecks, lengthOf, endBy, startOf, saySection}
-use Rattle.cuts.specs.Sees.{wholeIn, wayWithin}
+use Rattle.cuts.specs.Sees.{sizeThrough, wholeIn, wayWithin}
 use Rattle.cuts.proofs.Sized.{body-length}
 use Rattle.cuts.proofs.CutWalk.{walk-cut, within-whole, past}
 use Rattle.cuts.proofs.Restored.{bytes-whole}
@@ -61,10 +61,6 @@ start-at z k j m = omega (arith, split-width k m)
 -- its bytes are within what is there
 within-at : (z k j m b : ℕ) → z + bodySize k (suc j) m ≤ b → 4 + k * detailsLength m ≤ b - z - bodySize k j (approxLength m)
 within-at z k j m b h = omega (arith, split-width k m)
-
--- the bytes of sections 0 to q
-abbrev pub upTo : ℕ → ℕ → ℕ → ℕ → ℕ → ℕ
-upTo z k l n q = z + bodySize k (q - 1) (countAt (l + 1 - q) n)
 
 module _ {z : ℕ} {f : Filter} {l n p : ℕ} {x s : List ℕ} (d : Filed z f l n p x s) (b : ℕ) where
   abbrev k : ℕ
@@ -108,7 +104,7 @@ module _ {z : ℕ} {f : Filter} {l n p : ℕ} {x s : List ℕ} (d : Filed z f l 
     way-to q some most = ap (λ (i : Head). wayTo t i q) (d .head b c) ∙ walk-parts (l + 1 - q) (q - 1) (omega arith)
 
     -- where it is whole
-    went : (q : ℕ) → 1 ≤ q → q ≤ l + 1 → upTo z k l n q ≤ b → wayTo t h q ≡ Went (upTo z k l n q)
+    went : (q : ℕ) → 1 ≤ q → q ≤ l + 1 → sizeThrough z k l n q ≤ b → wayTo t h q ≡ Went (sizeThrough z k l n q)
     went q some most up = way-to q some most ∙ sym (within-whole k (q - 1) (countAt (l + 1 - q) n) z (b - z) (omega arith))
 
     -- how many bytes section q has
@@ -116,7 +112,7 @@ module _ {z : ℕ} {f : Filter} {l n p : ℕ} {x s : List ℕ} (d : Filed z f l 
     length-is q = ap (λ (i : Head). lengthOf i q) (d .head b c)
 
     -- where they start, if the section is whole
-    pub start-is : (q : ℕ) → 1 ≤ q → q ≤ l + 1 → upTo z k l n q ≤ b → startOf t h q ≡ upTo z k l n q - k * lastCount (q - 1) (countAt (l + 1 - q) n)
+    pub start-is : (q : ℕ) → 1 ≤ q → q ≤ l + 1 → sizeThrough z k l n q ≤ b → startOf t h q ≡ sizeThrough z k l n q - k * lastCount (q - 1) (countAt (l + 1 - q) n)
     start-is q some most up = ap₂ (λ (v : Way) (m : ℕ). endBy v - m) (went q some most up) (length-is q)
 
     -- section 0 and the number let by
@@ -127,14 +123,14 @@ module _ {z : ℕ} {f : Filter} {l n p : ℕ} {x s : List ℕ} (d : Filed z f l 
         ∙ pass-on (numberChecks q (h .levels)) m w (ne-eqb q 0 (λ z. omega arith), (le-ltb (h .levels + 1) q (omega arith), tt))
 
     -- a section that is whole is found
-    pub section-found : (q : ℕ) → 1 ≤ q → q ≤ l + 1 → upTo z k l n q ≤ b → saySection t k p q ≡ Done (startOf t h q) (lengthOf h q)
+    pub section-found : (q : ℕ) → 1 ≤ q → q ≤ l + 1 → sizeThrough z k l n q ≤ b → saySection t k p q ≡ Done (startOf t h q) (lengthOf h q)
     unfolding saySection
     section-found q some most up =
         let end = Done (startOf t h q) (lengthOf h q) in
         by-number q some most (sectionChecks (wayTo t h q) (length t)) end ∙ ap (λ (v : Way). firstOf (sectionChecks v (length t)) end) (went q some most up)
 
     -- "a cut at or before it is 10"
-    pub section-cut : (q : ℕ) → 1 ≤ q → q ≤ l + 1 → b < upTo z k l n q → saySection t k p q ≡ CutShort b
+    pub section-cut : (q : ℕ) → 1 ≤ q → q ≤ l + 1 → b < sizeThrough z k l n q → saySection t k p q ≡ CutShort b
     unfolding saySection
     section-cut q some most up =
         let m = countAt (l + 1 - q) n in
@@ -148,7 +144,7 @@ module _ {z : ℕ} {f : Filter} {l n p : ℕ} {x s : List ℕ} (d : Filed z f l 
         ∙ ap CutShort (cut-length d b e)
 
     -- section 1 is the deepest approximations
-    pub section-approx : upTo z k l n 1 ≤ b → take (lengthOf h 1) (drop (startOf t h 1) t) ≡ approxAt f l x
+    pub section-approx : sizeThrough z k l n 1 ≤ b → take (lengthOf h 1) (drop (startOf t h 1) t) ≡ approxAt f l x
     unfolding laidOut
     section-approx up =
         let y = approxAt f l x in
@@ -164,7 +160,7 @@ module _ {z : ℕ} {f : Filter} {l n p : ℕ} {x s : List ℕ} (d : Filed z f l 
         ∙ bytes-whole t y rest k m z (b - z) after (length-approx f l x n (d .recording .size)) (omega arith)
 
     -- section j + 2 is the details of level l - j, of the approximations of the level before it
-    pub section-details : (j : ℕ) → j < l → upTo z k l n (j + 2) ≤ b → take (lengthOf h (j + 2)) (drop (startOf t h (j + 2)) t) ≡ highOf f (approxAt f (l - 1 - j) x)
+    pub section-details : (j : ℕ) → j < l → sizeThrough z k l n (j + 2) ≤ b → take (lengthOf h (j + 2)) (drop (startOf t h (j + 2)) t) ≡ highOf f (approxAt f (l - 1 - j) x)
     unfolding laidOut
     section-details j less up =
         let i = l - 1 - j in
@@ -181,7 +177,7 @@ module _ {z : ℕ} {f : Filter} {l n p : ℕ} {x s : List ℕ} (d : Filed z f l 
         let jj : j + 2 - 1 ≡ suc j = omega arith in
         let el : lengthOf h (j + 2) ≡ k * detailsLength m =
         length-is (j + 2) ∙ ap₂ (λ (a d : ℕ). k * lastCount a (countAt d n)) jj ij ∙ ap (λ (a : Bool). k * cond a m (detailsLength m)) (ne-eqb (suc j) 0 (λ q. omega arith)) in
-        let eu : upTo z k l n (j + 2) ≡ z + bodySize k (suc j) m = ap₂ (λ (a d : ℕ). z + bodySize k a (countAt d n)) jj ij in
+        let eu : sizeThrough z k l n (j + 2) ≡ z + bodySize k (suc j) m = ap₂ (λ (a d : ℕ). z + bodySize k a (countAt d n)) jj ij in
         let up′ : z + bodySize k (suc j) m ≤ b = subst (λ (a : ℕ). a ≤ b) eu up in
         let es : startOf t h (j + 2) ≡ z + a + 4 =
         start-is (j + 2) (omega arith) (omega arith) up ∙ ap₂ (λ (a d : ℕ). a - d) eu (sym (length-is (j + 2)) ∙ el) ∙ start-at z k j m in

@@ -22,12 +22,13 @@ use Rattle.trips.proofs.ThereAndBack.{call-approx, call-level}
 use Rattle.pyramid.specs.Files.{headSize, fileOf, fileSize}
 use Rattle.pyramid.specs.Opens.{headIn, lengthOf, startOf, sectionIn}
 use Rattle.pyramid.specs.Writes.{Write}
+use Rattle.cuts.specs.Sees.{sizeThrough}
 use Rattle.cuts.proofs.Filed.{Filed}
-use Rattle.cuts.proofs.CutSections.{upTo, section-found, section-approx, section-details}
+use Rattle.cuts.proofs.CutSections.{section-found, section-approx, section-details}
 use Rattle.cuts.proofs.Kept.{written, front-in}
 
 -- every section ends within the file
-up-most : (z k l n j : ℕ) → j ≤ l → upTo z k l n (1 + j) ≤ fileSize z k l n
+up-most : (z k l n j : ℕ) → j ≤ l → sizeThrough z k l n (1 + j) ≤ fileSize z k l n
 up-most z k l n j h =
     let e : 1 + j - 1 ≡ j = omega arith in
     let q = count-at-le (l + 1 - (1 + j)) n in
@@ -35,10 +36,10 @@ up-most z k l n j h =
 
 -- in the first c bytes of a recording's file
 module _ {z : ℕ} {f : Filter} {l n p : ℕ} {x s : List ℕ} (d : Filed z f l n p x s) (c : ℕ) (e : c ≤ fileSize z (widthOf f) l n) where
-  headed : (q : ℕ) → upTo z (widthOf f) l n q ≤ c → z ≤ c
+  headed : (q : ℕ) → sizeThrough z (widthOf f) l n q ≤ c → z ≤ c
   headed q up = omega arith
 
-  found-bytes : (q : ℕ) → 1 ≤ q → q ≤ l + 1 → upTo z (widthOf f) l n q ≤ c
+  found-bytes : (q : ℕ) → 1 ≤ q → q ≤ l + 1 → sizeThrough z (widthOf f) l n q ≤ c
       → let t = take c s in let h = headIn t in sectionIn t (widthOf f) p q ≡ take (lengthOf h q) (drop (startOf t h q) t)
   unfolding sectionIn
   found-bytes q some most up =
@@ -46,17 +47,17 @@ module _ {z : ℕ} {f : Filter} {l n p : ℕ} {x s : List ℕ} (d : Filed z f l 
       let h = headIn t in
       ap (λ (r : Refusal). cond (done r) (take (lengthOf h q) (drop (startOf t h q) t)) []) (section-found d c (headed q up) e q some most up)
 
-  file-first : upTo z (widthOf f) l n 1 ≤ c → sectionIn (take c s) (widthOf f) p 1 ≡ approxAt f l x
+  file-first : sizeThrough z (widthOf f) l n 1 ≤ c → sectionIn (take c s) (widthOf f) p 1 ≡ approxAt f l x
   file-first up = found-bytes 1 (omega arith) (omega arith) up ∙ section-approx d c (headed 1 up) e up
 
-  file-later : (j : ℕ) → 1 ≤ j → j ≤ l → upTo z (widthOf f) l n (1 + j) ≤ c → sectionIn (take c s) (widthOf f) p (1 + j) ≡ highOf f (approxAt f (l - j) x)
+  file-later : (j : ℕ) → 1 ≤ j → j ≤ l → sizeThrough z (widthOf f) l n (1 + j) ≤ c → sectionIn (take c s) (widthOf f) p (1 + j) ≡ highOf f (approxAt f (l - j) x)
   file-later j some most up =
       let t = take c s in
       let h = headIn t in
       let less : j - 1 < l = omega arith in
       let eq : j - 1 + 2 ≡ 1 + j = omega arith in
       let ei : l - 1 - (j - 1) ≡ l - j = omega arith in
-      let up′ : upTo z (widthOf f) l n (j - 1 + 2) ≤ c = subst (λ (q : ℕ). upTo z (widthOf f) l n q ≤ c) (sym eq) up in
+      let up′ : sizeThrough z (widthOf f) l n (j - 1 + 2) ≤ c = subst (λ (q : ℕ). sizeThrough z (widthOf f) l n q ≤ c) (sym eq) up in
       found-bytes (1 + j) (omega arith) (omega arith) up
       ∙ ap (λ (q : ℕ). take (lengthOf h q) (drop (startOf t h q) t)) (sym eq)
       ∙ section-details d c (headed (1 + j) up) e (j - 1) less up′
@@ -90,8 +91,8 @@ module _ (f : Filter) (i : Integers f) (l p : ℕ) (hp : p < 2 ^ 32) (x : List �
 
   -- cut to c bytes, which have the section whole
   pub section-in-cut : (c : ℕ) → c ≤ fileSize headSize k L n
-      → (upTo headSize k L n 1 ≤ c → sectionIn (take c b′) k p 1 ≡ take (k * countAt L n) o′)
-      × ((j : ℕ) → 1 ≤ j → j ≤ L → upTo headSize k L n (1 + j) ≤ c → sectionIn (take c b′) k p (1 + j) ≡ take (k * detailsLength (countAt (L - j) n)) (drop (k * countAt (L + 1 - j) n) o′))
+      → (sizeThrough headSize k L n 1 ≤ c → sectionIn (take c b′) k p 1 ≡ take (k * countAt L n) o′)
+      × ((j : ℕ) → 1 ≤ j → j ≤ L → sizeThrough headSize k L n (1 + j) ≤ c → sectionIn (take c b′) k p (1 + j) ≡ take (k * detailsLength (countAt (L - j) n)) (drop (k * countAt (L + 1 - j) n) o′))
   section-in-cut c e =
       let front = front-in f l p x i bx hp b u v a b′ u′ v′ w z c e in (
         λ up. ap (λ (s : List ℕ). sectionIn s k p 1) front ∙ file-first file c e up ∙ sym (call-approx f l x m made),

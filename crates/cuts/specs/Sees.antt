@@ -35,6 +35,10 @@ firstWhole k (c ∷ cs) b = cond (leb (4 + k * c) b) (suc (firstWhole k cs (b - 
 abbrev pub needed : ℕ → ℕ → ℕ → ℕ → ℕ
 needed z k l n = z + bodySize k 0 (countAt l n)
 
+-- and of sections 0 to q
+abbrev pub sizeThrough : ℕ → ℕ → ℕ → ℕ → ℕ → ℕ
+sizeThrough z k l n q = z + bodySize k (q - 1) (countAt (l + 1 - q) n)
+
 -- how many sections of details, deepest first, are whole in the first b bytes of a file
 abbrev pub wholeOf : ℕ → ℕ → ℕ → ℕ → ℕ → ℕ
 wholeOf z k l n b = firstWhole k (lengthsOf l n) (b - needed z k l n)
