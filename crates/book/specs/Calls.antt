@@ -1,13 +1,15 @@
 -- The calls of the book, from C-14: what each leaves of the area. What each says, and its checks in order, are in `entries`.
 use mathlib.Core.List.{List, [], _∷_, _++_}
 use mathlib.Core.Path.{_≡_}
-use Prim.Native.Nat.{ℕ, _+_}
-use lib.ListN.{take, drop}
+use Prim.Native.Nat.{ℕ, _+_, _-_}
+use lib.ListN.{length, take, drop, replicate}
+use lib.Seq.{paste}
 use Rattle.answers.specs.declared.err.Answer.{Answer}
 use Rattle.answers.specs.declared.err.Refusal.{Refusal}
 use Rattle.answers.specs.Answers.{answerOf}
 use Rattle.answers.specs.Checks.{left, inFront}
-use Rattle.entries.specs.Books.{entrySize, bookOf, entriesIn, dataIn, slotOf, placeAt, sizeAt}
+use Rattle.samples.specs.Le.{stored}
+use Rattle.entries.specs.Books.{entrySize, entryStart, totalAt, dataAt, bookOf, entriesIn, dataIn, slotOf, placeAt, sizeAt}
 use Rattle.entries.specs.Checks.{sayFresh, sayAdd, sayWithdraw}
 
 -- the area b with these entries and this data, and behind them the bytes that were there
@@ -33,6 +35,10 @@ Fresh b = Leaves (sayFresh b) (freshIn b) b
 unfoldable pub addedIn : List ℕ → List ℕ → List ℕ
 addedIn b s = holding b (entriesIn b ++ (take entrySize s ∷ [])) (dataIn b ++ s)
 
+-- on the way: the file s behind t bytes of data, and the new count
+abbrev pub fileLaid : List ℕ → ℕ → List ℕ → List ℕ
+fileLaid b t s = stored 4 (take (dataAt + t) b ++ (s ++ drop (dataAt + t + length s) b)) totalAt (t + length s)
+
 abbrev pub Add : List ℕ → ℕ → List ℕ → Answer → List ℕ → Type 0
 Add b p s = Leaves (sayAdd b p s) (addedIn b s) b
 
@@ -48,6 +54,18 @@ withdrawnIn b p =
     let es = entriesIn b in
     let i = slotOf p es in
     holding b (without i 1 es) (without (placeAt i es) (sizeAt i es) (dataIn b))
+
+-- on the way: of t bytes of data, those behind the n at place i moved down over them, and the new count
+abbrev pub gapClosed : List ℕ → ℕ → ℕ → ℕ → List ℕ
+gapClosed b i n t = stored 4 (paste b (dataAt + i) (drop (dataAt + i + n) b) (t - i - n)) totalAt (t - n)
+
+-- the file of entry i taken out of the data, its entry still there
+abbrev pub fileOut : List ℕ → ℕ → List ℕ
+fileOut b i = let es = entriesIn b in holding b es (without (placeAt i es) (sizeAt i es) (dataIn b))
+
+-- entry i taken out of the directory, and the last one cleared
+abbrev pub entryOut : List ℕ → ℕ → List ℕ
+entryOut b i = without (entryStart i) entrySize (take totalAt b) ++ (replicate entrySize 0 ++ drop totalAt b)
 
 abbrev pub Withdraw : List ℕ → ℕ → Answer → List ℕ → Type 0
 Withdraw b p = Leaves (sayWithdraw b p) (withdrawnIn b p) b

@@ -1,0 +1,10 @@
+-- `lay_file` meets its contract: the file, and the count.
+use borrow.Author.Needs.{needs}
+use Rattle.book.proofs.calls.lay_file.Statement.{statement}
+use Rattle.book.proofs.calls.lay_file.Tie as tie
+
+returns : tie.Need-returns
+returns c = rw (c .before .before .before .before .before .before .lay .ensures) at (c .before .before .write-u32 .ensures)
+
+pub lay-file-spec : {M : Type 1} → statement M
+lay-file-spec = tie.close (tie.spec (λ c. search needs) (λ c κs. search needs) (λ c. search needs) (λ c. search needs) (λ c κs. search needs) (λ c. search needs) returns)
