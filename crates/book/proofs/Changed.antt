@@ -1,7 +1,7 @@
 -- What the writes of each call leave of a book is the changed book, laid out.
 use mathlib.Core.List.{List, [], _∷_, _++_, append-assoc, append-nil}
 use mathlib.Core.Path.{_≡_, refl, sym, subst, ap, ap₂, _∙_}
-use Prim.Native.Nat.{ℕ, zero, suc, _+_, _-_, _*_, _≤_, _<_}
+use Prim.Native.Nat.{ℕ, suc, _+_, _-_, _*_, _≤_, _<_}
 use native.Mathlib.Nat.{add-assoc}
 use native.Mathlib.Numerals.{add-one}
 use native.Mathlib.Omega.{arith}
@@ -13,7 +13,7 @@ use Rattle.entries.specs.Books.{most, entrySize, entryStart, totalAt, dataAt, s
 use Rattle.entries.specs.Checks.{Book}
 use Rattle.entries.proofs.Entries.{entries-few, entry-is, place-next, place-most, total-is}
 use Rattle.entries.proofs.Laid.{AllSized, entries-sized, joined-length, data-length, unused, split, directory-length, book-length, checked, book-is}
-use Rattle.book.specs.Calls.{holding, freshIn, addedIn, without, fileLaid, withdrawnIn, gapClosed, fileOut, entryOut}
+use Rattle.book.specs.Calls.{holding, freshIn, addedIn, without, filePut, withdrawnIn, fileOut, entryOut}
 
 -- ---- lists of entries
 
@@ -102,10 +102,10 @@ unfolding bookOf
 in-parts es d t = simp append-assoc
 
 -- what stands behind the directory, in the area b
-abbrev behind : List ℕ → List ℕ → List ℕ
-behind b d = leBytes 4 (length d) ++ (d ++ drop (dataAt + length d) b)
+abbrev restOf : List ℕ → List ℕ → List ℕ
+restOf b d = leBytes 4 (length d) ++ (d ++ drop (dataAt + length d) b)
 
-laid-out : (b : List ℕ) (es : List (List ℕ)) (d : List ℕ) → AllSized es → length es ≤ most → holding b es d ≡ directoryOf es ++ behind b d
+laid-out : (b : List ℕ) (es : List (List ℕ)) (d : List ℕ) → AllSized es → length es ≤ most → holding b es d ≡ directoryOf es ++ restOf b d
 laid-out b es d sized few = in-parts es d (drop (length (bookOf es d)) b) ∙ ap (λ (n : ℕ). directoryOf es ++ (leBytes 4 (length d) ++ (d ++ drop n b))) (book-length es d sized few)
 
 -- ---- a fresh book
@@ -167,7 +167,7 @@ file-at {b} {i} {h} book eh less ep ez et =
     let all = total-is b h eh et in
     record { starts = ep; has = has; all = all; fits = omega (arith, ep, has, all, place-next es i below, place-most (suc i) es); within = omega (arith, all, checked b (book .could) .within) }
 
--- ---- a book that is there: its directory before the data's count, and what stands from the data's count on
+-- ---- a book that is there
 
 module _ (b : List ℕ) (bytes : Bytes b) (book : Book b) where
   abbrev es : List (List ℕ)
@@ -185,72 +185,72 @@ module _ (b : List ℕ) (bytes : Bytes b) (book : Book b) where
   data-long : length d ≡ totalIn b
   data-long = data-length b (checked b (book .could) .within)
 
-  -- what stands before the data
-  abbrev start : List ℕ
-  start = directoryOf es ++ leBytes 4 (length d)
+  -- what stands before its data
+  abbrev before : List ℕ
+  before = directoryOf es ++ leBytes 4 (length d)
 
-  long-start : length start ≡ dataAt
-  long-start = length-append (directoryOf es) (leBytes 4 (length d)) ∙ omega (arith, long-directory, length-leBytes 4 (length d))
+  long-before : length before ≡ dataAt
+  long-before = length-append (directoryOf es) (leBytes 4 (length d)) ∙ omega (arith, long-directory, length-leBytes 4 (length d))
 
-  whole : b ≡ (start ++ d) ++ drop (dataAt + totalIn b) b
+  whole : b ≡ (before ++ d) ++ drop (dataAt + totalIn b) b
   whole = book-is b bytes (book .long) (book .could) ∙ in-parts es d (drop (dataAt + totalIn b) b) ∙ simp append-assoc
 
-  -- other data there, and their count
-  counted : (d′ : List ℕ) → stored 4 (directoryOf es ++ (leBytes 4 (length d) ++ (d′ ++ drop (dataAt + length d′) b))) totalAt (length d′) ≡ holding b es d′
-  counted d′ =
+  -- other data in their place, and their count
+  data-counted : (d′ : List ℕ) → stored 4 (directoryOf es ++ (leBytes 4 (length d) ++ (d′ ++ drop (dataAt + length d′) b))) totalAt (length d′) ≡ holding b es d′
+  data-counted d′ =
       stored-at (directoryOf es) (leBytes 4 (length d)) (d′ ++ drop (dataAt + length d′) b) totalAt (length d′) long-directory (length-leBytes 4 (length d)) ∙ sym (laid-out b es d′ sized (entries-few b))
 
   -- the file s behind the data
-  file-in : (s : List ℕ) {b₁ : List ℕ} (t : ℕ) → t ≡ totalIn b → b₁ ≡ fileLaid b t s → b₁ ≡ holding b es (d ++ s)
-  file-in s t et e₁ =
+  file-put : (s : List ℕ) {b₁ : List ℕ} (t : ℕ) → t ≡ totalIn b → b₁ ≡ filePut b t s → b₁ ≡ holding b es (d ++ s)
+  file-put s t et e₁ =
       let size : length (d ++ s) ≡ t + length s = length-append d s ∙ omega (arith, data-long, et) in
-      let front = ap (take (dataAt + t)) whole ∙ take-at (start ++ d) (drop (dataAt + totalIn b) b) (dataAt + t) (length-append start d ∙ omega (arith, long-start, data-long, et)) in
+      let front = ap (take (dataAt + t)) whole ∙ take-at (before ++ d) (drop (dataAt + totalIn b) b) (dataAt + t) (length-append before d ∙ omega (arith, long-before, data-long, et)) in
       let end : dataAt + t + length s ≡ dataAt + length (d ++ s) = omega arith in
       let laid : take (dataAt + t) b ++ (s ++ drop (dataAt + t + length s) b) ≡ directoryOf es ++ (leBytes 4 (length d) ++ ((d ++ s) ++ drop (dataAt + length (d ++ s)) b)) =
       ap₂ (λ (l : List ℕ) (n : ℕ). l ++ (s ++ drop n b)) front end ∙ simp append-assoc in
-      e₁ ∙ ap₂ (λ (l : List ℕ) (v : ℕ). stored 4 l totalAt v) laid (sym size) ∙ counted (d ++ s)
+      e₁ ∙ ap₂ (λ (l : List ℕ) (v : ℕ). stored 4 l totalAt v) laid (sym size) ∙ data-counted (d ++ s)
 
   -- and its first bytes as the entry behind the last
-  pub added-is : (s : List ℕ) {b₁ b₂ : List ℕ} {h t : ℕ} → h ≡ length es → t ≡ totalIn b → h < most → entrySize ≤ length s → b₁ ≡ fileLaid b t s
+  pub added-is : (s : List ℕ) {b₁ b₂ : List ℕ} {h t : ℕ} → h ≡ length es → t ≡ totalIn b → h < most → entrySize ≤ length s → b₁ ≡ filePut b t s
       → b₂ ≡ take (entryStart h) b₁ ++ (take entrySize s ++ drop (entryStart h + length (take entrySize s)) b₁) → b₂ ≡ addedIn b s
   unfolding addedIn joined AllSized
   added-is s {b₁} {b₂} {h} {t} eh et few head e₁ e₂ =
       let e = take entrySize s in
       let es′ = es ++ (e ∷ []) in
       let first = leBytes 4 most ++ joined es in
-      let rest = unused (suc h) ++ behind b (d ++ s) in
+      let rest = unused (suc h) ++ restOf b (d ++ s) in
       let entry : length e ≡ entrySize = length-take-le entrySize s head in
       let more : length es′ ≡ suc h = length-append es (e ∷ []) ∙ omega (arith, eh) in
       let all : joined es′ ≡ joined es ++ e = joined-append es (e ∷ []) ∙ ap (λ (l : List ℕ). joined es ++ l) (append-nil e) in
       let at : length first ≡ entryStart h = length-append (leBytes 4 most) (joined es) ∙ omega (arith, length-leBytes 4 most, joined-length es sized, ap (λ (n : ℕ). entrySize * n) eh) in
       let opened : b₁ ≡ first ++ (replicate entrySize 0 ++ rest) =
-      file-in s t et e₁ ∙ laid-out b es (d ++ s) sized (entries-few b)
-      ∙ ap (λ (l : List ℕ). (leBytes 4 most ++ (joined es ++ l)) ++ behind b (d ++ s)) (ap unused (sym eh) ∙ unused-next h few .0) ∙ simp append-assoc in
+      file-put s t et e₁ ∙ laid-out b es (d ++ s) sized (entries-few b)
+      ∙ ap (λ (l : List ℕ). (leBytes 4 most ++ (joined es ++ l)) ++ restOf b (d ++ s)) (ap unused (sym eh) ∙ unused-next h few .0) ∙ simp append-assoc in
       e₂ ∙ ap (λ (l : List ℕ). take (entryStart h) l ++ (e ++ drop (entryStart h + length e) l)) opened
       ∙ laid-at first (replicate entrySize 0) e rest (entryStart h) (length e) at (length-replicate {A = ℕ} entrySize 0 ∙ sym entry)
       ∙ sym (laid-out b es′ (d ++ s) (sized-append es (e ∷ []) sized (entry, tt)) (omega (arith, more, few)) ∙ rw (all, more) (simp append-assoc))
 
-  -- the data behind the file of entry i moved down
-  pub file-out : {b₁ : List ℕ} {i place size t : ℕ} → FileAt b i place size t → b₁ ≡ gapClosed b place size t → b₁ ≡ fileOut b i
-  file-out {b₁} {i} {place} {size} {t} f e₁ =
+  -- the data behind the file of entry i moved down, and the new count
+  pub file-out : {b₁ b₂ : List ℕ} {i place size t : ℕ} → FileAt b i place size t → b₁ ≡ paste b (dataAt + place) (drop (dataAt + place + size) b) (t - place - size) → b₂ ≡ stored 4 b₁ totalAt (t - size) → b₂ ≡ fileOut b i
+  file-out {b₁} {b₂} {i} {place} {size} {t} f e₁ e₂ =
       let n = t - place - size in
       let d′ = without place size d in
       let long : length d ≡ place + size + n = omega (arith, data-long, f .all, f .fits) in
       let smaller : length d′ ≡ t - size = omega (arith, length-without place size d (omega arith), f .fits) in
       let end : dataAt + place + n ≡ dataAt + length d′ = omega (arith, smaller, f .fits) in
-      let packed : paste b (dataAt + place) (drop (dataAt + place + size) b) n ≡ directoryOf es ++ (leBytes 4 (length d) ++ (d′ ++ drop (dataAt + length d′) b)) =
-      packed-is b (start ++ d) (drop (dataAt + totalIn b) b) (dataAt + place) size n whole (length-append start d ∙ omega (arith, long-start, long))
-      ∙ ap₂ (λ (l : List ℕ) (k : ℕ). l ++ drop k b) (without-behind start d place size dataAt long-start) end ∙ simp append-assoc in
-      e₁ ∙ ap₂ (λ (l : List ℕ) (v : ℕ). stored 4 l totalAt v) packed (sym smaller) ∙ counted d′ ∙ ap₂ (λ (j k : ℕ). holding b es (without j k d)) (f .starts) (f .has)
+      let packed : b₁ ≡ directoryOf es ++ (leBytes 4 (length d) ++ (d′ ++ drop (dataAt + length d′) b)) =
+      e₁ ∙ packed-is b (before ++ d) (drop (dataAt + totalIn b) b) (dataAt + place) size n whole (length-append before d ∙ omega (arith, long-before, long))
+      ∙ ap₂ (λ (l : List ℕ) (k : ℕ). l ++ drop k b) (without-behind before d place size dataAt long-before) end ∙ simp append-assoc in
+      e₂ ∙ ap₂ (λ (l : List ℕ) (v : ℕ). stored 4 l totalAt v) packed (sym smaller) ∙ data-counted d′ ∙ ap₂ (λ (j k : ℕ). holding b es (without j k d)) (f .starts) (f .has)
 
   -- and its entry taken out
   pub withdrawn-is : (p : ℕ) {b₁ b₂ : List ℕ} {i : ℕ} → i ≡ slotOf p es → i < length es → b₁ ≡ fileOut b i → b₂ ≡ entryOut b₁ i → b₂ ≡ withdrawnIn b p
   unfolding withdrawnIn
   withdrawn-is p {b₁} {b₂} {i} ei less e₁ e₂ =
       let d′ = without (placeAt i es) (sizeAt i es) d in
-      let laid : b₁ ≡ directoryOf es ++ behind b d′ = e₁ ∙ laid-out b es d′ sized (entries-few b) in
+      let laid : b₁ ≡ directoryOf es ++ restOf b d′ = e₁ ∙ laid-out b es d′ sized (entries-few b) in
       e₂
-      ∙ ap₂ (λ (u v : List ℕ). without (entryStart i) entrySize u ++ (replicate entrySize 0 ++ v)) (ap (take totalAt) laid ∙ take-at (directoryOf es) (behind b d′) totalAt long-directory) (ap (drop totalAt) laid ∙ drop-at (directoryOf es) (behind b d′) totalAt long-directory)
-      ∙ sym (append-assoc (without (entryStart i) entrySize (directoryOf es)) (replicate entrySize 0) (behind b d′)) ∙ ap (λ (l : List ℕ). l ++ behind b d′) (directory-without es i sized (entries-few b) less)
+      ∙ ap₂ (λ (u v : List ℕ). without (entryStart i) entrySize u ++ (replicate entrySize 0 ++ v)) (ap (take totalAt) laid ∙ take-at (directoryOf es) (restOf b d′) totalAt long-directory) (ap (drop totalAt) laid ∙ drop-at (directoryOf es) (restOf b d′) totalAt long-directory)
+      ∙ sym (append-assoc (without (entryStart i) entrySize (directoryOf es)) (replicate entrySize 0) (restOf b d′)) ∙ ap (λ (l : List ℕ). l ++ restOf b d′) (directory-without es i sized (entries-few b) less)
       ∙ sym (laid-out b (without i 1 es) d′ (sized-less i 1 es sized) (omega (arith, length-without i 1 es (omega arith), entries-few b)))
       ∙ ap (λ (j : ℕ). holding b (without j 1 es) (without (placeAt j es) (sizeAt j es) d)) ei

@@ -1,9 +1,8 @@
 -- The calls of the book, from C-14: what each leaves of the area. What each says, and its checks in order, are in `entries`.
 use mathlib.Core.List.{List, [], _∷_, _++_}
 use mathlib.Core.Path.{_≡_}
-use Prim.Native.Nat.{ℕ, _+_, _-_}
+use Prim.Native.Nat.{ℕ, _+_}
 use lib.ListN.{length, take, drop, replicate}
-use lib.Seq.{paste}
 use Rattle.answers.specs.declared.err.Answer.{Answer}
 use Rattle.answers.specs.declared.err.Refusal.{Refusal}
 use Rattle.answers.specs.Answers.{answerOf}
@@ -36,8 +35,8 @@ unfoldable pub addedIn : List ℕ → List ℕ → List ℕ
 addedIn b s = holding b (entriesIn b ++ (take entrySize s ∷ [])) (dataIn b ++ s)
 
 -- on the way: the file s behind t bytes of data, and the new count
-abbrev pub fileLaid : List ℕ → ℕ → List ℕ → List ℕ
-fileLaid b t s = stored 4 (take (dataAt + t) b ++ (s ++ drop (dataAt + t + length s) b)) totalAt (t + length s)
+abbrev pub filePut : List ℕ → ℕ → List ℕ → List ℕ
+filePut b t s = stored 4 (take (dataAt + t) b ++ (s ++ drop (dataAt + t + length s) b)) totalAt (t + length s)
 
 abbrev pub Add : List ℕ → ℕ → List ℕ → Answer → List ℕ → Type 0
 Add b p s = Leaves (sayAdd b p s) (addedIn b s) b
@@ -55,11 +54,7 @@ withdrawnIn b p =
     let i = slotOf p es in
     holding b (without i 1 es) (without (placeAt i es) (sizeAt i es) (dataIn b))
 
--- on the way: of t bytes of data, those behind the n at place i moved down over them, and the new count
-abbrev pub gapClosed : List ℕ → ℕ → ℕ → ℕ → List ℕ
-gapClosed b i n t = stored 4 (paste b (dataAt + i) (drop (dataAt + i + n) b) (t - i - n)) totalAt (t - n)
-
--- the file of entry i taken out of the data, its entry still there
+-- on the way: the file of entry i taken out of the data, its entry still there
 abbrev pub fileOut : List ℕ → ℕ → List ℕ
 fileOut b i = let es = entriesIn b in holding b es (without (placeAt i es) (sizeAt i es) (dataIn b))
 

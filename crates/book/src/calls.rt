@@ -6,7 +6,7 @@ ghost use lib.ListN.{length};
 ghost use Rattle.answers.specs.Answers.{answerOf};
 ghost use Rattle.entries.specs.Books.{most, dataAt, entriesIn, isHeld};
 ghost use Rattle.entries.specs.Checks.{mostArea, Book, Addable, sayFind, sayRoom};
-ghost use Rattle.book.specs.Calls.{freshIn, addedIn, fileLaid, withdrawnIn, gapClosed, fileOut, entryOut, Fresh, Add, Withdraw};
+ghost use Rattle.book.specs.Calls.{freshIn, addedIn, filePut, withdrawnIn, fileOut, entryOut, Fresh, Add, Withdraw};
 use answers::err::Answer;
 use answers::err::Refusal;
 use answers::err::is_done;
@@ -51,9 +51,9 @@ pub fn fresh(b: &mut [u8]) -> Answer
 }
 
 // The file s behind `total` bytes of data, and the new count.
-fn lay_file(b: &mut [u8], total: usize, s: &[u8])
+fn put_file(b: &mut [u8], total: usize, s: &[u8])
     requires { ⌜ (dataAt + total + length (now s) ≤ length (now b)) × (length (now b) ≤ mostArea) ⌝ }
-    ensures { λ _. ⌜ now (b .exit) ≡ fileLaid (now (b .entry)) total (now (s .entry)) ⌝ }
+    ensures { λ _. ⌜ now (b .exit) ≡ filePut (now (b .entry)) total (now (s .entry)) ⌝ }
 {
     lay(b, DATA_AT + total, s);
     write_u32(b, TOTAL_AT, (total + s.len()) as u32);
@@ -65,7 +65,7 @@ fn enter(b: &mut [u8], s: &[u8])
     ensures { λ _. ⌜ now (b .exit) ≡ addedIn (now (b .entry)) (now (s .entry)) ⌝ }
 {
     let h = held(b);
-    lay_file(b, total_of(b, h), s);
+    put_file(b, total_of(b, h), s);
     lay(b, 4 + ENTRY_SIZE * h, &s[0..ENTRY_SIZE]);
 }
 
@@ -93,11 +93,14 @@ pub fn find(b: &[u8], p: usize) -> Answer
     numbers(Refusal::Done(DATA_AT + total_of(b, i), size_at(b, i)))
 }
 
-// Of `total` bytes of data, the `size` at a place taken out: those behind them moved down, and the new count.
-fn close_gap(b: &mut [u8], place: usize, size: usize, total: usize)
-    requires { ⌜ (place + size ≤ total) × (dataAt + total ≤ length (now b)) × (length (now b) ≤ mostArea) ⌝ }
-    ensures { λ _. ⌜ now (b .exit) ≡ gapClosed (now (b .entry)) place size total ⌝ }
+// The file of entry i, of h that are held, taken out of the data: what stands behind it moved down, and the new count.
+fn take_file(b: &mut [u8], i: usize, h: usize)
+    requires { ⌜ Book (now b) × (h ≡ length (entriesIn (now b))) × (i < h) ⌝ }
+    ensures { λ _. ⌜ now (b .exit) ≡ fileOut (now (b .entry)) i ⌝ }
 {
+    let place = total_of(b, i);
+    let size = size_at(b, i);
+    let total = total_of(b, h);
     pack(b, DATA_AT + place, size, total - place - size);
     write_u32(b, TOTAL_AT, (total - size) as u32);
 }
@@ -114,17 +117,6 @@ fn drop_entry(b: &mut [u8], i: usize)
         ENTRY_SIZE * (MOST - 1 - i),
     );
     clear(b, TOTAL_AT - ENTRY_SIZE, TOTAL_AT);
-}
-
-// The file of entry i, of h that are held, taken out of the data.
-fn take_file(b: &mut [u8], i: usize, h: usize)
-    requires { ⌜ Book (now b) × (h ≡ length (entriesIn (now b))) × (i < h) ⌝ }
-    ensures { λ _. ⌜ now (b .exit) ≡ fileOut (now (b .entry)) i ⌝ }
-{
-    let place = total_of(b, i);
-    let size = size_at(b, i);
-    let total = total_of(b, h);
-    close_gap(b, place, size, total);
 }
 
 // The entry and the file of point p taken out, and what stands behind each moved down.

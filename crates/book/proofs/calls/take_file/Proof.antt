@@ -1,4 +1,4 @@
--- `take_file` meets its contract: where the file stands is read of the directory, and the gap that it leaves closed.
+-- `take_file` meets its contract: where the file stands is read of the directory; then the data behind it, and the count.
 use borrow.Author.Needs.{needs}
 use native.Mathlib.Omega.{arith}
 use Rattle.samples.specs.Le.{Bytes}
@@ -15,15 +15,21 @@ file c =
 size-at-requires : tie.Need-size-at-requires
 size-at-requires c κs = let st = c .before .before .before .before in (omega (arith, entries-few (st .args .b .now)), st .pre .0 .long)
 
-close-gap-requires : tie.Need-close-gap-requires
-close-gap-requires c κs = let f = file (c .before) in (f .fits, f .within, c .before .before .before .before .before .before .before .before .pre .0 .short)
-
 returns : tie.Need-returns
 returns c =
-    let k = c .before .before .before .before .before .before .before .before .before .before in
+    let k = c .before .before .before .before .before .before .before .before .before .before .before .before .before .before in
     let b = k .before .args .b .now in
     let bytes : Bytes b = record { byte = λ i. omega (arith, k .slice-known .given i) } in
-    file-out b bytes (k .before .pre .0) (file (c .before .before .before .before)) (c .before .before .close-gap .ensures)
+    file-out b bytes (k .before .pre .0) (file (c .before .before .before .before .before .before .before .before)) (c .before .before .before .before .before .before .pack .ensures) (c .before .before .write-u32 .ensures)
 
 pub take-file-spec : {M : Type 1} → statement M
-take-file-spec = tie.close (tie.spec (λ c κs. search needs) size-at-requires (λ c κs. search needs) close-gap-requires (λ c. search needs) returns)
+take-file-spec =
+    tie.close
+    (tie.spec
+    (λ c κs. search needs) size-at-requires (λ c κs. search needs) (λ c. search needs)
+    (λ c. let f = file (c .before) in omega arith)
+    (λ c. let f = file (c .before) in omega arith)
+    (λ c κs. let f = file (c .before) in omega arith)
+    (λ c. let f = file (c .before .before .before .before .before) in omega arith)
+    (λ c. let f = file (c .before .before .before .before .before) in omega arith)
+    (λ c κs. search needs) (λ c. search needs) returns)
