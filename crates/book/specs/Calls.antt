@@ -2,12 +2,13 @@
 use mathlib.Core.List.{List, [], _∷_, _++_}
 use mathlib.Core.Path.{_≡_}
 use Prim.Native.Nat.{ℕ, _+_}
-use lib.ListN.{take, drop}
+use lib.ListN.{length, take, drop, replicate}
 use Rattle.answers.specs.declared.err.Answer.{Answer}
 use Rattle.answers.specs.declared.err.Refusal.{Refusal}
 use Rattle.answers.specs.Answers.{answerOf}
 use Rattle.answers.specs.Checks.{left, inFront}
-use Rattle.entries.specs.Books.{entrySize, bookOf, entriesIn, dataIn, slotOf, placeAt, sizeAt}
+use Rattle.samples.specs.Le.{stored}
+use Rattle.entries.specs.Books.{entrySize, entryStart, totalAt, dataAt, bookOf, entriesIn, dataIn, slotOf, placeAt, sizeAt}
 use Rattle.entries.specs.Checks.{sayFresh, sayAdd, sayWithdraw}
 
 -- the area b with these entries and this data, and behind them the bytes that were there
@@ -33,6 +34,10 @@ Fresh b = Leaves (sayFresh b) (freshIn b) b
 unfoldable pub addedIn : List ℕ → List ℕ → List ℕ
 addedIn b s = holding b (entriesIn b ++ (take entrySize s ∷ [])) (dataIn b ++ s)
 
+-- on the way: the file s behind t bytes of data, and the new count
+abbrev pub filePut : List ℕ → ℕ → List ℕ → List ℕ
+filePut b t s = stored 4 (take (dataAt + t) b ++ (s ++ drop (dataAt + t + length s) b)) totalAt (t + length s)
+
 abbrev pub Add : List ℕ → ℕ → List ℕ → Answer → List ℕ → Type 0
 Add b p s = Leaves (sayAdd b p s) (addedIn b s) b
 
@@ -48,6 +53,14 @@ withdrawnIn b p =
     let es = entriesIn b in
     let i = slotOf p es in
     holding b (without i 1 es) (without (placeAt i es) (sizeAt i es) (dataIn b))
+
+-- on the way: the file of entry i taken out of the data, its entry still there
+abbrev pub fileOut : List ℕ → ℕ → List ℕ
+fileOut b i = let es = entriesIn b in holding b es (without (placeAt i es) (sizeAt i es) (dataIn b))
+
+-- entry i taken out of the directory, and the last one cleared
+abbrev pub entryOut : List ℕ → ℕ → List ℕ
+entryOut b i = without (entryStart i) entrySize (take totalAt b) ++ (replicate entrySize 0 ++ drop totalAt b)
 
 abbrev pub Withdraw : List ℕ → ℕ → Answer → List ℕ → Type 0
 Withdraw b p = Leaves (sayWithdraw b p) (withdrawnIn b p) b

@@ -1,12 +1,12 @@
 // The calls of the route book.
 ghost use mathlib.Core.Bool.{true};
 ghost use mathlib.Core.Path.{_≡_};
-ghost use Prim.Native.Nat.{_≤_};
+ghost use Prim.Native.Nat.{_+_, _≤_, _<_};
 ghost use lib.ListN.{length};
 ghost use Rattle.answers.specs.Answers.{answerOf};
-ghost use Rattle.entries.specs.Books.{dataAt, entriesIn, isHeld};
-ghost use Rattle.entries.specs.Checks.{Book, Addable, sayFind, sayRoom};
-ghost use Rattle.book.specs.Calls.{freshIn, addedIn, withdrawnIn, Fresh, Add, Withdraw};
+ghost use Rattle.entries.specs.Books.{most, dataAt, entriesIn, isHeld};
+ghost use Rattle.entries.specs.Checks.{mostArea, Book, Addable, sayFind, sayRoom};
+ghost use Rattle.book.specs.Calls.{freshIn, addedIn, filePut, withdrawnIn, fileOut, entryOut, Fresh, Add, Withdraw};
 use answers::err::Answer;
 use answers::err::Refusal;
 use answers::err::is_done;
@@ -50,15 +50,22 @@ pub fn fresh(b: &mut [u8]) -> Answer
     r
 }
 
+// The file s behind `total` bytes of data, and the new count.
+fn put_file(b: &mut [u8], total: usize, s: &[u8])
+    requires { ⌜ (dataAt + total + length (now s) ≤ length (now b)) × (length (now b) ≤ mostArea) ⌝ }
+    ensures { λ _. ⌜ now (b .exit) ≡ filePut (now (b .entry)) total (now (s .entry)) ⌝ }
+{
+    lay(b, DATA_AT + total, s);
+    write_u32(b, TOTAL_AT, (total + s.len()) as u32);
+}
+
 // The file behind the last one, and its head as the next entry.
 fn enter(b: &mut [u8], s: &[u8])
     requires { ⌜ Addable (now b) (now s) ⌝ }
     ensures { λ _. ⌜ now (b .exit) ≡ addedIn (now (b .entry)) (now (s .entry)) ⌝ }
 {
     let h = held(b);
-    let total = total_of(b, h);
-    lay(b, DATA_AT + total, s);
-    write_u32(b, TOTAL_AT, (total + s.len()) as u32);
+    put_file(b, total_of(b, h), s);
     lay(b, 4 + ENTRY_SIZE * h, &s[0..ENTRY_SIZE]);
 }
 
@@ -86,18 +93,23 @@ pub fn find(b: &[u8], p: usize) -> Answer
     numbers(Refusal::Done(DATA_AT + total_of(b, i), size_at(b, i)))
 }
 
-// The entry and the file of point p taken out, and what stands behind each moved down.
-fn take_out(b: &mut [u8], p: usize)
-    requires { ⌜ Book (now b) × (isHeld p (entriesIn (now b)) ≡ true) ⌝ }
-    ensures { λ _. ⌜ now (b .exit) ≡ withdrawnIn (now (b .entry)) p ⌝ }
+// The file of entry i, of h that are held, taken out of the data: what stands behind it moved down, and the new count.
+fn take_file(b: &mut [u8], i: usize, h: usize)
+    requires { ⌜ Book (now b) × (h ≡ length (entriesIn (now b))) × (i < h) ⌝ }
+    ensures { λ _. ⌜ now (b .exit) ≡ fileOut (now (b .entry)) i ⌝ }
 {
-    let h = held(b);
-    let i = slot_of(b, p, 0, h);
     let place = total_of(b, i);
     let size = size_at(b, i);
     let total = total_of(b, h);
     pack(b, DATA_AT + place, size, total - place - size);
     write_u32(b, TOTAL_AT, (total - size) as u32);
+}
+
+// Entry i taken out of the directory: those behind it moved down, and the last one cleared.
+fn drop_entry(b: &mut [u8], i: usize)
+    requires { ⌜ (i < most) × (dataAt ≤ length (now b)) ⌝ }
+    ensures { λ _. ⌜ now (b .exit) ≡ entryOut (now (b .entry)) i ⌝ }
+{
     pack(
         b,
         4 + ENTRY_SIZE * i,
@@ -105,6 +117,17 @@ fn take_out(b: &mut [u8], p: usize)
         ENTRY_SIZE * (MOST - 1 - i),
     );
     clear(b, TOTAL_AT - ENTRY_SIZE, TOTAL_AT);
+}
+
+// The entry and the file of point p taken out, and what stands behind each moved down.
+fn take_out(b: &mut [u8], p: usize)
+    requires { ⌜ Book (now b) × (isHeld p (entriesIn (now b)) ≡ true) ⌝ }
+    ensures { λ _. ⌜ now (b .exit) ≡ withdrawnIn (now (b .entry)) p ⌝ }
+{
+    let h = held(b);
+    let i = slot_of(b, p, 0, h);
+    take_file(b, i, h);
+    drop_entry(b, i);
 }
 
 // The file of point p is no longer held, and its room is free.

@@ -17,9 +17,10 @@ use Rattle.pyramid.specs.Opens.{headIn, fieldChecks}
 abbrev pub most : ℕ
 most = 64
 
--- an entry is the first 14 bytes of the file that it stands for: the count of the file's section 0, width, levels, n and point. One that stands for none is 14 zeros
+-- an entry is the first 14 bytes of the file that it stands for: the count of the file's section 0, width, levels, n and point. One that stands for none is 14 zeros.
+-- Not `headSize`: whatever section 0 has behind the point is not in an entry
 abbrev pub entrySize : ℕ
-entrySize = 14
+entrySize = 4 + 1 + 1 + 4 + 4
 
 -- where entry i starts, where the data's count stands (900), and where the data starts (904)
 abbrev pub entryStart : ℕ → ℕ

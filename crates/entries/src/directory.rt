@@ -10,12 +10,13 @@ use samples::le::read_u32;
 
 pub const MOST: usize = 64;
 
-pub const ENTRY_SIZE: usize = 14;
+// A file's first bytes, through the point: count, width, levels, n, point. Not HEAD_SIZE: whatever section 0 has behind the point is not in an entry.
+pub const ENTRY_SIZE: usize = 4 + 1 + 1 + 4 + 4;
 
 // Where the data's count stands, and where the data starts.
-pub const TOTAL_AT: usize = 900;
+pub const TOTAL_AT: usize = 4 + ENTRY_SIZE * MOST;
 
-pub const DATA_AT: usize = 904;
+pub const DATA_AT: usize = TOTAL_AT + 4;
 
 // What entry i says.
 pub fn entry(b: &[u8], i: usize) -> Head

@@ -37,9 +37,9 @@ are-scaled k b j x z r = record {
     g : ℕ → ℤ
     g i = getD z i (pos 0) *ℤ pos (2 ^ j)
 
--- ---- room for l levels
+-- ---- a format that holds l levels
 
-record Rooms (f : Format) (l k b : ℕ) : Type 0 where
+record HoldsLevels (f : Format) (l k b : ℕ) : Type 0 where
   fine : k + 3 * l ≤ low f
   wide : b * 16 ^ l ≤ 2 ^ prec f
 
@@ -48,20 +48,20 @@ sixteen zero = omega arith
 sixteen (suc l) = omega (arith, pow-succ' 16 l, sixteen l)
 
 -- for the first of them, and for the others
-first : {f : Format} {l k b : ℕ} → Rooms f (suc l) k b → FormatHolds f k b
+first : {f : Format} {l k b : ℕ} → HoldsLevels f (suc l) k b → FormatHolds f k b
 first {f} {l} {k} {b} r = record { fine = omega arith; wide = omega (arith, ap (λ (x : ℕ). b * x) (pow-succ' 16 l), mul-le-mul-left (16 * b) (sixteen l)) }
 
-others : {f : Format} {l k b : ℕ} → Rooms f (suc l) k b → Rooms f l (k + 3) (16 * b)
+others : {f : Format} {l k b : ℕ} → HoldsLevels f (suc l) k b → HoldsLevels f l (k + 3) (16 * b)
 others {f} {l} {k} {b} r = record { fine = omega arith; wide = omega (arith, ap (λ (x : ℕ). b * x) (pow-succ' 16 l)) }
 
 -- ---- level by level
 
 -- the first level's approximations, and that the others run on them
-step : (f : Format) (l k b : ℕ) (x : List Float) (z : List ℤ) → Rooms f (suc l) k b → Runs 3 (suc l) (length z) → Are k b x z → Are (k + 3) (16 * b) (approxs f Cdf53 x) (approximations8 z) × Runs 3 l (length (approximations8 z))
+step : (f : Format) (l k b : ℕ) (x : List Float) (z : List ℤ) → HoldsLevels f (suc l) k b → Runs 3 (suc l) (length z) → Are k b x z → Are (k + 3) (16 * b) (approxs f Cdf53 x) (approximations8 z) × Runs 3 l (length (approximations8 z))
 unfolding Runs
 step f l k b x z q d r = (approximations-exact f k b (first q) x z (omega (arith, d .0)) r, rw (length-approximations8 z) (d .1))
 
-after-exact : (f : Format) (l k b : ℕ) (x : List Float) (z : List ℤ) → Rooms f l k b → Runs 3 l (length z) → Are k b x z → Are (k + 3 * l) (b * 16 ^ l) (floatsAt f l x) (numbersAt l z)
+after-exact : (f : Format) (l k b : ℕ) (x : List Float) (z : List ℤ) → HoldsLevels f l k b → Runs 3 l (length z) → Are k b x z → Are (k + 3 * l) (b * 16 ^ l) (floatsAt f l x) (numbersAt l z)
 unfolding afterLevels
 after-exact f zero k b x z q d r = moved (omega arith) (omega (arith, mul-one b)) r
 after-exact f (suc l) k b x z q d r =
@@ -69,7 +69,7 @@ after-exact f (suc l) k b x z q d r =
     moved (omega arith) (omega (arith, ap (λ (x : ℕ). b * x) (pow-succ' 16 l)))
     (after-exact f l (k + 3) (16 * b) (approxs f Cdf53 x) (approximations8 z) (others q) (s .1) (s .0))
 
-floatsBack-exact : (f : Format) (l k b : ℕ) (x : List Float) (z : List ℤ) → Rooms f l k b → Runs 3 l (length z) → Are k b x z → Are k b (floatsBack f l x) z
+floatsBack-exact : (f : Format) (l k b : ℕ) (x : List Float) (z : List ℤ) → HoldsLevels f l k b → Runs 3 l (length z) → Are k b x z → Are k b (floatsBack f l x) z
 unfolding thereAndBack Runs
 floatsBack-exact f zero k b x z q d r = r
 floatsBack-exact f (suc l) k b x z q d r =
@@ -89,8 +89,8 @@ shallow : (f : Format) (n : ℕ) → 4 * n ≤ prec f → 3 * n ≤ low f
 shallow binary32 n h = omega arith
 shallow binary64 n h = omega arith
 
-rooms : (f : Format) (n l : ℕ) → 4 * n ≤ prec f → l ≤ n → Rooms f l 0 (most f n)
-rooms f n l h g = record {
+holds-levels : (f : Format) (n l : ℕ) → 4 * n ≤ prec f → l ≤ n → HoldsLevels f l 0 (most f n)
+holds-levels f n l h g = record {
   fine = omega (arith, shallow f n h);
   wide = rw (pow16 l, ← pow-add 2 (prec f - 4 * n) (4 * l)) (pow-mono (omega arith));
 }
@@ -100,12 +100,12 @@ fewer n l m h d = depth-runs 3 (omega arith) l m (le-trans h (runs-depth 3 (omeg
 
 pub exact : (f : Format) (levels : ℕ) → 4 * levels ≤ prec f → (x : List Float) (z : List ℤ) → Runs 3 levels (length z) → Are 0 (most f levels) x z → Exact f levels x z
 exact f n h x z d r = record {
-  approximations-are = λ l g. let q = rooms f n (suc l) h g in moved (omega arith) (q .wide) (after-exact f (suc l) 0 (most f n) x z q (fewer n (suc l) (length z) g d) r);
+  approximations-are = λ l g. let q = holds-levels f n (suc l) h g in moved (omega arith) (q .wide) (after-exact f (suc l) 0 (most f n) x z q (fewer n (suc l) (length z) g d) r);
   details-are = λ l g.
       let b = most f n * 16 ^ l in
-      let q : Rooms f (suc l) 0 (most f n) = rooms f n (suc l) h g in
+      let q : HoldsLevels f (suc l) 0 (most f n) = holds-levels f n (suc l) h g in
       let w : 16 * b ≤ 2 ^ prec f = omega (arith, ap (λ (m : ℕ). most f n * m) (pow-succ' 16 l)) in
-      let a : Are (0 + 3 * l) b (floatsAt f l x) (numbersAt l z) = after-exact f l 0 (most f n) x z (rooms f n l h (omega arith)) (fewer n l (length z) (omega arith) d) r in
+      let a : Are (0 + 3 * l) b (floatsAt f l x) (numbersAt l z) = after-exact f l 0 (most f n) x z (holds-levels f n l h (omega arith)) (fewer n l (length z) (omega arith) d) r in
       moved (omega arith) (omega arith)
       (are-scaled (0 + 3 * l + 1) (4 * b) 2 (details f Cdf53 (floatsAt f l x)) (details2 (numbersAt l z))
       (details-exact f (0 + 3 * l) b (record { fine = omega arith; wide = w }) (floatsAt f l x) (numbersAt l z) a));
@@ -114,4 +114,4 @@ exact f n h x z d r = record {
 }
   where
     again : Are 0 (most f n) (floatsBack f n x) z
-    again = floatsBack-exact f n 0 (most f n) x z (rooms f n n h (le-refl n)) d r
+    again = floatsBack-exact f n 0 (most f n) x z (holds-levels f n n h (le-refl n)) d r

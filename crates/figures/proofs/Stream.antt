@@ -45,7 +45,7 @@ damaged =
       over = record { piece = refl; finish = refl };
       at-limit = refl;
       past-limit = refl;
-      short = record { piece = refl; finish = refl };
+      byte-missing = record { piece = refl; finish = refl };
     }
 
 pub in-pieces : InPieces

@@ -108,7 +108,7 @@ pub record Damaged : Type 0 where
   pub at-limit : sayPiece 1 full 0 0 0 ≡ Done 0 0
   pub past-limit : sayPiece 1 full 1 1 1 ≡ TooLong
   -- a byte is missing
-  pub short : NoState 1 (0 ∷ 0 ∷ 0 ∷ 0 ∷ 0 ∷ 0 ∷ 0 ∷ 0 ∷ 0 ∷ 0 ∷ 0 ∷ 0 ∷ 0 ∷ 0 ∷ 0 ∷ [])
+  pub byte-missing : NoState 1 (0 ∷ 0 ∷ 0 ∷ 0 ∷ 0 ∷ 0 ∷ 0 ∷ 0 ∷ 0 ∷ 0 ∷ 0 ∷ 0 ∷ 0 ∷ 0 ∷ 0 ∷ [])
 
 pub record InPieces : Type 0 where
   pub zeros : fresh ≡ none

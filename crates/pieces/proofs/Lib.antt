@@ -2,4 +2,4 @@ pub mod Kept
 pub mod Joins
 pub mod Tables
 pub mod Stands
-pub mod Turns
+pub mod NextWords

@@ -11,9 +11,7 @@ use lib.ListN.{length, take, drop, length-append, length-drop, take-append-drop}
 use lib.Seq.{take-at, drop-at, drop-drop, take-add, take-nil, drop-nil, take-length, length-take-le, take-append-le, drop-append-le}
 use Rattle.entries.specs.Books.{pointBy, sizeBy, totalBy, slotOf, isHeld, placeAt, sizeAt, isHead, areEntries}
 use Rattle.entries.proofs.Entries.{place-next, place-most}
-use Rattle.entries.proofs.Laid.{AllSized}
 use Rattle.book.specs.Calls.{without}
-use Rattle.book.proofs.Changed.{sized-append, sized-take, sized-drop}
 use Rattle.route.specs.Maps.{Map, has, fileFor, removed, filesBy}
 use Rattle.route.proofs.Files.{held-cons, front-size, rest-enough}
 
@@ -91,10 +89,6 @@ files-more (x ∷ xs) e d s h z =
     ∙ ap (λ (m : Map). (pointBy x, take n d) ∷ m) (files-more xs e (drop n d) s (omega (arith, length-drop n d)) z)
 
 -- ---- withdrawing
-
--- some of the entries have their 14 bytes too
-pub sized-less : (i n : ℕ) (es : List (List ℕ)) → AllSized es → AllSized (without i n es)
-sized-less i n es h = sized-append (take i es) (drop (i + n) es) (sized-take i es h) (sized-drop (i + n) es h)
 
 -- of the entry behind the first, the rest without the first
 less-next : (i : ℕ) (e : List ℕ) (es : List (List ℕ)) → without (suc i) 1 (e ∷ es) ≡ e ∷ without i 1 es

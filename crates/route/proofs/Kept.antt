@@ -12,8 +12,8 @@ use Rattle.entries.specs.Books.{most, entrySize, sizeBy, joined, totalBy, slotO
 use Rattle.entries.proofs.Laid.{AllSized}
 use Rattle.entries.proofs.Passed.{held-below}
 use Rattle.book.specs.Calls.{without}
-use Rattle.book.proofs.Changed.{joined-append, sized-append, sized-one}
-use Rattle.route.proofs.Changed.{heads-more, total-append, sized-less, heads-less, less-length, total-less, place-within}
+use Rattle.book.proofs.Changed.{joined-append, sized-append, sized-less}
+use Rattle.route.proofs.Changed.{heads-more, total-append, heads-less, less-length, total-less, place-within}
 use Rattle.route.proofs.WholeFile.{Whole}
 use Rattle.trips.proofs.Undone.{bytes-take, bytes-drop}
 use Rattle.route.proofs.ByteParts.{bytes-parts}
@@ -48,7 +48,7 @@ unfolding AllSized totalBy joined
 kept-more es d s p k w bs new few =
     let e = take entrySize s in
     record {
-      sized = sized-append es (e ∷ []) (k .sized) (sized-one e (w .entry));
+      sized = sized-append es (e ∷ []) (k .sized) (w .entry, tt);
       heads = heads-more es e (k .heads) (w .head) (ap (λ (i : ℕ). isHeld i es) (w .point) ∙ new);
       few = omega (arith, length-append es (e ∷ []));
       all = length-append d s ∙ ap₂ (λ x y. x + y) (k .all) (w .size ∙ sym (add-zero (sizeBy e))) ∙ sym (total-append es (e ∷ []));

@@ -7,7 +7,7 @@ use native.Mathlib.Omega.{arith}
 use borrow.Author.Tests.{le-ltb, lt-leb}
 use lib.Dec.{eqb}
 use lib.ListN.{length, take, drop, replicate, length-append, length-drop, length-replicate, take-append-drop}
-use lib.Seq.{drop-append-seam, take-at, length-take-le}
+use lib.Seq.{take-at, length-take-le}
 use Rattle.answers.specs.declared.err.Answer.{Answer}
 use Rattle.answers.specs.declared.err.Refusal.{Refusal}
 use Rattle.answers.specs.declared.err.Refusal.the-variants.{Done}
@@ -21,7 +21,7 @@ use Rattle.entries.specs.Books.{most, entrySize, dataAt, pointBy, sizeBy, joine
 use Rattle.entries.specs.Checks.{mostArea, wholeChecks, sayFresh}
 use Rattle.entries.proofs.Laid.{AllSized, unused, book-length, book-is}
 use Rattle.book.specs.Calls.{Fresh, freshIn, addedIn, Add}
-use Rattle.book.proofs.Changed.{joined-append, sized-drop}
+use Rattle.book.proofs.Changed.{joined-append, sized-parts}
 use Rattle.route.specs.Maps.{Standing, BookCall, add, Ran, none, next, AllLent, AllNumbered, mapTotal, mapChecks, mapSays, mapIn, Reached}
 use Rattle.route.proofs.ByteParts.{bytes-parts, bytes-zeros}
 use Rattle.route.proofs.Files.{held-cons}
@@ -132,7 +132,7 @@ one y ys es d c k e st fits =
     let n = length c - dataAt in
     let hs = mapIn c in
     let at = heads-at xs y ys (ap areEntries (sym e) ∙ k .heads) in
-    let sized : length y ≡ entrySize = subst AllSized (ap (drop (length xs)) e ∙ drop-append-seam xs (y ∷ ys)) (sized-drop (length xs) es (k .sized)) .0 in
+    let sized : length y ≡ entrySize = sized-parts xs (y ∷ ys) (subst AllSized e (k .sized)) .1 .0 in
     let bytes : Bytes y = bytes-parts y (joined ys) (bytes-parts (joined xs) (y ++ joined ys) (subst Bytes (ap joined e ∙ joined-append xs (y ∷ ys)) (k .entries)) .1) .0 in
     let count : length es ≡ length xs + suc (length ys) = ap length e ∙ length-append xs (y ∷ ys) in
     let total : totalBy es ≡ totalBy xs + (sizeBy y + totalBy ys) = ap totalBy e ∙ total-append xs (y ∷ ys) in

@@ -13,7 +13,7 @@ use Rattle.cdf53i.specs.Bands.{detailWord}
 use Rattle.pieces.specs.declared.recorder.Recorder.{Recorder}
 use Rattle.pieces.specs.States.{waiting, standIn}
 use Rattle.pieces.specs.Steps.{nextWord, nextDetail, nextApprox, newly, Taking}
-use Rattle.pieces.proofs.Turns.{detail-in, next-piece, next-detail, next-approx}
+use Rattle.pieces.proofs.NextWords.{detail-in, next-piece, next-detail, next-approx}
 use Rattle.stream.specs.Loops.{approxAmong}
 
 -- the first word that is stored

@@ -1,4 +1,4 @@
-pub mod Bands
+pub mod BandChecks
 pub mod Calls
 pub mod Levels
 pub mod Few

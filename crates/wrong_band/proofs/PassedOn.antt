@@ -27,7 +27,7 @@ use Rattle.dwt.specs.Backward.{MultiBack}
 use Rattle.dwt.proofs.Cuts.{width-pos}
 use Rattle.dwt.proofs.Multi.{levels-pos, shallow-says}
 use Rattle.wrong_band.specs.WrongBand.{ForwardBefore, DwtBefore, InverseBefore, BackBefore}
-use Rattle.wrong_band.proofs.Bands.{quiet}
+use Rattle.wrong_band.proofs.BandChecks.{quiet}
 use Rattle.wrong_band.proofs.Calls.{forward-names, dwt-names}
 use Rattle.wrong_band.proofs.Levels.{back-names}
 use Rattle.wrong_band.proofs.Few.{inverse-few, few-inverse, back-few, few-back}

@@ -63,16 +63,16 @@ pub record BackBefore (k a d : ℕ) (ls : List ℕ) (o u v : ℕ) : Type 0 where
 
 -- ---- of which band an answer is; from here on lengths are in samples
 
--- a level has a approximations and d details where `low` and `high` are right; p and q are the values of the 2 and of the 17. Wrong approximations come first, wrong details or not
-pub record Named (Before : Type 0) (a low d high : ℕ) (p q : ℕ × ℕ) (r : Answer) : Type 0 where
-  pub approx-wrong : Before → (a ≡ low → ⊥) → r ≡ say 2 (p .0) (p .1)
-  pub details-wrong : Before → a ≡ low → (d ≡ high → ⊥) → r ≡ say 17 (q .0) (q .1)
+-- a level has a approximations and d details where `rightA` and `rightD` are right; p and q are the values of the 2 and of the 17. Wrong approximations come first, wrong details or not
+pub record Named (Before : Type 0) (a rightA d rightD : ℕ) (p q : ℕ × ℕ) (r : Answer) : Type 0 where
+  pub approx-wrong : Before → (a ≡ rightA → ⊥) → r ≡ say 2 (p .0) (p .1)
+  pub details-wrong : Before → a ≡ rightA → (d ≡ rightD → ⊥) → r ≡ say 17 (q .0) (q .1)
 
 -- and the numbers 2 and 17 are said there alone
-pub record Names (Before : Type 0) (a low d high : ℕ) (p q : ℕ × ℕ) (r : Answer) : Type 0 where
-  pub wrong : Named Before a low d high p q r
-  pub says-two : r .number ≡ 2 → Before × (a ≡ low → ⊥)
-  pub says-seventeen : r .number ≡ 17 → Before × (a ≡ low) × (d ≡ high → ⊥)
+pub record Names (Before : Type 0) (a rightA d rightD : ℕ) (p q : ℕ × ℕ) (r : Answer) : Type 0 where
+  pub wrong : Named Before a rightA d rightD p q r
+  pub says-two : r .number ≡ 2 → Before × (a ≡ rightA → ⊥)
+  pub says-seventeen : r .number ≡ 17 → Before × (a ≡ rightA) × (d ≡ rightD → ⊥)
 
 -- ---- level by level
 

@@ -29,11 +29,8 @@ passes c =
     let a = c .before .before .before .before .args in
     passing (heldChecks (a .b .now) (a .p)) (Done 0 0) (held-refuses (a .b .now) (a .p)) (sym (ap done (c .before .before .check-held .ensures)) ∙ sym (c .before .is-done .ensures) ∙ not-false _ (c .if1 .left))
 
-book : (c : tie.Else1) → Book (c .before .before .before .before .args .b .now)
-book c = let a = c .before .before .before .before .args in held-passes (a .b .now) (a .p) (passes c) .0
-
-below : (c : tie.Else1) → let a = c .before .before .before .before .args in slotOf (a .p) (entriesIn (a .b .now)) < length (entriesIn (a .b .now))
-below c = let a = c .before .before .before .before .args in held-below (a .p) (entriesIn (a .b .now)) (held-passes (a .b .now) (a .p) (passes c) .1)
+known : (c : tie.Else1) → let a = c .before .before .before .before .args in Book (a .b .now) × (slotOf (a .p) (entriesIn (a .b .now)) < length (entriesIn (a .b .now)))
+known c = let a = c .before .before .before .before .args in let q = held-passes (a .b .now) (a .p) (passes c) in (q .0, held-below (a .p) (entriesIn (a .b .now)) (q .1))
 
 slot : (c : tie.After-slot-of) → let a = c .before .before .before .before .before .before .args in c .slot-of .result ≡ slotOf (a .p) (entriesIn (a .b .now))
 slot c = omega (arith, c .slot-of .ensures)
@@ -45,7 +42,7 @@ returns-2 c =
     let a = k .before .before .before .before .before .before .args in
     let es = entriesIn (a .b .now) in
     let place = c .before .before .total-of .ensures .0 ∙ ap (λ (i : ℕ). placeAt i es) (slot k) in
-    let size = c .before .size-at .ensures .0 ∙ ap sizeBy (sym (entry-is (a .b .now) (k .slot-of .result) (omega (arith, slot k, below (k .before .before))))) ∙ ap (λ (i : ℕ). sizeAt i es) (slot k) in
+    let size = c .before .size-at .ensures .0 ∙ ap sizeBy (sym (entry-is (a .b .now) (k .slot-of .result) (omega (arith, slot k, known (k .before .before) .1)))) ∙ ap (λ (i : ℕ). sizeAt i es) (slot k) in
     c .numbers2 .ensures ∙ ap answerOf (ap₂ (λ (i n : ℕ). Done (dataAt + i) n) place size ∙ sym (through (heldChecks (a .b .now) (a .p)) _ (passes (k .before .before))))
 
 pub find-spec : {M : Type 1} → statement M
@@ -53,9 +50,9 @@ find-spec =
     tie.close
     (tie.spec
     (λ c κs. search needs) (λ c κs. search needs) (λ c κs. search needs) returns
-    (λ c κs. book c .long)
-    (λ c κs. (omega arith, c .held .ensures, book (c .before) .long))
-    (λ c κs. (omega (arith, slot c, below (c .before .before)), book (c .before .before) .long))
+    (λ c κs. known c .0 .long)
+    (λ c κs. (omega arith, c .held .ensures, known (c .before) .0 .long))
+    (λ c κs. (omega (arith, slot c, known (c .before .before) .1), known (c .before .before) .0 .long))
     (λ c. omega (arith, c .total-of .ensures .1))
-    (λ c κs. (omega (arith, slot (c .before), below (c .before .before .before), entries-few (c .before .before .before .before .before .before .before .args .b .now)), book (c .before .before .before) .long))
+    (λ c κs. (omega (arith, slot (c .before), known (c .before .before .before) .1, entries-few (c .before .before .before .before .before .before .before .args .b .now)), known (c .before .before .before) .0 .long))
     (λ c κs. search needs) returns-2)

@@ -6,11 +6,8 @@ use Rattle.book.proofs.calls.lay_fresh.Tie as tie
 
 returns : tie.Need-returns
 returns c =
-    let first = c .before .before .before .before .before .before .before .before .before .before .write-u32 in
-    let second = c .before .before .before .before .before .before .clear in
-    let third = c .before .before .write-u322 in
     let st = c .before .before .before .before .before .before .before .before .before .before .before .before .before in
-    fresh-is (st .args .b .now) (first .last .0) (second .last .0) (third .last .0) (st .pre) (first .ensures) (second .ensures) (third .ensures)
+    fresh-is (st .args .b .now) (st .pre) (c .before .before .before .before .before .before .before .before .before .before .write-u32 .ensures) (c .before .before .before .before .before .before .clear .ensures) (c .before .before .write-u322 .ensures)
 
 pub lay-fresh-spec : {M : Type 1} → statement M
 lay-fresh-spec = tie.close (tie.spec (λ c. search needs) (λ c κs. search needs) (λ c κs. search needs) (λ c κs. search needs) (λ c. search needs) returns)

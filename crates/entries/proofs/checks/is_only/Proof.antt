@@ -35,7 +35,7 @@ returns-2 c =
     let b = a .b .now in
     let e : a .i + 1 ≡ suc (a .i) = omega arith in
     let point = ap (λ (h : Head). h .point) (c .before .entry .ensures .0) in
-    let slot = c .slot-of .ensures ∙ ap (λ (p : ℕ). a .i + 1 + slotOf p (drop (a .i + 1) (entriesIn b))) point ∙ ap (λ (j : ℕ). j + slotOf (pointBy (entryAt b (a .i))) (drop j (entriesIn b))) e in
+    let slot = rw (point, e) at (c .slot-of .ensures) in
     yes _ (sym (c .before .before .before .is-head .ensures) ∙ not-false _ (c .before .before .if1 .left))
     (none-held (pointBy (entryAt b (a .i))) (suc (a .i)) (a .h) (c .slot-of .result) (entriesIn b) (st .pre .1) (omega (arith, st .pre .0)) slot)
 

@@ -4,7 +4,7 @@ use mathlib.Core.Path.{_≡_, refl, _∙_}
 use native.Mathlib.Omega.{arith}
 use Rattle.samples.proofs.Fronts.{front-none, front-more, front-at}
 use Rattle.pieces.specs.Steps.{nextDetail}
-use Rattle.pieces.proofs.Turns.{before-is, next-detail, next-approx}
+use Rattle.pieces.proofs.NextWords.{before-is, next-detail, next-approx}
 use Rattle.pieces.proofs.borders.first.Statement.{statement}
 use Rattle.pieces.proofs.borders.first.Tie as tie
 

@@ -6,7 +6,7 @@ use Rattle.samples.proofs.LeLaws.{top-pos}
 use Rattle.pieces.specs.States.{waiting}
 use Rattle.pieces.specs.Steps.{nextWord}
 use Rattle.pieces.proofs.Kept.{kept-small}
-use Rattle.pieces.proofs.Turns.{next-even, next-odd, next-piece, next-none}
+use Rattle.pieces.proofs.NextWords.{next-even, next-odd, next-piece, next-none}
 use Rattle.pieces.proofs.borders.word_of.Statement.{statement}
 use Rattle.pieces.proofs.borders.word_of.Tie as tie
 

@@ -13,7 +13,7 @@ use Rattle.pieces.specs.declared.recorder.Recorder.{Recorder}
 use Rattle.pieces.specs.States.{fixed, waiting, standIn, fixedBy}
 use Rattle.pieces.specs.Steps.{nextDetail, nextApprox, newly, Taking}
 use Rattle.pieces.proofs.Tables.{some-words, between-low, between-high}
-use Rattle.pieces.proofs.Turns.{count}
+use Rattle.pieces.proofs.NextWords.{count}
 use Rattle.stream.specs.Loops.{Others}
 use Rattle.stream.proofs.Rears.{rearOf, rear-is}
 use Rattle.stream.proofs.Others.{holds-z, details-all, approxs-all}
@@ -24,10 +24,10 @@ use Rattle.stream.proofs.bands.fix.Tie as tie
 enough : (c v n : ℕ) → 0 < c → 2 * c < v + n → v ≤ 2 → 2 * (c - 1) < n - (2 - v)
 enough c v n some h two = omega arith
 
--- where a coefficient is new, the piece reaches the even sample from which the others are read
+-- where a coefficient is new, the even sample from which the others are read is within the piece
 module _ {k : ℕ} {s : Recorder} {y : List ℕ} (g : Taking k s y) (some : 0 < newly k s y) {v : ℕ} (e : v ≡ waiting (s .total)) where
-  reach : k * (2 - v) ≤ length y
-  reach = rw (e, g .piece .size) (mul-le-mul-left k (omega arith))
+  rear-within : k * (2 - v) ≤ length y
+  rear-within = rw (e, g .piece .size) (mul-le-mul-left k (omega arith))
 
   rear : rearOf (k * (2 - v)) y ≡ drop (k * (2 - waiting (s .total))) y
   rear = rear-is (k * (2 - v)) y ∙ ap (λ (u : ℕ). drop (k * (2 - u)) y) e
@@ -49,7 +49,7 @@ start : (c : tie.After-waiting)
     → let a = c .before .before .before .before .before .before .before .before .before .before .before .before .before .args in a .k * (2 - c .waiting .result) ≤ length (a .y .now)
 start c =
     let st = c .before .before .before .before .before .before .before .before .before .before .before .before .before in
-    reach (st .pre .0) (some-words (st .pre .1 .1) (c .before .before .before .before .before .before .before .before .before .if1 .left)) (c .waiting .ensures)
+    rear-within (st .pre .0) (some-words (st .pre .1 .1) (c .before .before .before .before .before .before .before .before .before .if1 .left)) (c .waiting .ensures)
 
 others-requires : tie.Need-others-requires
 others-requires c κs =

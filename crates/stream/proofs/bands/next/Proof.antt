@@ -20,7 +20,7 @@ use Rattle.pieces.specs.States.{fixed, stateOf, standIn, fixedBy}
 use Rattle.pieces.specs.Steps.{nextWord, nextDetail, newly, Taking}
 use Rattle.pieces.proofs.Kept.{word-none, kept-or}
 use Rattle.pieces.proofs.Tables.{between-high}
-use Rattle.pieces.proofs.Turns.{count, detail-before}
+use Rattle.pieces.proofs.NextWords.{count, detail-before}
 use Rattle.stream.proofs.bands.next.Statement.{statement}
 use Rattle.stream.proofs.bands.next.Tie as tie
 
