@@ -12,7 +12,7 @@ use Rattle.samples.proofs.LeLaws.{length-leBytes, stored-is}
 use Rattle.entries.specs.Books.{most, entrySize, entryStart, totalAt, dataAt, sizeBy, joined, bookOf, entryAt, entriesIn, totalIn, dataIn, slotOf, placeAt, sizeAt}
 use Rattle.entries.specs.Checks.{Book}
 use Rattle.entries.proofs.Entries.{entries-few, entry-is, place-next, place-most, total-is}
-use Rattle.entries.proofs.Laid.{AllSized, entries-sized, joined-length, data-length, unused, split, directory-length, book-length, checked, book-is}
+use Rattle.entries.proofs.Laid.{AllSized, entries-sized, joined-length, data-length, unused, split, directoryOf, in-parts, directory-length, book-length, checked, book-is}
 use Rattle.book.specs.Calls.{holding, freshIn, addedIn, without, filePut, withdrawnIn, fileOut, entryOut}
 
 -- ---- lists of entries
@@ -93,20 +93,12 @@ dropped-is b {b₁} i less long e₁ e₂ =
 
 -- ---- a book: its directory, the data's count, the data
 
--- the first count and the entries
-abbrev directoryOf : List (List ℕ) → List ℕ
-directoryOf es = leBytes 4 most ++ (joined es ++ unused (length es))
-
-in-parts : (es : List (List ℕ)) (d t : List ℕ) → bookOf es d ++ t ≡ directoryOf es ++ (leBytes 4 (length d) ++ (d ++ t))
-unfolding bookOf
-in-parts es d t = simp append-assoc
-
 -- what stands behind the directory, in the area b
-abbrev restOf : List ℕ → List ℕ → List ℕ
-restOf b d = leBytes 4 (length d) ++ (d ++ drop (dataAt + length d) b)
+abbrev behindDirectory : List ℕ → List ℕ → List ℕ
+behindDirectory b d = leBytes 4 (length d) ++ (d ++ drop (dataAt + length d) b)
 
-laid-out : (b : List ℕ) (es : List (List ℕ)) (d : List ℕ) → AllSized es → length es ≤ most → holding b es d ≡ directoryOf es ++ restOf b d
-laid-out b es d sized few = in-parts es d (drop (length (bookOf es d)) b) ∙ ap (λ (n : ℕ). directoryOf es ++ (leBytes 4 (length d) ++ (d ++ drop n b))) (book-length es d sized few)
+holding-parts : (b : List ℕ) (es : List (List ℕ)) (d : List ℕ) → AllSized es → length es ≤ most → holding b es d ≡ directoryOf es ++ behindDirectory b d
+holding-parts b es d sized few = in-parts es d (drop (length (bookOf es d)) b) ∙ ap (λ (n : ℕ). directoryOf es ++ (leBytes 4 (length d) ++ (d ++ drop n b))) (book-length es d sized few)
 
 -- ---- a fresh book
 
@@ -124,7 +116,7 @@ fresh-is b {b₁} {b₂} {b₃} long e₁ e₂ e₃ =
     ∙ laid-at start old zeros (count ++ rest) 4 (totalAt - 4) (length-leBytes 4 most) (length-take-le (totalAt - 4) (drop 4 b) (omega (arith, length-drop 4 b))) in
     e₃ ∙ ap (λ (l : List ℕ). stored 4 l totalAt 0) (second ∙ sym (append-assoc start zeros (count ++ rest)))
     ∙ stored-at (start ++ zeros) count rest totalAt 0 (length-append start zeros ∙ omega (arith, length-leBytes 4 most, length-replicate {A = ℕ} (totalAt - 4) 0)) (length-take-le 4 (drop totalAt b) (omega (arith, length-drop totalAt b)))
-    ∙ sym (laid-out b [] [] tt (omega arith))
+    ∙ sym (holding-parts b [] [] tt (omega arith))
 
 -- ---- an entry that is taken out
 
@@ -198,7 +190,7 @@ module _ (b : List ℕ) (bytes : Bytes b) (book : Book b) where
   -- other data in their place, and their count
   data-counted : (d′ : List ℕ) → stored 4 (directoryOf es ++ (leBytes 4 (length d) ++ (d′ ++ drop (dataAt + length d′) b))) totalAt (length d′) ≡ holding b es d′
   data-counted d′ =
-      stored-at (directoryOf es) (leBytes 4 (length d)) (d′ ++ drop (dataAt + length d′) b) totalAt (length d′) long-directory (length-leBytes 4 (length d)) ∙ sym (laid-out b es d′ sized (entries-few b))
+      stored-at (directoryOf es) (leBytes 4 (length d)) (d′ ++ drop (dataAt + length d′) b) totalAt (length d′) long-directory (length-leBytes 4 (length d)) ∙ sym (holding-parts b es d′ sized (entries-few b))
 
   -- the file s behind the data
   file-put : (s : List ℕ) {b₁ : List ℕ} (t : ℕ) → t ≡ totalIn b → b₁ ≡ filePut b t s → b₁ ≡ holding b es (d ++ s)
@@ -218,17 +210,17 @@ module _ (b : List ℕ) (bytes : Bytes b) (book : Book b) where
       let e = take entrySize s in
       let es′ = es ++ (e ∷ []) in
       let first = leBytes 4 most ++ joined es in
-      let rest = unused (suc h) ++ restOf b (d ++ s) in
+      let rest = unused (suc h) ++ behindDirectory b (d ++ s) in
       let entry : length e ≡ entrySize = length-take-le entrySize s head in
       let more : length es′ ≡ suc h = length-append es (e ∷ []) ∙ omega (arith, eh) in
       let all : joined es′ ≡ joined es ++ e = joined-append es (e ∷ []) ∙ ap (λ (l : List ℕ). joined es ++ l) (append-nil e) in
       let at : length first ≡ entryStart h = length-append (leBytes 4 most) (joined es) ∙ omega (arith, length-leBytes 4 most, joined-length es sized, ap (λ (n : ℕ). entrySize * n) eh) in
       let opened : b₁ ≡ first ++ (replicate entrySize 0 ++ rest) =
-      file-put s t et e₁ ∙ laid-out b es (d ++ s) sized (entries-few b)
-      ∙ ap (λ (l : List ℕ). (leBytes 4 most ++ (joined es ++ l)) ++ restOf b (d ++ s)) (ap unused (sym eh) ∙ unused-next h few .0) ∙ simp append-assoc in
+      file-put s t et e₁ ∙ holding-parts b es (d ++ s) sized (entries-few b)
+      ∙ ap (λ (l : List ℕ). (leBytes 4 most ++ (joined es ++ l)) ++ behindDirectory b (d ++ s)) (ap unused (sym eh) ∙ unused-next h few .0) ∙ simp append-assoc in
       e₂ ∙ ap (λ (l : List ℕ). take (entryStart h) l ++ (e ++ drop (entryStart h + length e) l)) opened
       ∙ laid-at first (replicate entrySize 0) e rest (entryStart h) (length e) at (length-replicate {A = ℕ} entrySize 0 ∙ sym entry)
-      ∙ sym (laid-out b es′ (d ++ s) (sized-append es (e ∷ []) sized (entry, tt)) (omega (arith, more, few)) ∙ rw (all, more) (simp append-assoc))
+      ∙ sym (holding-parts b es′ (d ++ s) (sized-append es (e ∷ []) sized (entry, tt)) (omega (arith, more, few)) ∙ rw (all, more) (simp append-assoc))
 
   -- the data behind the file of entry i moved down, and the new count
   pub file-out : {b₁ b₂ : List ℕ} {i place size t : ℕ} → FileAt b i place size t → b₁ ≡ paste b (dataAt + place) (drop (dataAt + place + size) b) (t - place - size) → b₂ ≡ stored 4 b₁ totalAt (t - size) → b₂ ≡ fileOut b i
@@ -248,9 +240,9 @@ module _ (b : List ℕ) (bytes : Bytes b) (book : Book b) where
   unfolding withdrawnIn
   withdrawn-is p {b₁} {b₂} {i} ei less e₁ e₂ =
       let d′ = without (placeAt i es) (sizeAt i es) d in
-      let laid : b₁ ≡ directoryOf es ++ restOf b d′ = e₁ ∙ laid-out b es d′ sized (entries-few b) in
+      let laid : b₁ ≡ directoryOf es ++ behindDirectory b d′ = e₁ ∙ holding-parts b es d′ sized (entries-few b) in
       e₂
-      ∙ ap₂ (λ (u v : List ℕ). without (entryStart i) entrySize u ++ (replicate entrySize 0 ++ v)) (ap (take totalAt) laid ∙ take-at (directoryOf es) (restOf b d′) totalAt long-directory) (ap (drop totalAt) laid ∙ drop-at (directoryOf es) (restOf b d′) totalAt long-directory)
-      ∙ sym (append-assoc (without (entryStart i) entrySize (directoryOf es)) (replicate entrySize 0) (restOf b d′)) ∙ ap (λ (l : List ℕ). l ++ restOf b d′) (directory-without es i sized (entries-few b) less)
-      ∙ sym (laid-out b (without i 1 es) d′ (sized-less i 1 es sized) (omega (arith, length-without i 1 es (omega arith), entries-few b)))
+      ∙ ap₂ (λ (u v : List ℕ). without (entryStart i) entrySize u ++ (replicate entrySize 0 ++ v)) (ap (take totalAt) laid ∙ take-at (directoryOf es) (behindDirectory b d′) totalAt long-directory) (ap (drop totalAt) laid ∙ drop-at (directoryOf es) (behindDirectory b d′) totalAt long-directory)
+      ∙ sym (append-assoc (without (entryStart i) entrySize (directoryOf es)) (replicate entrySize 0) (behindDirectory b d′)) ∙ ap (λ (l : List ℕ). l ++ behindDirectory b d′) (directory-without es i sized (entries-few b) less)
+      ∙ sym (holding-parts b (without i 1 es) d′ (sized-less i 1 es sized) (omega (arith, length-without i 1 es (omega arith), entries-few b)))
       ∙ ap (λ (j : ℕ). holding b (without j 1 es) (without (placeAt j es) (sizeAt j es) d)) ei

@@ -47,16 +47,20 @@ Add b p s = Leaves (sayAdd b p s) (addedIn b s) b
 abbrev pub without : {A : Type 0} → ℕ → ℕ → List A → List A
 without i n l = take i l ++ drop (i + n) l
 
+-- the data without the file of entry i
+abbrev pub dataWithout : List ℕ → ℕ → List ℕ
+dataWithout b i = let es = entriesIn b in without (placeAt i es) (sizeAt i es) (dataIn b)
+
 -- "withdrawing packs the rest together": the entry is taken out of the directory, and the file out of the data
 unfoldable pub withdrawnIn : List ℕ → ℕ → List ℕ
 withdrawnIn b p =
     let es = entriesIn b in
     let i = slotOf p es in
-    holding b (without i 1 es) (without (placeAt i es) (sizeAt i es) (dataIn b))
+    holding b (without i 1 es) (dataWithout b i)
 
 -- on the way: the file of entry i taken out of the data, its entry still there
 abbrev pub fileOut : List ℕ → ℕ → List ℕ
-fileOut b i = let es = entriesIn b in holding b es (without (placeAt i es) (sizeAt i es) (dataIn b))
+fileOut b i = holding b (entriesIn b) (dataWithout b i)
 
 -- entry i taken out of the directory, and the last one cleared
 abbrev pub entryOut : List ℕ → ℕ → List ℕ

@@ -35,7 +35,7 @@ firstWhole k (c ∷ cs) b = cond (leb (4 + k * c) b) (suc (firstWhole k cs (b - 
 abbrev pub needed : ℕ → ℕ → ℕ → ℕ → ℕ
 needed z k l n = z + bodySize k 0 (countAt l n)
 
--- and of sections 0 to q
+-- and of sections 0 to q, q from 1 on: those above are the case of 1
 abbrev pub sizeThrough : ℕ → ℕ → ℕ → ℕ → ℕ → ℕ
 sizeThrough z k l n q = z + bodySize k (q - 1) (countAt (l + 1 - q) n)
 

@@ -1,4 +1,4 @@
--- Bytes of the two bands of n samples.
+-- Bytes of n samples and of their two bands, and that levels and bytes are few.
 use mathlib.Core.Path.{_≡_, ap, _∙_}
 use Prim.Native.Nat.{ℕ, _+_, _*_, _^_, _≤_, _<_}
 use native.Mathlib.Nat.{mul-add}

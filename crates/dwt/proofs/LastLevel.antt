@@ -14,7 +14,7 @@ use Rattle.answers.specs.Checks.{ragged, Spared}
 use Rattle.answers.proofs.Passed.{passing, whole, roomy, right}
 use Rattle.answers.proofs.Endings.{left-done, left-refused, spared, untouched}
 use Rattle.sizes.specs.Lengths.{mostSamples, approxLength, detailsLength}
-use Rattle.sizes.specs.Levels.{countAt, depthOf, levelsOf}
+use Rattle.sizes.specs.Levels.{afterLevels, countAt, depthOf, levelsOf}
 use Rattle.dwt.specs.declared.filter.Filter.{Filter}
 use Rattle.dwt.specs.Filters.{widthOf, waveletOf, lowOf, highOf}
 use Rattle.dwt.specs.Pyramids.{approxAt}
@@ -94,3 +94,12 @@ module _ (f : Filter) (l : ℕ) (x a d u v : List ℕ) where
         m .approx ∙ left-done said (lowOf f input) a z ∙ sym (after-last (lowOf f) (levelsOf l - 1) x) ∙ ap (λ (i : ℕ). approxAt f i x) e,
         m .details ∙ left-done said (highOf f input) d z,
       )
+
+-- the bands of what no level leaves, and of what the levels below one leave
+pub parted-none : (f : Filter) {l : ℕ} (x : List ℕ) {a d : List ℕ} → l ≡ 0 → Parted f x a d → Parted f (approxAt f l x) a d
+unfolding afterLevels
+parted-none f x e p = rw e p
+
+pub parted-more : (f : Filter) {l m : ℕ} (x : List ℕ) {y a d : List ℕ} → l ≡ suc m → y ≡ lowOf f x → Parted f (approxAt f m y) a d → Parted f (approxAt f l x) a d
+unfolding afterLevels
+parted-more f x e h p = rw e (rw h at p)

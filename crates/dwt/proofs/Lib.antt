@@ -2,7 +2,6 @@ pub mod Filters
 pub mod Lists
 pub mod Cuts
 pub mod Rooms
-pub mod PyramidLaws
 pub mod Multi
 pub mod LevelsBack
 pub mod Backs

@@ -26,7 +26,7 @@ pub fn cut_of(f: Filter, n: usize) -> usize
 }
 
 // The bytes of a count, where bands stand after their counts.
-pub fn count_size(counted: bool) -> usize
+fn count_size(counted: bool) -> usize
     ensures { λ r. ⌜ r ≡ countSize counted ⌝ }
 {
     if counted {

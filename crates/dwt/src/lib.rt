@@ -1,3 +1,3 @@
-// The filters as one, and the levels down, written once over the filter. Ported from the macros of osclet's src/cdf53i.rs and src/cdf53f.rs.
+// The filters as one, and what the drivers of many levels share. Ported from the macros of osclet's src/cdf53i.rs and src/cdf53f.rs.
 pub mod filter;
 pub mod levels;

@@ -48,12 +48,16 @@ data-length b h = length-take-le (totalIn b) (drop dataAt b) (omega (arith, leng
 abbrev pub unused : ℕ → List ℕ
 unused n = replicate (entrySize * (most - n)) 0
 
--- a book and what stands behind it, part by part
-pub flat : (es : List (List ℕ)) (d t : List ℕ) → bookOf es d ++ t ≡ leBytes 4 most ++ (joined es ++ (unused (length es) ++ (leBytes 4 (length d) ++ (d ++ t))))
-unfolding bookOf
-flat es d t = simp append-assoc
+-- the first count and the entries
+abbrev pub directoryOf : List (List ℕ) → List ℕ
+directoryOf es = leBytes 4 most ++ (joined es ++ unused (length es))
 
-pub directory-length : (es : List (List ℕ)) → AllSized es → length es ≤ most → length (leBytes 4 most ++ (joined es ++ unused (length es))) ≡ totalAt
+-- a book and what stands behind it: its directory, the data's count, the data
+pub in-parts : (es : List (List ℕ)) (d t : List ℕ) → bookOf es d ++ t ≡ directoryOf es ++ (leBytes 4 (length d) ++ (d ++ t))
+unfolding bookOf
+in-parts es d t = simp append-assoc
+
+pub directory-length : (es : List (List ℕ)) → AllSized es → length es ≤ most → length (directoryOf es) ≡ totalAt
 directory-length es g h =
     length-append (leBytes 4 most) (joined es ++ unused (length es))
     ∙ omega (arith, length-leBytes 4 most, length-append (joined es) (unused (length es)), joined-length es g, length-replicate {A = ℕ} (entrySize * (most - length es)) 0)
@@ -136,4 +140,4 @@ book-is b bytes long could =
     ∙ ap₂ _++_ (sym (entries-joined b))
     (slice-split (entryStart h) totalAt b (omega (arith, few)) (omega arith)
     ∙ ap₂ _++_ rest (split totalAt 4 b ∙ ap₂ _++_ total (split dataAt t b))))
-    ∙ sym (flat es (dataIn b) tail)
+    ∙ sym (in-parts es (dataIn b) tail ∙ simp append-assoc)

@@ -20,7 +20,7 @@ use Rattle.dwt.specs.declared.filter.Filter.{Filter}
 use Rattle.dwt.specs.Filters.{widthOf, waveletOf}
 use Rattle.dwt.specs.Calls.{sayDwt, Dwt}
 use Rattle.wrong_band.specs.WrongBand.{ForwardBefore, DwtBefore, InverseBefore, Names}
-use Rattle.wrong_band.proofs.BandChecks.{names}
+use Rattle.wrong_band.proofs.TwoBands.{names}
 
 -- a whole byte length passes
 pub is-whole : (k b : ℕ) → b ≡ k * (b / k) → not (eqb (b % k) 0) ≡ false

@@ -27,7 +27,7 @@ use Rattle.dwt.specs.Calls.{roomChecks}
 use Rattle.dwt.specs.Backward.{mostLevels, total, sizeChecks, bandChecks, wholeChecks, sayBack, MultiBack, Fits}
 use Rattle.trips.proofs.Fitting.{bands-pass}
 use Rattle.wrong_band.specs.WrongBand.{BackBefore, LevelAt, WrongApprox, WrongDetails, WrongAt, NamesLevel}
-use Rattle.wrong_band.proofs.BandChecks.{either, differs, quiet, named}
+use Rattle.wrong_band.proofs.TwoBands.{either, differs, quiet, named}
 use Rattle.wrong_band.proofs.Calls.{is-whole}
 
 -- ---- the checks of the bands, level by level

@@ -1,4 +1,4 @@
-pub mod BandChecks
+pub mod TwoBands
 pub mod Calls
 pub mod Levels
 pub mod Few

@@ -1,5 +1,5 @@
 -- "Every driver passes it on unchanged", both ways: a 17 of `dwt` and of `multi_idwt` is the answer that the call of one level gives on that level's bands, and where
--- that call says 17 the driver says it; and `multi_dwt`, which is lent no band, says neither 2 nor 17. Looks into no filter.
+-- that call says 17, and nothing before the driver's bands is wrong, the driver says it; and `multi_dwt`, which is lent no band, says neither 2 nor 17. Looks into no filter.
 use mathlib.Core.List.{List, _∷_}
 use mathlib.Core.Path.{_≡_, refl, sym, ap, _∙_}
 use Prim.Native.Nat.{ℕ, _+_, _-_, _*_, _/_, _≤_, _<_}
@@ -27,7 +27,7 @@ use Rattle.dwt.specs.Backward.{MultiBack}
 use Rattle.dwt.proofs.Cuts.{width-pos}
 use Rattle.dwt.proofs.Multi.{levels-pos, shallow-says}
 use Rattle.wrong_band.specs.WrongBand.{ForwardBefore, DwtBefore, InverseBefore, BackBefore}
-use Rattle.wrong_band.proofs.BandChecks.{quiet}
+use Rattle.wrong_band.proofs.TwoBands.{quiet}
 use Rattle.wrong_band.proofs.Calls.{forward-names, dwt-names}
 use Rattle.wrong_band.proofs.Levels.{back-names}
 use Rattle.wrong_band.proofs.Few.{inverse-few, few-inverse, back-few, few-back}

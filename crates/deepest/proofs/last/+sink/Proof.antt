@@ -10,7 +10,7 @@ use lib.Seq.{length-take-le}
 use Rattle.dwt.specs.Filters.{widthOf}
 use Rattle.dwt.proofs.Cuts.{half-within}
 use Rattle.dwt.proofs.Lists.{later}
-use Rattle.dwt.proofs.PyramidLaws.{parted-none, parted-more}
+use Rattle.dwt.proofs.LastLevel.{parted-none, parted-more}
 use Rattle.dwt.proofs.Rooms.{room-below, level-at, bands-none, bands-more}
 use Rattle.deepest.proofs.last.sink.Reads as sink
 use Rattle.deepest.proofs.last.sink.Kinds as sink-kinds

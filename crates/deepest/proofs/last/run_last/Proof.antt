@@ -7,7 +7,7 @@ use lib.Seq.{take-all}
 use Rattle.dwt.specs.Filters.{widthOf, lowOf}
 use Rattle.dwt.proofs.Cuts.{half-within}
 use Rattle.dwt.proofs.Lists.{later}
-use Rattle.dwt.proofs.PyramidLaws.{parted-none, parted-more}
+use Rattle.dwt.proofs.LastLevel.{parted-none, parted-more}
 use Rattle.dwt.proofs.Rooms.{ready-room, room-below, level-at, bands-none, bands-more}
 use Rattle.deepest.proofs.last.run_last.Statement.{statement}
 use Rattle.deepest.proofs.last.run_last.Tie as tie
