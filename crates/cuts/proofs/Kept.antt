@@ -10,7 +10,6 @@ use lib.Seq.{take-at, take-take}
 use Rattle.answers.specs.declared.err.Answer.{Answer}
 use Rattle.answers.specs.Answers.{done}
 use Rattle.answers.proofs.Endings.{is-done, left-done}
-use Rattle.answers.proofs.Passed.{whole}
 use Rattle.sizes.specs.declared.Wavelet.{Wavelet}
 use Rattle.sizes.specs.declared.Wavelet.the-variants.{Cdf53}
 use Rattle.sizes.specs.Levels.{depthOf, levelsOf}

@@ -54,8 +54,9 @@ laid-none f c l n x e = ap (λ (i : ℕ). laidOut f c i n x) e
 -- of a level that leaves t′ and o′: what the levels below it are lent, and what is there when they have put y over the front of o′
 module _ (b : Bool) {f : Filter} {l n : ℕ} {x t o : List ℕ} {r : ℕ} {t′ o′ : List ℕ} (h : LevelLaid f (countSize b) l n x t o r t′ o′) (p : 0 < l)
     (s : length o ≡ laidSize (countSize b) (widthOf f) l n) where
-  abbrev half : ℕ
-  half = widthOf f * approxLength n
+  -- the bytes of its approximations
+  abbrev lowBytes : ℕ
+  lowBytes = widthOf f * approxLength n
 
   inside : r ≤ length o
   inside = omega (arith, h .place, s, size-more b (widthOf f) l n p)
@@ -66,16 +67,16 @@ module _ (b : Bool) {f : Filter} {l n : ℕ} {x t o : List ℕ} {r : ℕ} {t′ 
   pub size-below : length o′ ≡ length o → length (take r o′) ≡ laidSize (countSize b) (widthOf f) (l - 1) (approxLength n)
   size-below e = length-take-le r o′ (fits-below e) ∙ h .place
 
-  pub laid-more : (y : List ℕ) → y ≡ laidOut f (countSize b) (l - 1) (approxLength n) (take half t′) → y ++ drop r o′ ≡ laidOut f (countSize b) l n x
+  pub laid-more : (y : List ℕ) → y ≡ laidOut f (countSize b) (l - 1) (approxLength n) (take lowBytes t′) → y ++ drop r o′ ≡ laidOut f (countSize b) l n x
   unfolding laidOut
   laid-more y q =
       let below = laidOut f (countSize b) (l - 1) (approxLength n) in
       let own = leBytes (countSize b) (detailsLength n) ++ highOf f x in
       let m : suc (l - 1) ≡ l = omega arith in
       ap (λ (j : List ℕ). y ++ j) (ap (drop r) (h .details) ∙ drop-at (take r o) own r (length-take-le r o inside))
-      ∙ ap (λ (j : List ℕ). j ++ own) (q ∙ ap below (ap (take half) (h .approx) ∙ take-at (lowOf f x) (drop half t) half (h .long)))
+      ∙ ap (λ (j : List ℕ). j ++ own) (q ∙ ap below (ap (take lowBytes) (h .approx) ∙ take-at (lowOf f x) (drop lowBytes t) lowBytes (h .long)))
       ∙ ap (λ (j : ℕ). laidOut f (countSize b) j n x) m
 
   -- behind the n samples the area that it wrote to is as it was
-  pub area-kept : (a : List ℕ) → drop half a ≡ drop half t′ → drop (widthOf f * n) a ≡ drop (widthOf f * n) t
-  area-kept a e = later half (widthOf f * n) a t (half-within (widthOf f) n) (e ∙ ap (drop half) (h .approx) ∙ drop-at (lowOf f x) (drop half t) half (h .long))
+  pub area-kept : (a : List ℕ) → drop lowBytes a ≡ drop lowBytes t′ → drop (widthOf f * n) a ≡ drop (widthOf f * n) t
+  area-kept a e = later lowBytes (widthOf f * n) a t (half-within (widthOf f) n) (e ∙ ap (drop lowBytes) (h .approx) ∙ drop-at (lowOf f x) (drop lowBytes t) lowBytes (h .long))

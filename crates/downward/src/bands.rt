@@ -39,7 +39,7 @@ fn lay_deepest(counted: bool, n: usize, x: &[u8], out: &mut [u8])
     bytes::copy(x, &mut out[start..]);
 }
 
-// One level: the approximations to the front of `to`, the details after their count to the end of `out`; where that count stands is the result. The count first: one part of a slice is lent at a time.
+// One level: the approximations to the front of `to`, the details after their count to the end of `out`; where that count stands is the result. Of the two areas that `Ready` asks for it takes one. The count first: one part of a slice is lent at a time.
 fn lay_level(
     f: Filter,
     counted: bool,

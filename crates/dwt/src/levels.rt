@@ -25,7 +25,7 @@ pub fn cut_of(f: Filter, n: usize) -> usize
     width(f) * approx_length(n)
 }
 
-// The bytes of a count, where bands stand after their counts.
+// The bytes of a count: four, or none where bands stand without counts.
 fn count_size(counted: bool) -> usize
     ensures { λ r. ⌜ r ≡ countSize counted ⌝ }
 {
