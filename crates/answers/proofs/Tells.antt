@@ -1,7 +1,7 @@
 -- The three numbers tell the refusal: which check it was, and the values that it carries.
 use mathlib.Core.Path.{_≡_, refl, sym, ap, _∙_}
 use Rattle.answers.specs.declared.err.Refusal.{Refusal}
-use Rattle.answers.specs.declared.err.Refusal.the-variants.{Done, MinFilterSize, ApproxSizeNotMatches, OutputSizeIsNotValid, BufferWasTooSmallForLevel, ZeroedBaseSize, TooLong, NoRoom, OtherWidth, BadCount, CutShort, OtherPoint, Trailing, NoSuchPlace, BookFull, AlreadyHeld, NotHeld, DetailsSizeNotMatches}
+use Rattle.answers.specs.declared.err.Refusal.the-variants.{Done, MinFilterSize, ApproxSizeNotMatches, OutputSizeIsNotValid, BufferWasTooSmallForLevel, ZeroedBaseSize, TooLong, NoRoom, OtherWidth, BadCount, CutShort, OtherPoint, Trailing, NoSuchPlace, BookFull, AlreadyHeld, NotHeld, DetailsSizeNotMatches, NoRate}
 use Rattle.answers.specs.Answers.{say, answerOf, refusalOf}
 
 -- the refusal is read back from its numbers
@@ -24,6 +24,7 @@ tells BookFull = refl
 tells AlreadyHeld = refl
 tells NotHeld = refl
 tells (DetailsSizeNotMatches a b) = refl
+tells NoRate = refl
 
 -- two refusals with the same numbers are the same
 pub injective : (r s : Refusal) → answerOf r ≡ answerOf s → r ≡ s

@@ -5,7 +5,7 @@ use Prim.Native.Nat.{ℕ}
 use lib.Dec.{eqb}
 use lib.ListN.{getD}
 use Rattle.answers.specs.declared.err.Refusal.{Refusal}
-use Rattle.answers.specs.declared.err.Refusal.the-variants.{Done, MinFilterSize, ApproxSizeNotMatches, OutputSizeIsNotValid, BufferWasTooSmallForLevel, ZeroedBaseSize, TooLong, NoRoom, OtherWidth, BadCount, CutShort, OtherPoint, Trailing, NoSuchPlace, BookFull, AlreadyHeld, NotHeld, DetailsSizeNotMatches}
+use Rattle.answers.specs.declared.err.Refusal.the-variants.{Done, MinFilterSize, ApproxSizeNotMatches, OutputSizeIsNotValid, BufferWasTooSmallForLevel, ZeroedBaseSize, TooLong, NoRoom, OtherWidth, BadCount, CutShort, OtherPoint, Trailing, NoSuchPlace, BookFull, AlreadyHeld, NotHeld, DetailsSizeNotMatches, NoRate}
 use Rattle.answers.specs.declared.err.Answer.{Answer}
 
 abbrev pub say : ℕ → ℕ → ℕ → Answer
@@ -31,13 +31,14 @@ answerOf BookFull = say 14 0 0
 answerOf AlreadyHeld = say 15 0 0
 answerOf NotHeld = say 16 0 0
 answerOf (DetailsSizeNotMatches a b) = say 17 a b
+answerOf NoRate = say 18 0 0
 
 -- the cases in the order of their numbers, with the values a and b where a case carries them
 abbrev pub cases : ℕ → ℕ → List Refusal
 cases a b =
     Done a b ∷ MinFilterSize a b ∷ ApproxSizeNotMatches a b ∷ OutputSizeIsNotValid a b ∷ BufferWasTooSmallForLevel ∷ ZeroedBaseSize ∷ TooLong
     ∷ NoRoom a b ∷ OtherWidth a b ∷ BadCount a b ∷ CutShort a ∷ OtherPoint a b ∷ Trailing a ∷ NoSuchPlace a b
-    ∷ BookFull ∷ AlreadyHeld ∷ NotHeld ∷ DetailsSizeNotMatches a b ∷ []
+    ∷ BookFull ∷ AlreadyHeld ∷ NotHeld ∷ DetailsSizeNotMatches a b ∷ NoRate ∷ []
 
 -- the case that three numbers tell
 abbrev pub refusalOf : Answer → Refusal

@@ -23,6 +23,7 @@ pub enum Refusal {
     AlreadyHeld,
     NotHeld,
     DetailsSizeNotMatches(usize, usize),
+    NoRate,
 }
 
 // The three numbers that the desk reads.
@@ -66,6 +67,7 @@ pub fn numbers(r: Refusal) -> Answer
         Refusal::AlreadyHeld => tell(15, 0, 0),
         Refusal::NotHeld => tell(16, 0, 0),
         Refusal::DetailsSizeNotMatches(a, b) => tell(17, a, b),
+        Refusal::NoRate => tell(18, 0, 0),
     }
 }
 
