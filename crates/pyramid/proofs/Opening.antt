@@ -1,34 +1,35 @@
 -- Opening: what each part of the checks leaves when it passes, and that the levels which a cut left can be restored.
 use Rattle.answers.specs.declared.err.Refusal.{Refusal}
-use mathlib.Core.Bool.{Bool, true, false, cond}
+use mathlib.Core.Bool.{Bool, true, false, cond, _||_}
 use mathlib.Core.List.{List, [], _∷_, _++_}
 use mathlib.Core.Logic.{_⊎_, inl, inr, ⊎-elim}
 use mathlib.Core.Path.{_≡_, refl, sym, ap}
 use Prim.Native.Nat.{ℕ, _+_, _-_, _*_, _/_, _%_, _≤_}
 use native.Mathlib.Nat.{mul-le-mul-left}
 use native.Mathlib.Omega.{arith}
-use borrow.Author.Tests.{eqb-false, not-false}
+use borrow.Author.Tests.{eqb-true, eqb-false, not-false}
 use lib.Dec.{ltb, eqb}
 use lib.ListN.{length}
 use Rattle.answers.specs.declared.err.Refusal.the-variants.{Done, NoRoom}
 use Rattle.answers.specs.Answers.{answerOf, done}
 use Rattle.answers.specs.Checks.{ragged, Check, firstOf}
 use Rattle.answers.proofs.Chain.{same}
-use Rattle.answers.proofs.Passed.{Refusing, Passing, passing, both-refuse, both-pass, whole, roomy, right, through, pass-on, stop-there}
+use Rattle.answers.proofs.Passed.{off, Refusing, Passing, passing, both-refuse, both-pass, whole, roomy, right, through, pass-on, stop-there}
 use Rattle.sizes.specs.declared.Wavelet.the-variants.{Cdf53}
 use Rattle.sizes.specs.Lengths.{mostSamples}
 use Rattle.sizes.specs.Levels.{afterLevels, countAt, depthOf}
 use Rattle.sizes.proofs.Counts.{count-at-le}
 use Rattle.sizes.proofs.Depths.{depth-rest}
+use Rattle.samples.specs.Le.{leAt}
 use Rattle.samples.specs.Integers.{isWidth}
 use Rattle.samples.proofs.IntegerLaws.{width-of}
 use Rattle.dwt.specs.declared.filter.Filter.the-variants.{Cdf53I8, Cdf53I16, Cdf53I32}
 use Rattle.dwt.specs.Filters.{widthOf, Integers}
 use Rattle.pyramid.specs.declared.walk.Way.{Way}
 use Rattle.pyramid.specs.declared.walk.Way.the-variants.{Went, Short, Wrong}
-use Rattle.pyramid.specs.Files.{headSize, bodySize}
+use Rattle.pyramid.specs.Files.{oldCount, newCount, isCount, commonSize, bodySize}
 use Rattle.pyramid.specs.Walks.{walkOf}
-use Rattle.pyramid.specs.Opens.{filterOf, headIn, startChecks, fieldChecks, headChecks, wayIn, wayChecks, wholeDetails, levelIn, countIn, areaChecks, roomsFor, sayOpen, fileChecks, sayFile}
+use Rattle.pyramid.specs.Opens.{filterOf, headIn, startChecks, fieldChecks, rateChecks, headChecks, wayIn, wayChecks, wholeDetails, levelIn, countIn, areaChecks, roomsFor, sayOpen, fileChecks, sayFile, rateIn, rateOpened}
 use Rattle.pyramid.proofs.Ways.{walk-size, walk-short}
 
 -- the integer filter of a width has that width
@@ -45,30 +46,58 @@ filter-integers w = pick (eqb w 1) (eqb w 2)
     pick false true = tt
     pick false false = tt
 
+-- the two counts of section 0
+pub which-count : (c : ℕ) → isCount c ≡ true → (c ≡ oldCount) ⊎ (c ≡ newCount)
+which-count c = pick (eqb c oldCount) (eqb c newCount) refl refl
+  where
+    pick : (a b : Bool) → eqb c oldCount ≡ a → eqb c newCount ≡ b → (a || b) ≡ true → (c ≡ oldCount) ⊎ (c ≡ newCount)
+    pick true b ea eb h = inl (eqb-true c oldCount ea)
+    pick false true ea eb h = inr (eqb-true c newCount eb)
+    pick false false ea eb h = off refl h
+
 -- what section 0 tells when its checks pass
 pub record Headed (s : List ℕ) (w : ℕ) : Type 0 where
+  pub common : commonSize ≤ length s
   pub there : headIn s .body ≤ length s
   pub width : headIn s .width ≡ w
   pub known : isWidth w ≡ true
   pub short : headIn s .samples ≤ mostSamples
   pub deep : headIn s .levels ≤ depthOf Cdf53 (headIn s .samples)
 
--- once the start has passed, section 0 is there
+-- once the start has passed, section 0 is there, of one of the two kinds
 pub start-refuses : (s : List ℕ) → Refusing (startChecks s)
-start-refuses s = (refl, (refl, (refl, tt)))
+start-refuses s = (refl, (refl, (refl, (refl, tt))))
 
-pub start-passes : (s : List ℕ) → Passing (startChecks s) → headIn s .body ≤ length s
-start-passes s q = roomy (length s) headSize (q .1 .0)
+pub start-count : (s : List ℕ) → Passing (startChecks s) → isCount (leAt 4 s 0) ≡ true
+start-count s q = not-false (isCount (leAt 4 s 0)) (q .1 .1 .0)
+
+pub start-passes : (s : List ℕ) → Passing (startChecks s) → (commonSize ≤ length s) × (headIn s .body ≤ length s)
+start-passes s q =
+    let there = roomy (length s) (headIn s .body) (q .1 .1 .1 .0) in
+    (⊎-elim (λ (e : leAt 4 s 0 ≡ oldCount). omega arith) (λ (e : leAt 4 s 0 ≡ newCount). omega arith) (which-count (leAt 4 s 0) (start-count s q)), there)
+
+pub fields-refuse : (s : List ℕ) (w p : ℕ) → Refusing (fieldChecks (headIn s) w p)
+fields-refuse s w p = (refl, (refl, (refl, (refl, (refl, (refl, (refl, tt)))))))
 
 pub head-refuses : (s : List ℕ) (w p : ℕ) → Refusing (headChecks s w p)
-head-refuses s w p = both-refuse (startChecks s) (fieldChecks (headIn s) w p) (start-refuses s) (refl, (refl, (refl, (refl, (refl, (refl, (refl, tt)))))))
+head-refuses s w p =
+    both-refuse (startChecks s) (fieldChecks (headIn s) w p ++ rateChecks s) (start-refuses s) (both-refuse (fieldChecks (headIn s) w p) (rateChecks s) (fields-refuse s w p) (refl, tt))
+
+-- what the three parts of the list have passed
+pub head-parts : (s : List ℕ) (w p : ℕ) → Passing (headChecks s w p) → Passing (startChecks s) × Passing (fieldChecks (headIn s) w p) × Passing (rateChecks s)
+head-parts s w p q =
+    let b = both-pass (startChecks s) (fieldChecks (headIn s) w p ++ rateChecks s) q in
+    let c = both-pass (fieldChecks (headIn s) w p) (rateChecks s) (b .1) in
+    (b .0, c .0, c .1)
 
 pub head-passes : (s : List ℕ) (w p : ℕ) → Passing (headChecks s w p) → Headed s w
 head-passes s w p q =
-    let b = both-pass (startChecks s) (fieldChecks (headIn s) w p) q in
+    let b = head-parts s w p q in
     let f = b .1 in
+    let there = start-passes s (b .0) in
     record {
-      there = start-passes s (b .0);
+      common = there .0;
+      there = there .1;
       width = right (headIn s .width) w (f .0);
       known = not-false (isWidth w) (f .1 .0);
       short = roomy mostSamples (headIn s .samples) (f .1 .1 .1 .0);
@@ -234,3 +263,13 @@ module _ (s : List ℕ) (w p o u v : ℕ) (h : done (sayOpen s w p o u v) ≡ tr
   open-says =
       let room = both-pass file rooms (both-pass areas (file ++ rooms) passed .1) .1 in
       (through (areas ++ (file ++ rooms)) (Done (levelIn s) (countIn s)) passed, roomy (o / w) (countIn s) (room .0))
+
+  -- and gives the file's rate
+  pub open-rate : rateOpened s w p o u v ≡ rateIn s
+  unfolding rateOpened
+  open-rate = rw h
+
+-- a call that is refused gives 0
+pub refused-rate : (s : List ℕ) (w p o u v : ℕ) → done (sayOpen s w p o u v) ≡ false → rateOpened s w p o u v ≡ 0
+unfolding rateOpened
+refused-rate s w p o u v h = rw h

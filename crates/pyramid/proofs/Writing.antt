@@ -1,16 +1,18 @@
--- Writing a file: numbers stored one after the other, section 0, the whole file, and what a done call has passed.
+-- Writing a file: numbers stored one after the other, section 0, the whole file, and what a done call has passed. Section 0 is laid in the new kind; how long it
+-- is, and what a file is made of, holds of both.
 -- Looks into no filter but for its width.
-use mathlib.Core.Bool.{true}
+use mathlib.Core.Bool.{Bool, true, false, cond}
 use mathlib.Core.Path.{_≡_, refl, sym, ap, _∙_}
 use mathlib.Core.List.{List, [], _∷_, _++_, append-assoc}
 use Prim.Native.Nat.{ℕ, _+_, _*_, _/_, _≤_, _<_}
 use native.Mathlib.Nat.{mod-eq-of-lt, mul-le-mul-right}
 use native.Mathlib.Omega.{arith}
-use lib.Dec.{leb}
+use borrow.Author.Tests.{ne-eqb, eqb-false}
+use lib.Dec.{leb, eqb}
 use lib.ListN.{length, take, drop, set, length-append, length-set}
 use lib.Seq.{take-at, drop-at, drop-drop}
 use Rattle.answers.specs.declared.err.Refusal.{Refusal}
-use Rattle.answers.specs.declared.err.Refusal.the-variants.{Done}
+use Rattle.answers.specs.declared.err.Refusal.the-variants.{Done, NoRate}
 use Rattle.answers.specs.Answers.{done}
 use Rattle.answers.specs.Checks.{firstOf, ragged}
 use Rattle.answers.proofs.Passed.{passing, roomy}
@@ -28,7 +30,7 @@ use Rattle.dwt.proofs.Cuts.{width-pos}
 use Rattle.dwt.proofs.Integers.{common}
 use Rattle.dwt.proofs.Multi.{shallow-refused, checked-ready}
 use Rattle.dwt.proofs.Lists.{later}
-use Rattle.pyramid.specs.Files.{mostBytes, headCount, headOf, headSize, bodyOf, bodySize, fileSize, fileOf}
+use Rattle.pyramid.specs.Files.{mostBytes, oldCount, newCount, countBy, sectionOf, rateOf, headOf, headSize, newSize, bodyOf, bodySize, fileSize, fileOf}
 use Rattle.pyramid.specs.Writes.{writeChecks, sayWrite}
 
 -- ---- numbers that fit
@@ -59,38 +61,72 @@ one-byte s p n b = rw (mod-eq-of-lt {n = n} {m = 256} b)
 lay-byte : (s s₀ a : List ℕ) (p n : ℕ) → n < 256 → length a ≡ p → p + 1 ≤ length s → s ≡ a ++ drop p s₀ → set s p n ≡ (a ++ leBytes 1 n) ++ drop (p + 1) s₀
 lay-byte s s₀ a p n b e h q = sym (one-byte s p n b) ∙ lay-next 1 s s₀ a p n e h q
 
--- the head
-pub head-laid : (s : List ℕ) (w l n p : ℕ) → w < 256 → l < 256 → headSize ≤ length s
-    → stored 4 (stored 4 (set (set (stored 4 s 0 headCount) 4 w) 5 l) 6 n) 10 p ≡ headOf w l n p ++ drop headSize s
-head-laid s w l n p hw hl h =
-    let s₁ = stored 4 s 0 headCount in
+-- ---- section 0
+
+-- a rate makes it the new kind
+pub new-count : (r : ℕ) → 0 < r → countBy r ≡ newCount
+new-count r h = rw (ne-eqb r 0 (λ z. omega arith))
+
+pub new-size : (r : ℕ) → 0 < r → headSize r ≡ newSize
+new-size r h = omega (arith, new-count r h)
+
+-- of either kind it is no longer than of the new one
+pub size-most : (r : ℕ) → headSize r ≤ newSize
+size-most r = pick (eqb r 0)
+  where
+    pick : (b : Bool) → 4 + cond b oldCount newCount ≤ newSize
+    pick true = omega arith
+    pick false = omega arith
+
+-- six numbers one after the other
+head-laid : (s : List ℕ) (w l n p r : ℕ) → w < 256 → l < 256 → newSize ≤ length s
+    → stored 4 (stored 4 (stored 4 (set (set (stored 4 s 0 newCount) 4 w) 5 l) 6 n) 10 p) 14 r ≡ sectionOf newCount (leBytes 1 w ++ (leBytes 1 l ++ (leBytes 4 n ++ (leBytes 4 p ++ leBytes 4 r)))) ++ drop newSize s
+head-laid s w l n p r hw hl h =
+    let s₁ = stored 4 s 0 newCount in
     let s₂ = set s₁ 4 w in
     let s₃ = set s₂ 5 l in
     let s₄ = stored 4 s₃ 6 n in
-    let a₁ = leBytes 4 headCount in
+    let s₅ = stored 4 s₄ 10 p in
+    let a₁ = leBytes 4 newCount in
     let a₂ = a₁ ++ leBytes 1 w in
     let a₃ = a₂ ++ leBytes 1 l in
     let a₄ = a₃ ++ leBytes 4 n in
-    let n₁ = length-stored 4 s 0 headCount in
+    let a₅ = a₄ ++ leBytes 4 p in
+    let n₁ = length-stored 4 s 0 newCount in
     let n₂ = length-set s₁ 4 w in
     let n₃ = length-set s₂ 5 l in
     let n₄ = length-stored 4 s₃ 6 n in
-    let m₁ = length-leBytes 4 headCount in
+    let n₅ = length-stored 4 s₄ 10 p in
+    let m₁ = length-leBytes 4 newCount in
     let m₂ = length-append a₁ (leBytes 1 w) in
     let m₃ = length-append a₂ (leBytes 1 l) in
     let m₄ = length-append a₃ (leBytes 4 n) in
+    let m₅ = length-append a₄ (leBytes 4 p) in
     let k₂ = length-leBytes 1 w in
     let k₃ = length-leBytes 1 l in
     let k₄ = length-leBytes 4 n in
-    let e₁ : s₁ ≡ a₁ ++ drop 4 s = lay-next 4 s s [] 0 headCount refl (omega arith) refl in
+    let k₅ = length-leBytes 4 p in
+    let e₁ : s₁ ≡ a₁ ++ drop 4 s = lay-next 4 s s [] 0 newCount refl (omega arith) refl in
     let e₂ : s₂ ≡ a₂ ++ drop 5 s = lay-byte s₁ s a₁ 4 w hw m₁ (omega arith) e₁ in
     let e₃ : s₃ ≡ a₃ ++ drop 6 s = lay-byte s₂ s a₂ 5 l hl (omega arith) (omega arith) e₂ in
     let e₄ : s₄ ≡ a₄ ++ drop 10 s = lay-next 4 s₃ s a₃ 6 n (omega arith) (omega arith) e₃ in
-    lay-next 4 s₄ s a₄ 10 p (omega arith) (omega arith) e₄ ∙ simp append-assoc
+    let e₅ : s₅ ≡ a₅ ++ drop 14 s = lay-next 4 s₄ s a₄ 10 p (omega arith) (omega arith) e₄ in
+    lay-next 4 s₅ s a₅ 14 r (omega arith) (omega arith) e₅ ∙ simp append-assoc
 
-pub head-length : (w l n p : ℕ) → length (headOf w l n p) ≡ headSize
+-- are section 0 of the new kind
+pub new-laid : (s : List ℕ) (w l n p r : ℕ) → w < 256 → l < 256 → 0 < r → newSize ≤ length s
+    → stored 4 (stored 4 (stored 4 (set (set (stored 4 s 0 newCount) 4 w) 5 l) 6 n) 10 p) 14 r ≡ headOf w l n p r ++ drop newSize s
+new-laid s w l n p r hw hl hr h =
+    head-laid s w l n p r hw hl h
+    ∙ ap (λ (b : Bool). sectionOf (cond b oldCount newCount) (leBytes 1 w ++ (leBytes 1 l ++ (leBytes 4 n ++ (leBytes 4 p ++ cond b [] (leBytes 4 r))))) ++ drop newSize s) (sym (ne-eqb r 0 (λ z. omega arith)))
+
+pub head-length : (w l n p r : ℕ) → length (headOf w l n p r) ≡ headSize r
 unfolding leBytes
-head-length w l n p = refl
+head-length w l n p r = pick (eqb r 0)
+  where
+    pick : (b : Bool) → length (sectionOf (cond b oldCount newCount) (leBytes 1 w ++ (leBytes 1 l ++ (leBytes 4 n ++ (leBytes 4 p ++ cond b [] (leBytes 4 r)))))) ≡ 4 + cond b oldCount newCount
+    pick true = refl
+    pick false = refl
 
 -- ---- the whole file
 
@@ -101,39 +137,48 @@ part-laid a y b b₁ z m e q =
     let after : drop m (drop z b₁) ≡ drop (z + m) b = ap (drop m) (ap (drop z) q ∙ drop-at a (drop z b) z e) ∙ drop-drop m z b in
     rw (front, after) (sym (append-assoc a y (drop (z + m) b)))
 
--- "at most 67,108,974", of an integer filter
-pub file-most : (f : Filter) → Integers f → (l n : ℕ) → l ≤ depthOf (waveletOf f) n → n ≤ mostSamples → fileSize headSize (widthOf f) l n ≤ mostBytes
+-- "at most 67,108,974", and 4 more, of an integer filter
+pub file-most : (f : Filter) → Integers f → (l n : ℕ) → l ≤ depthOf (waveletOf f) n → n ≤ mostSamples → fileSize newSize (widthOf f) l n ≤ mostBytes
 file-most f i l n deep most = omega (arith, mul-le-mul-right n (common f i .narrow), depth-at-most (waveletOf f) 23 n most)
 
 -- a file of n samples is section 0 and the sections of its levels
-pub file-parts : (f : Filter) (l p n : ℕ) (x : List ℕ) → length x ≡ widthOf f * n → fileOf f l p x ≡ headOf (widthOf f) l n p ++ bodyOf f l n x
+pub file-parts : (f : Filter) (l p r n : ℕ) (x : List ℕ) → length x ≡ widthOf f * n → fileOf f l p r x ≡ headOf (widthOf f) l n p r ++ bodyOf f l n x
 unfolding fileOf
-file-parts f l p n x h = ap (λ (m : ℕ). headOf (widthOf f) l m p ++ bodyOf f l m x) (holds (width-pos f) x n h .count)
+file-parts f l p r n x h = ap (λ (m : ℕ). headOf (widthOf f) l m p r ++ bodyOf f l m x) (holds (width-pos f) x n h .count)
 
 -- the head, and the sections in the m bytes after it
-pub file-laid : (f : Filter) (l n p m : ℕ) (x b b₁ r : List ℕ) → length x ≡ widthOf f * n → m ≡ bodySize (widthOf f) l n → b₁ ≡ headOf (widthOf f) l n p ++ drop headSize b → r ≡ bodyOf f l n x
-    → take headSize b₁ ++ (r ++ drop m (drop headSize b₁)) ≡ fileOf f l p x ++ drop (fileSize headSize (widthOf f) l n) b
-file-laid f l n p m x b b₁ r e em q er =
-    rw (er, em, file-parts f l p n x e) (part-laid (headOf (widthOf f) l n p) (bodyOf f l n x) b b₁ headSize (bodySize (widthOf f) l n) (head-length (widthOf f) l n p) q)
+pub file-laid : (f : Filter) (l n p r m : ℕ) (x b b₁ y : List ℕ) → 0 < r → length x ≡ widthOf f * n → m ≡ bodySize (widthOf f) l n → b₁ ≡ headOf (widthOf f) l n p r ++ drop newSize b → y ≡ bodyOf f l n x
+    → take newSize b₁ ++ (y ++ drop m (drop newSize b₁)) ≡ fileOf f l p r x ++ drop (fileSize newSize (widthOf f) l n) b
+file-laid f l n p r m x b b₁ y hr e em q ey =
+    rw (ey, em, file-parts f l p r n x e) (part-laid (headOf (widthOf f) l n p r) (bodyOf f l n x) b b₁ newSize (bodySize (widthOf f) l n) (head-length (widthOf f) l n p r ∙ new-size r hr) q)
 
 -- ---- the call
 
 -- the checks, at k bytes a sample
-pub say-width : (f : Filter) (l x b u v k : ℕ) {z : Refusal} → k ≡ widthOf f
-    → z ≡ firstOf (ragged k x ∷ ragged k u ∷ ragged k v ∷ writeChecks f l (x / k) b (u / k) (v / k)) (Done 0 0) → z ≡ sayWrite f l x b u v
+pub say-width : (f : Filter) (l r x b u v k : ℕ) {z : Refusal} → k ≡ widthOf f
+    → z ≡ firstOf (ragged k x ∷ ragged k u ∷ ragged k v ∷ (eqb r 0, NoRate) ∷ writeChecks f l (x / k) b (u / k) (v / k)) (Done 0 0) → z ≡ sayWrite f l r x b u v
 unfolding sayWrite
-say-width f l x b u v k e h = rw e at h
+say-width f l r x b u v k e h = rw e at h
 
--- what the checks leave: the levels run, and the file area has room
-pub write-ready : (f : Filter) (l x b u v : ℕ) → done (sayWrite f l x b u v) ≡ true → Ready f (levelsOf l) (x / widthOf f) x u v × (fileSize headSize (widthOf f) (levelsOf l) (x / widthOf f) ≤ b)
+-- what the checks leave: the levels run, the file area has room, and there is a rate
+pub record Writable (f : Filter) (l n r x b u v : ℕ) : Type 0 where
+  pub ready : Ready f l n x u v
+  pub room : fileSize newSize (widthOf f) l n ≤ b
+  pub rate : 0 < r
+
+pub write-ready : (f : Filter) (l r x b u v : ℕ) → done (sayWrite f l r x b u v) ≡ true → Writable f (levelsOf l) (x / widthOf f) r x b u v
 unfolding sayWrite
-write-ready f l x b u v h =
+write-ready f l r x b u v h =
     let k = widthOf f in
-    let p = passing (ragged k x ∷ ragged k u ∷ ragged k v ∷ writeChecks f l (x / k) b (u / k) (v / k)) (Done 0 0)
-    (refl, (refl, (refl, (refl, (shallow-refused f (x / k) (leb l 1), (refl, (refl, (refl, tt)))))))) h in
-    let q = p .1 .1 .1 in
-    (checked-ready f l x u v (p .0, (p .1 .0, (p .1 .1 .0, tt))) (q .0, (q .1 .0, tt)) (q .1 .1 .1), roomy b (fileSize headSize k (levelsOf l) (x / k)) (q .1 .1 .0))
+    let p = passing (ragged k x ∷ ragged k u ∷ ragged k v ∷ (eqb r 0, NoRate) ∷ writeChecks f l (x / k) b (u / k) (v / k)) (Done 0 0)
+    (refl, (refl, (refl, (refl, (refl, (shallow-refused f (x / k) (leb l 1), (refl, (refl, (refl, tt))))))))) h in
+    let q = p .1 .1 .1 .1 in
+    record {
+      ready = checked-ready f l x u v (p .0, (p .1 .0, (p .1 .1 .0, tt))) (q .0, (q .1 .0, tt)) (q .1 .1 .1);
+      room = roomy b (fileSize newSize k (levelsOf l) (x / k)) (q .1 .1 .0);
+      rate = let z = eqb-false r 0 (p .1 .1 .1 .0) in omega (arith, z);
+    }
 
 -- the same of i levels and k bytes, which are the ones asked for
-pub ready-for : (f : Filter) (l x b u v i k : ℕ) → i ≡ levelsOf l → k ≡ widthOf f → done (sayWrite f l x b u v) ≡ true → Ready f i (x / k) x u v × (fileSize headSize (widthOf f) i (x / k) ≤ b)
-ready-for f l x b u v i k ei ek h = rw (ei, ek) (write-ready f l x b u v h)
+pub ready-for : (f : Filter) (l r x b u v i k : ℕ) → i ≡ levelsOf l → k ≡ widthOf f → done (sayWrite f l r x b u v) ≡ true → Writable f i (x / k) r x b u v
+ready-for f l r x b u v i k ei ek h = rw (ei, ek) (write-ready f l r x b u v h)

@@ -1,5 +1,5 @@
--- Opening a file, from document 01, "Opening checks": the checks as one list in its order, and what the call promises.
-use mathlib.Core.Bool.{true, cond, not}
+-- Opening a file, from document 01, "Opening checks", and C-17, for both kinds: the checks as one list in their order, and what the call promises.
+use mathlib.Core.Bool.{Bool, true, cond, not, _&&_}
 use mathlib.Core.List.{List, [], _∷_, _++_}
 use Prim.Native.Nat.{ℕ, _+_, _-_, _*_, _/_, _≤_, _<_}
 use lib.Dec.{ltb, eqb}
@@ -7,7 +7,7 @@ use lib.ListN.{length, take, drop}
 use denote.Ref.{RefT}
 use Rattle.answers.specs.declared.err.Answer.{Answer}
 use Rattle.answers.specs.declared.err.Refusal.{Refusal}
-use Rattle.answers.specs.declared.err.Refusal.the-variants.{Done, MinFilterSize, BufferWasTooSmallForLevel, TooLong, OtherWidth, BadCount, CutShort, OtherPoint, Trailing, NoSuchPlace}
+use Rattle.answers.specs.declared.err.Refusal.the-variants.{Done, MinFilterSize, BufferWasTooSmallForLevel, TooLong, OtherWidth, BadCount, CutShort, OtherPoint, Trailing, NoSuchPlace, NoRate}
 use Rattle.answers.specs.Answers.{done}
 use Rattle.answers.specs.Checks.{Check, firstOf, ragged, tight, twoAreas, Call}
 use Rattle.sizes.specs.declared.Wavelet.the-variants.{Cdf53}
@@ -20,31 +20,39 @@ use Rattle.dwt.specs.declared.filter.Filter.the-variants.{Cdf53I8, Cdf53I16, Cd
 use Rattle.pyramid.specs.declared.head.Head.{Head}
 use Rattle.pyramid.specs.declared.walk.Way.{Way}
 use Rattle.pyramid.specs.declared.walk.Way.the-variants.{Went, Short, Wrong}
-use Rattle.pyramid.specs.Files.{mostBytes, headCount, headSize}
+use Rattle.pyramid.specs.Files.{mostBytes, isCount, newCount, commonSize}
 use Rattle.pyramid.specs.Walks.{walkOf, lastCount, restoredAt}
 
 -- the integer filter of a width
 abbrev pub filterOf : ℕ → Filter
 filterOf k = cond (eqb k 1) Cdf53I8 (cond (eqb k 2) Cdf53I16 Cdf53I32)
 
--- what section 0 of s says, and where the sections after it start
+-- what section 0 of either kind says, and where the sections after it start: its count tells
 abbrev pub headIn : List ℕ → Head
-headIn s = record { width = leAt 1 s 4; levels = leAt 1 s 5; samples = leAt 4 s 6; point = leAt 4 s 10; body = headSize }
+headIn s = record { width = leAt 1 s 4; levels = leAt 1 s 5; samples = leAt 4 s 6; point = leAt 4 s 10; body = 4 + leAt 4 s 0 }
 
--- h is read from a file of b bytes: it ends within them, and its numbers are of one byte and of four
-pub record Read (b : ℕ) (h : Head) : Type 0 where
-  pub within : h .body ≤ b
+-- h is read from bytes: its numbers are of one byte and of four
+pub record Read (h : Head) : Type 0 where
   pub width : h .width < 256
   pub levels : h .levels < 256
   pub samples : h .samples < 4294967296
   pub point : h .point < 4294967296
+  pub body : h .body < 4294967300
 
--- "6 (over 67,108,974 bytes), 10 (under 14), 9 at section 0"
+-- a file of the new kind, and the rate that a file stores: "0 for an old file"
+abbrev pub isNew : List ℕ → Bool
+isNew s = eqb (leAt 4 s 0) newCount
+
+abbrev pub rateIn : List ℕ → ℕ
+rateIn s = cond (isNew s) (leAt 4 s commonSize) 0
+
+-- "6 (over 67,108,974 bytes)", and 4 more; "under 4 bytes or fewer than section 0 needs is 10, with 9 tested between them"
 abbrev pub startChecks : List ℕ → List Check
 startChecks s =
     (ltb mostBytes (length s), TooLong)
-    ∷ (ltb (length s) headSize, CutShort (length s))
-    ∷ (not (eqb (leAt 4 s 0) headCount), BadCount 0 (leAt 4 s 0))
+    ∷ (ltb (length s) 4, CutShort (length s))
+    ∷ (not (isCount (leAt 4 s 0)), BadCount 0 (leAt 4 s 0))
+    ∷ (ltb (length s) (headIn s .body), CutShort (length s))
     ∷ []
 
 -- "8 (also when the width asked isn't 1, 2 or 4), 1 (n, 3), 6 (n), 4 (levels 0 or above depth), 11"
@@ -59,8 +67,12 @@ fieldChecks h w p =
     ∷ (not (eqb (h .point) p), OtherPoint (h .point) p)
     ∷ []
 
+-- "18 for a stored rate of 0 in a new file, right after 11"
+abbrev pub rateChecks : List ℕ → List Check
+rateChecks s = (isNew s && eqb (rateIn s) 0, NoRate) ∷ []
+
 abbrev pub headChecks : List ℕ → ℕ → ℕ → List Check
-headChecks s w p = startChecks s ++ fieldChecks (headIn s) w p
+headChecks s w p = startChecks s ++ (fieldChecks (headIn s) w p ++ rateChecks s)
 
 -- the walk over all sections after section 0, which says h
 abbrev pub wayIn : List ℕ → Head → Way
@@ -113,12 +125,16 @@ sayOpen s w p o u v = firstOf (areaChecks w o u v ++ (fileChecks s w p ++ roomsF
 abbrev pub Open : List ℕ → ℕ → ℕ → List ℕ → List ℕ → List ℕ → Answer → List ℕ → List ℕ → List ℕ → Type 0
 Open s w p o u v = Call (sayOpen s w p (length o) (length u) (length v)) (w * countIn s) (samplesIn s ++ drop (w * countIn s) o) o u v
 
--- a file's own width and point: what its section 0 says, and 1 and 0 where it has none
+-- "the opener gives the rate beside its numbers, 0 for an old file", and 0 where it is refused
+unfoldable pub rateOpened : List ℕ → ℕ → ℕ → ℕ → ℕ → ℕ → ℕ
+rateOpened s w p o u v = cond (done (sayOpen s w p o u v)) (rateIn s) 0
+
+-- a file's own width and point: what its section 0 says, and 1 and 0 where it is too short to
 unfoldable pub ownWidth : List ℕ → ℕ
-ownWidth s = cond (ltb (length s) headSize) 1 (headIn s .width)
+ownWidth s = cond (ltb (length s) commonSize) 1 (headIn s .width)
 
 unfoldable pub ownPoint : List ℕ → ℕ
-ownPoint s = cond (ltb (length s) headSize) 0 (headIn s .point)
+ownPoint s = cond (ltb (length s) commonSize) 0 (headIn s .point)
 
 -- ---- one section
 
@@ -136,7 +152,7 @@ sectionChecks (Went p) b = []
 sectionChecks (Short j) b = (true, CutShort b) ∷ []
 sectionChecks (Wrong j found) b = (true, BadCount j found) ∷ []
 
--- "number 0 or above L+1 is 13 (number, L+1), given after 11"
+-- "number 0 or above L+1 is 13 (number, L+1), given after 11", and after 18
 abbrev pub numberChecks : ℕ → ℕ → List Check
 numberChecks j l = (eqb j 0, NoSuchPlace j (l + 1)) ∷ (ltb (l + 1) j, NoSuchPlace j (l + 1)) ∷ []
 

@@ -7,4 +7,4 @@ pub mod size;
 pub mod walk;
 
 // The most bytes of a pyramid file.
-pub const MOST_BYTES: usize = 67108974;
+pub const MOST_BYTES: usize = 67108978;

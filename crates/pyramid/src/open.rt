@@ -1,15 +1,17 @@
-// Opening a file: the checks in document 01's order, then the levels that a cut left.
+// Opening a file of either kind: the checks in the documents' order, then the levels that a cut left.
 ghost use mathlib.Core.Path.{_≡_};
-ghost use Prim.Native.Nat.{_<_};
+ghost use Prim.Native.Nat.{_≤_, _<_};
 ghost use lib.ListN.{length};
 ghost use Rattle.answers.specs.Checks.{firstOf};
 ghost use Rattle.samples.specs.Integers.{isWidth};
-ghost use Rattle.pyramid.specs.Opens.{filterOf, Read, startChecks, fieldChecks, headChecks, wayIn, wayChecks, wholeDetails, sayFile, areaChecks, roomsFor, sayOpen, Open, ownWidth, ownPoint};
+ghost use Rattle.pyramid.specs.Opens.{filterOf, headIn, Read, startChecks, fieldChecks, rateChecks, headChecks, wayIn, wayChecks, wholeDetails, sayFile, areaChecks, roomsFor, sayOpen, Open, rateOpened, ownWidth, ownPoint};
 use crate::MOST_BYTES;
-use crate::head::HEAD_COUNT;
-use crate::head::HEAD_SIZE;
+use crate::head::COMMON_SIZE;
 use crate::head::Head;
 use crate::head::head_in;
+use crate::head::is_count;
+use crate::head::is_new;
+use crate::head::rate_in;
 use crate::restore::restore;
 use crate::walk::Way;
 use crate::walk::walk;
@@ -26,11 +28,11 @@ use sizes::checks::two_areas;
 use sizes::count_at;
 use sizes::depth;
 
-// A file's own width and point: 1 and 0 where it has no section 0.
+// A file's own width and point: 1 and 0 where it is too short to say.
 pub fn own_width(s: &[u8]) -> usize
     ensures { λ r. ⌜ r ≡ ownWidth (now (s .entry)) ⌝ }
 {
-    if s.len() < HEAD_SIZE {
+    if s.len() < COMMON_SIZE {
         return 1;
     }
     head_in(s).width
@@ -39,7 +41,7 @@ pub fn own_width(s: &[u8]) -> usize
 pub fn own_point(s: &[u8]) -> usize
     ensures { λ r. ⌜ r ≡ ownPoint (now (s .entry)) ⌝ }
 {
-    if s.len() < HEAD_SIZE {
+    if s.len() < COMMON_SIZE {
         return 0;
     }
     head_in(s).point
@@ -71,19 +73,22 @@ pub fn filter_of(w: usize) -> Filter
     Filter::Cdf53I32
 }
 
-// The length of the file, and the count of section 0.
+// The length of the file, and the count of section 0, which says how long that is.
 pub fn check_start(s: &[u8]) -> Refusal
     ensures { λ r. ⌜ r ≡ firstOf (startChecks (now (s .entry))) (Refusal.Done 0 0) ⌝ }
 {
     if MOST_BYTES < s.len() {
         return Refusal::TooLong;
     }
-    if s.len() < HEAD_SIZE {
+    if s.len() < 4 {
         return Refusal::CutShort(s.len());
     }
     let count = read_u32(s, 0) as usize;
-    if count != HEAD_COUNT {
+    if !is_count(count) {
         return Refusal::BadCount(0, count);
+    }
+    if s.len() < 4 + count {
+        return Refusal::CutShort(s.len());
     }
     Refusal::Done(0, 0)
 }
@@ -116,6 +121,19 @@ pub fn check_fields(h: Head, w: usize, p: usize) -> Refusal
     Refusal::Done(0, 0)
 }
 
+// A new file stores a rate.
+fn check_rate(s: &[u8]) -> Refusal
+    requires { ⌜ headIn (now s) .body ≤ length (now s) ⌝ }
+    ensures { λ r. ⌜ r ≡ firstOf (rateChecks (now (s .entry))) (Refusal.Done 0 0) ⌝ }
+{
+    if is_new(s) {
+        if rate_in(s) == 0 {
+            return Refusal::NoRate;
+        }
+    }
+    Refusal::Done(0, 0)
+}
+
 // All of section 0.
 pub fn check_head(s: &[u8], w: usize, p: usize) -> Refusal
     ensures { λ r. ⌜ r ≡ firstOf (headChecks (now (s .entry)) w p) (Refusal.Done 0 0) ⌝ }
@@ -124,12 +142,16 @@ pub fn check_head(s: &[u8], w: usize, p: usize) -> Refusal
     if !is_done(start) {
         return start;
     }
-    check_fields(head_in(s), w, p)
+    let fields = check_fields(head_in(s), w, p);
+    if !is_done(fields) {
+        return fields;
+    }
+    check_rate(s)
 }
 
 // The walk over all sections after section 0, which says h.
 fn way_in(s: &[u8], h: Head) -> Way
-    requires { ⌜ Read (length (now s)) h ⌝ }
+    requires { ⌜ Read h × (h .body ≤ length (now s)) ⌝ }
     ensures { λ r. ⌜ r ≡ wayIn (now (s .entry)) h ⌝ }
 {
     walk(s, h.width, h.levels, h.samples, h.body)
@@ -231,9 +253,24 @@ fn check_open(s: &[u8], w: usize, p: usize, o: usize, u: usize, v: usize) -> Ref
     file
 }
 
-// The samples of the finest level that the file lets see, to the front of the output.
-pub fn open(s: &[u8], w: usize, p: usize, out: &mut [u8], one: &mut [u8], two: &mut [u8]) -> Answer
-    ensures { λ r. ⌜ Open (now (s .entry)) w p (now (out .entry)) (now (one .entry)) (now (two .entry)) r (now (out .exit)) (now (one .exit)) (now (two .exit)) ⌝ }
+// The answer, and the file's rate: 0 for an old file and where the call is refused.
+#[repr(C)]
+pub struct OpenAnswer {
+    pub answer: Answer,
+    pub rate: u32,
+}
+
+// The samples of the finest level that the file lets see, to the front of the output, and the rate.
+pub fn open(
+    s: &[u8],
+    w: usize,
+    p: usize,
+    out: &mut [u8],
+    one: &mut [u8],
+    two: &mut [u8],
+) -> OpenAnswer
+    ensures { λ r. ⌜ Open (now (s .entry)) w p (now (out .entry)) (now (one .entry)) (now (two .entry)) (r .answer) (now (out .exit)) (now (one .exit)) (now (two .exit)) ⌝ }
+    ensures { λ r. ⌜ r .rate ≡ rateOpened (now (s .entry)) w p (length (now (out .entry))) (length (now (one .entry))) (length (now (two .entry))) ⌝ }
 {
     let said = check_open(s, w, p, out.len(), one.len(), two.len());
     let r = numbers(said);
@@ -241,6 +278,10 @@ pub fn open(s: &[u8], w: usize, p: usize, out: &mut [u8], one: &mut [u8], two: &
         let h = head_in(s);
         let m = h.levels - r.first as usize;
         restore(filter_of(w), s, m, r.second as usize, h.body, out, one);
+        return OpenAnswer {
+            answer: r,
+            rate: rate_in(s),
+        };
     }
-    r
+    OpenAnswer { answer: r, rate: 0 }
 }

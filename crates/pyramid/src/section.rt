@@ -42,7 +42,7 @@ fn samples_to(h: Head, j: usize) -> usize
 
 // The walk through section j.
 fn way_to(s: &[u8], h: Head, j: usize) -> Way
-    requires { ⌜ Read (length (now s)) h ⌝ }
+    requires { ⌜ Read h × (h .body ≤ length (now s)) ⌝ }
     requires { ⌜ (1 ≤ j) × (j ≤ h .levels + 1) ⌝ }
     ensures { λ r. ⌜ r ≡ wayTo (now (s .entry)) h j ⌝ }
 {
@@ -67,7 +67,7 @@ fn length_of(h: Head, j: usize) -> usize
 
 // The way through section j, which ends at a place, is cut, or met a wrong count.
 fn found(s: &[u8], h: Head, j: usize) -> Refusal
-    requires { ⌜ Read (length (now s)) h ⌝ }
+    requires { ⌜ Read h × (h .body ≤ length (now s)) ⌝ }
     requires { ⌜ (1 ≤ j) × (j ≤ h .levels + 1) ⌝ }
     ensures { λ r. ⌜ r ≡ firstOf (sectionChecks (wayTo (now (s .entry)) h j) (length (now (s .entry)))) (Refusal.Done (startOf (now (s .entry)) h j) (lengthOf h j)) ⌝ }
 {

@@ -83,7 +83,7 @@ pub check-file-spec : {M : Type 1} → statement M
 check-file-spec =
     tie.close
     (tie.spec
-    (λ c κs. search needs) (λ c κs. search needs) returns (λ c κs. headed c .there) (λ c κs. c .head-in .ensures .1)
+    (λ c κs. search needs) (λ c κs. search needs) returns (λ c κs. headed c .common) (λ c κs. (c .head-in .ensures .1, rw (c .head-in .ensures .0) (headed (c .before) .there)))
     (λ c κs. search needs) (λ c κs. search needs) returns-2 (λ c κs. search needs)
     (λ c. omega (arith, some (c .before .before), ap (λ (i : Head). i .levels) (c .before .before .before .before .before .before .head-in .ensures .0), details (c .before)))
     (λ c κs. search needs) returns-3)

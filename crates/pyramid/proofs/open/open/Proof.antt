@@ -15,7 +15,7 @@ use Rattle.dwt.specs.Filters.{widthOf}
 use Rattle.pyramid.specs.declared.head.Head.{Head}
 use Rattle.pyramid.specs.Walks.{restoredAt}
 use Rattle.pyramid.specs.Opens.{filterOf, headIn, wayIn, wholeDetails, levelIn, countIn, samplesIn, sayOpen}
-use Rattle.pyramid.proofs.Opening.{Opening, open-ready, open-says, filter-width, filter-integers}
+use Rattle.pyramid.proofs.Opening.{Opening, open-ready, open-says, open-rate, refused-rate, filter-width, filter-integers}
 use Rattle.pyramid.proofs.open.open.Statement.{statement}
 use Rattle.pyramid.proofs.open.open.Tie as tie
 
@@ -50,29 +50,37 @@ restore-requires c κs =
 returns : tie.Need-returns
 unfolding samplesIn
 returns c =
-    let then = c .before .before .before .before .before .before .before .before .before .before in
+    let then = c .before .before .before .before .before .before .before .before .before .before .before in
     let a = then .before .before .before .before .before .before .before .before .args in
     let s = a .s .now in
     let r = ready then in
-    let e = c .before .before .before .before .restore .ensures in
-    let g = c .before .before .before .before .before .before .before .filter-of in
-    let h = c .before .before .before .before .before .before .before .before .before .head-in in
+    let e = c .before .before .before .before .before .restore .ensures in
+    let g = c .before .before .before .before .before .before .before .before .filter-of in
+    let h = c .before .before .before .before .before .before .before .before .before .before .head-in in
     let m = h .result .levels - then .before .before .numbers .result .first in
     let n = then .before .before .numbers .result .second in
     let wide : widthOf (g .result) ≡ a .w = ap widthOf (g .ensures) ∙ filter-width (a .w) (r .file .head .known) in
     let size : widthOf (g .result) * n ≡ a .w * countIn s = ap₂ (λ (k j : ℕ). k * j) wide (count then) in
     let all : restoredAt (widthOf (g .result)) s m n (h .result .body) ≡ samplesIn s =
-    rw (wide ∙ sym (r .file .head .width), details (c .before .before .before .before .before .before .before .before .before), count then) (ap (λ (i : Head). restoredAt (headIn s .width) s (wholeDetails (wayIn s (headIn s)) (headIn s .levels)) (countIn s) (i .body)) (h .ensures .0)) in
-    call-done (then .before .before .before .check-open .ensures) (then .before .before .numbers .ensures) (sym (then .before .is-done .ensures) ∙ then .if1 .taken)
-    (e .0 ∙ ap₂ (λ (x : List ℕ) (j : ℕ). x ++ drop j (a .out .now)) all size)
-    (rw size at (e .1 .0)) refl
+    rw (wide ∙ sym (r .file .head .width), details (c .before .before .before .before .before .before .before .before .before .before), count then) (ap (λ (i : Head). restoredAt (headIn s .width) s (wholeDetails (wayIn s (headIn s)) (headIn s .levels)) (countIn s) (i .body)) (h .ensures .0)) in (
+      call-done (then .before .before .before .check-open .ensures) (then .before .before .numbers .ensures) (sym (then .before .is-done .ensures) ∙ then .if1 .taken)
+          (e .0 ∙ ap₂ (λ (x : List ℕ) (j : ℕ). x ++ drop j (a .out .now)) all size)
+          (rw size at (e .1 .0)) refl,
+      c .rate-in .ensures ∙ sym (open-rate s (a .w) (a .p) _ _ _ (isDone then)),
+    )
+
+returns-2 : tie.Need-returns-2
+returns-2 c =
+    let a = c .before .before .before .before .before .before .before .before .args in
+    let d = sym (c .before .is-done .ensures) ∙ c .if1 .left in
+    (call-refused (c .before .before .before .check-open .ensures) (c .before .before .numbers .ensures) d, sym (refused-rate (a .s .now) (a .w) (a .p) _ _ _ (rw (c .before .before .before .check-open .ensures) at d)))
 
 pub open-spec : {M : Type 1} → statement M
 open-spec =
     tie.close
     (tie.spec
     (λ c κs. search needs) (λ c κs. search needs) (λ c κs. search needs)
-    (λ c κs. ready c .file .head .there)
+    (λ c κs. ready c .file .head .common)
     (λ c. omega (arith, ap (λ (r : Answer). r .first) (answer (c .before .before)), ap (λ (h : Head). h .levels) (c .before .head-in .ensures .0))) (λ c κs. search needs)
-    restore-requires (λ c. search needs) (λ c. search needs) returns
-    (λ c. call-refused (c .before .before .before .check-open .ensures) (c .before .before .numbers .ensures) (sym (c .before .is-done .ensures) ∙ c .if1 .left)))
+    restore-requires (λ c κs. ready (c .before .before .before .before .before .before .before .before .before .before) .file .head .there)
+    (λ c. search needs) (λ c. search needs) returns returns-2)

@@ -72,6 +72,6 @@ pub check-section-spec : {M : Type 1} → statement M
 check-section-spec =
     tie.close
     (tie.spec
-    (λ c κs. search needs) (λ c κs. search needs) returns (λ c κs. headed c .there)
+    (λ c κs. search needs) (λ c κs. search needs) returns (λ c κs. headed c .common)
     (λ c κs. omega (arith, c .head-in .ensures .1 .levels)) (λ c κs. search needs) returns-2
-    (λ c κs. let h = c .before .before .before .head-in .ensures in let i = inside c in (h .1, (i .0, omega (arith, i .1, ap (λ h. h .levels) (h .0))))) returns-3)
+    (λ c κs. let h = c .before .before .before .head-in .ensures in let i = inside c in ((h .1, rw (h .0) (headed (c .before .before .before .before) .there)), (i .0, omega (arith, i .1, ap (λ h. h .levels) (h .0))))) returns-3)

@@ -42,6 +42,6 @@ pub found-spec : {M : Type 1} → statement M
 found-spec =
     tie.close
     (tie.spec
-    (λ c κs. let r = c .before .pre in ((r .0 .width, r .0 .levels, r .0 .samples), r .1)) (λ c κs. c .before .before .pre) (λ c. search needs)
-    (λ c. let st = c .before .before .before .before .before .before in omega (arith, ends _ (st .args .h) _ _ (st .pre .0 .within) (is (c .before .before .before) (c .before .way .given .1)), c .before .before .before .before .length-of .ensures))
+    (λ c κs. let r = c .before .pre in ((r .0 .0 .width, r .0 .0 .levels, r .0 .0 .samples), r .1)) (λ c κs. c .before .before .pre) (λ c. search needs)
+    (λ c. let st = c .before .before .before .before .before .before in omega (arith, ends _ (st .args .h) _ _ (st .pre .0 .1) (is (c .before .before .before) (c .before .way .given .1)), c .before .before .before .before .length-of .ensures))
     (λ c. search needs) (λ c. search needs) returns returns-2 returns-3)

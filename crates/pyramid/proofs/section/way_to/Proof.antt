@@ -17,8 +17,8 @@ pub way-to-spec : {M : Type 1} → statement M
 way-to-spec =
     tie.close
     (tie.spec
-    (λ c. search needs) (λ c κs. (c .before .pre .1 .1, c .before .pre .0 .levels))
-    (λ c κs. let r = c .before .before .pre .0 in
+    (λ c. search needs) (λ c κs. (c .before .pre .1 .1, c .before .pre .0 .0 .levels))
+    (λ c κs. let r = c .before .before .pre .0 .0 in
     let n = c .samples-to .ensures .1 in
-    (r .within, small _ _ (r .width) (omega (arith, n, r .samples)), omega (arith, r .levels, c .before .before .pre .1), omega (arith, n, r .samples)))
+    (c .before .before .pre .0 .1, small _ _ (r .width) (omega (arith, n, r .samples)), omega (arith, r .levels, c .before .before .pre .1), omega (arith, n, r .samples)))
     returns)

@@ -4,7 +4,7 @@ use mathlib.Core.Path.{ap}
 use Prim.Native.Nat.{ℕ, _+_}
 use native.Mathlib.Omega.{arith}
 use Rattle.dwt.proofs.Cuts.{width-room}
-use Rattle.pyramid.specs.Files.{headSize}
+use Rattle.pyramid.specs.Files.{newSize}
 use Rattle.pyramid.proofs.size.file_size.Statement.{statement}
 use Rattle.pyramid.proofs.size.file_size.Tie as tie
 
@@ -14,4 +14,4 @@ file-size-spec =
     (tie.spec
     (λ c κs. search needs)
     (λ c. let st = c .before in omega (arith, c .laid-size .ensures, st .pre, width-room (st .args .f) (st .args .n) (st .pre .1)))
-    (λ c. ap (λ (i : ℕ). headSize + i) (c .laid-size .ensures)))
+    (λ c. ap (λ (i : ℕ). newSize + i) (c .laid-size .ensures)))
