@@ -7,7 +7,7 @@ use lib.ListN.{length, drop}
 use Rattle.answers.proofs.Endings.{call-done, call-refused}
 use Rattle.sizes.specs.Levels.{levelsOf}
 use Rattle.dwt.specs.Filters.{widthOf}
-use Rattle.pyramid.specs.Files.{headSize, fileSize, fileOf}
+use Rattle.pyramid.specs.Files.{newSize, fileSize, fileOf}
 use Rattle.pyramid.proofs.Writing.{write-ready, ready-for}
 use Rattle.writes.proofs.write.write.Statement.{statement}
 use Rattle.writes.proofs.write.write.Tie as tie
@@ -15,8 +15,9 @@ use Rattle.writes.proofs.write.write.Tie as tie
 lay-file-requires : tie.Need-lay-file-requires
 lay-file-requires c κs =
     let a = c .before .before .before .before .before .before .before .before .before .before .before .before .before .args in
-    ready-for (a .f) (a .levels) (length (a .signal .now)) (length (a .file .now)) (length (a .one .now)) (length (a .two .now)) _ _ (c .before .before .before .at-least-one .ensures) (c .before .before .before .before .width .ensures .0)
-    (rw (c .before .before .before .before .before .before .before .before .check-write .ensures) at (sym (c .before .before .before .before .before .before .is-done .ensures) ∙ c .before .before .before .before .before .if1 .taken))
+    let r = ready-for (a .f) (a .levels) (a .rate) (length (a .signal .now)) (length (a .file .now)) (length (a .one .now)) (length (a .two .now)) _ _ (c .before .before .before .at-least-one .ensures) (c .before .before .before .before .width .ensures .0)
+    (rw (c .before .before .before .before .before .before .before .before .check-write .ensures) at (sym (c .before .before .before .before .before .before .is-done .ensures) ∙ c .before .before .before .before .before .if1 .taken)) in
+    (r .ready, (r .room, r .rate))
 
 returns : tie.Need-returns
 returns c =
@@ -27,12 +28,12 @@ returns c =
     let e = c .before .before .before .before .before .before .lay-file .ensures in
     let said = c .before .before .before .before .before .before .before .before .before .before .before .before .before .before .before .check-write in
     let t = sym (c .before .before .before .before .before .before .before .before .before .before .before .before .before .is-done .ensures) ∙ c .before .before .before .before .before .before .before .before .before .before .before .before .if1 .taken in
-    let ready = write-ready (a .f) (a .levels) x (length (a .file .now)) (length (a .one .now)) (length (a .two .now)) (rw (said .ensures) at t) in
+    let ready = write-ready (a .f) (a .levels) (a .rate) x (length (a .file .now)) (length (a .one .now)) (length (a .two .now)) (rw (said .ensures) at t) in
     let en : n ≡ x / widthOf (a .f) = ap (λ (i : ℕ). x / i) (k .ensures .0) in
-    let w : widthOf (a .f) * n ≡ x = ap (λ (i : ℕ). widthOf (a .f) * i) en ∙ sym (ready .0 .whole) in
+    let w : widthOf (a .f) * n ≡ x = ap (λ (i : ℕ). widthOf (a .f) * i) en ∙ sym (ready .ready .whole) in
     call-done (said .ensures) (c .before .before .before .before .before .before .before .before .before .before .before .before .before .before .numbers .ensures) t
-    (e .0 ∙ ap (λ (l : ℕ). fileOf (a .f) l (a .point) (a .signal .now) ++ drop (fileSize headSize (widthOf (a .f)) l n) (a .file .now)) (c .before .before .before .before .before .before .before .before .before .before .at-least-one .ensures)
-    ∙ ap (λ (i : ℕ). fileOf (a .f) (levelsOf (a .levels)) (a .point) (a .signal .now) ++ drop (fileSize headSize (widthOf (a .f)) (levelsOf (a .levels)) i) (a .file .now)) en)
+    (e .0 ∙ ap (λ (l : ℕ). fileOf (a .f) l (a .point) (a .rate) (a .signal .now) ++ drop (fileSize newSize (widthOf (a .f)) l n) (a .file .now)) (c .before .before .before .before .before .before .before .before .before .before .at-least-one .ensures)
+    ∙ ap (λ (i : ℕ). fileOf (a .f) (levelsOf (a .levels)) (a .point) (a .rate) (a .signal .now) ++ drop (fileSize newSize (widthOf (a .f)) (levelsOf (a .levels)) i) (a .file .now)) en)
     (rw w at (e .1 .0)) (rw w at (e .1 .1))
 
 returns-2 : tie.Need-returns-2

@@ -17,7 +17,7 @@ use Rattle.sizes.specs.Levels.{depthOf, levelsOf}
 use Rattle.dwt.specs.Filters.{widthOf, waveletOf}
 use Rattle.dwt.specs.Calls.{depthChecks}
 use Rattle.dwt.proofs.Multi.{depth-refuse}
-use Rattle.pyramid.specs.Files.{headSize, fileSize}
+use Rattle.pyramid.specs.Files.{newSize, fileSize}
 use Rattle.pyramid.specs.Writes.{writeChecks}
 use Rattle.dwt.proofs.Cuts.{few-levels}
 use Rattle.writes.proofs.write.write_lengths.Statement.{statement}
@@ -26,14 +26,14 @@ use Rattle.writes.proofs.write.write_lengths.Tie as tie
 returns : tie.Need-returns
 returns c =
     let a = c .before .before .before .args in
-    say-stop (depthChecks (a .f) (a .levels) (a .n)) (tight (a .b) (fileSize headSize (widthOf (a .f)) (levelsOf (a .levels)) (a .n)) ∷ twoAreas (a .u) (a .v) (a .n)) (Done 0 0) (c .before .before .check-depth .ensures) (sym (c .before .is-done .ensures) ∙ not-true _ (c .if1 .taken))
+    say-stop (depthChecks (a .f) (a .levels) (a .n)) (tight (a .b) (fileSize newSize (widthOf (a .f)) (levelsOf (a .levels)) (a .n)) ∷ twoAreas (a .u) (a .v) (a .n)) (Done 0 0) (c .before .before .check-depth .ensures) (sym (c .before .is-done .ensures) ∙ not-true _ (c .if1 .taken))
 
 -- past the levels: the whole list says what the rest says
 past : (c : tie.Else1) {z : Refusal} → let a = c .before .before .before .args in
-    z ≡ firstOf (tight (a .b) (fileSize headSize (widthOf (a .f)) (levelsOf (a .levels)) (a .n)) ∷ twoAreas (a .u) (a .v) (a .n)) (Done 0 0) → z ≡ firstOf (writeChecks (a .f) (a .levels) (a .n) (a .b) (a .u) (a .v)) (Done 0 0)
+    z ≡ firstOf (tight (a .b) (fileSize newSize (widthOf (a .f)) (levelsOf (a .levels)) (a .n)) ∷ twoAreas (a .u) (a .v) (a .n)) (Done 0 0) → z ≡ firstOf (writeChecks (a .f) (a .levels) (a .n) (a .b) (a .u) (a .v)) (Done 0 0)
 past c q =
     let a = c .before .before .before .args in
-    say-rest (depthChecks (a .f) (a .levels) (a .n)) (tight (a .b) (fileSize headSize (widthOf (a .f)) (levelsOf (a .levels)) (a .n)) ∷ twoAreas (a .u) (a .v) (a .n)) (Done 0 0) (depth-refuse (a .f) (a .levels) (a .n)) (c .before .before .check-depth .ensures) (sym (c .before .is-done .ensures) ∙ not-false _ (c .if1 .left)) q
+    say-rest (depthChecks (a .f) (a .levels) (a .n)) (tight (a .b) (fileSize newSize (widthOf (a .f)) (levelsOf (a .levels)) (a .n)) ∷ twoAreas (a .u) (a .v) (a .n)) (Done 0 0) (depth-refuse (a .f) (a .levels) (a .n)) (c .before .before .check-depth .ensures) (sym (c .before .is-done .ensures) ∙ not-false _ (c .if1 .left)) q
 
 -- within the limit, and the levels fit a byte
 within : (c : tie.Else1) → let a = c .before .before .before .args in (a .n ≤ mostSamples) × (levelsOf (a .levels) < 256)
@@ -44,8 +44,8 @@ within c =
     (m, few-levels (waveletOf (a .f)) (levelsOf (a .levels)) (a .n) (roomy (depthOf (waveletOf (a .f)) (a .n)) (levelsOf (a .levels)) (p .1 .0)) m)
 
 -- the size of the file, as the code has it and as the list has it
-size : (c : tie.After-file-size) → let a = c .before .before .before .before .before .args in c .file-size .result ≡ fileSize headSize (widthOf (a .f)) (levelsOf (a .levels)) (a .n)
-size c = let a = c .before .before .before .before .before .args in c .file-size .ensures ∙ ap (λ (l : ℕ). fileSize headSize (widthOf (a .f)) l (a .n)) (c .before .at-least-one .ensures)
+size : (c : tie.After-file-size) → let a = c .before .before .before .before .before .args in c .file-size .result ≡ fileSize newSize (widthOf (a .f)) (levelsOf (a .levels)) (a .n)
+size c = let a = c .before .before .before .before .before .args in c .file-size .ensures ∙ ap (λ (l : ℕ). fileSize newSize (widthOf (a .f)) l (a .n)) (c .before .at-least-one .ensures)
 
 pub write-lengths-spec : {M : Type 1} → statement M
 write-lengths-spec =
