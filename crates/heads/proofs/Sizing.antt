@@ -1,15 +1,16 @@
--- The size that is told is what writing needs, where the samples and the work areas are whole samples: a size that is refused is refused by writing with the same
--- answer, a file area below it with 7 and that number, and with it, and work areas for the samples, writing is done. Each of the integer filters.
+-- The size that is told is what writing needs, where the samples and the work areas are whole samples and there is a rate: a size that is refused is refused by writing
+-- with the same answer, a file area below it with 7 and that number, and with it, and work areas for the samples, writing is done. Each of the integer filters.
 use mathlib.Core.Bool.{true, false, not}
 use mathlib.Core.List.{List, [], _∷_, _++_}
 use mathlib.Core.Path.{_≡_, refl, sym, ap, _∙_}
 use Prim.Native.Nat.{ℕ, _*_, _/_, _≤_, _<_}
 use native.Mathlib.Omega.{arith}
-use borrow.Author.Tests.{lt-ltb, le-ltb}
+use borrow.Author.Tests.{lt-ltb, le-ltb, ne-eqb}
+use lib.Dec.{eqb}
 use lib.ListN.{length}
 use Rattle.answers.specs.declared.err.Answer.{Answer}
 use Rattle.answers.specs.declared.err.Refusal.{Refusal}
-use Rattle.answers.specs.declared.err.Refusal.the-variants.{Done}
+use Rattle.answers.specs.declared.err.Refusal.the-variants.{Done, NoRate}
 use Rattle.answers.specs.Answers.{answerOf, done, say}
 use Rattle.answers.specs.Checks.{Check, firstOf, ragged, tight, twoAreas}
 use Rattle.answers.proofs.Chain.{by, stop}
@@ -25,7 +26,7 @@ use Rattle.dwt.specs.Filters.{widthOf, waveletOf, Integers}
 use Rattle.dwt.specs.Calls.{depthChecks}
 use Rattle.dwt.proofs.Cuts.{width-pos}
 use Rattle.dwt.proofs.Multi.{depth-refuse}
-use Rattle.pyramid.specs.Files.{mostBytes, headSize, fileSize}
+use Rattle.pyramid.specs.Files.{mostBytes, newSize, fileSize}
 use Rattle.pyramid.specs.Opens.{filterOf}
 use Rattle.pyramid.specs.Writes.{writeChecks, sayWrite, Write}
 use Rattle.pyramid.proofs.Writing.{file-most}
@@ -41,30 +42,30 @@ own-filter Cdf97F32 i = absurd i
 own-filter Cdf97F64 i = absurd i
 
 module _ (f : Filter) (i : Integers f) (l n : ℕ) where
-  size-says : saySize (widthOf f) n l ≡ firstOf (depthChecks f l n) (Done (fileSize headSize (widthOf f) (levelsOf l) n) 0)
+  size-says : saySize (widthOf f) n l ≡ firstOf (depthChecks f l n) (Done (fileSize newSize (widthOf f) (levelsOf l) n) 0)
   unfolding saySize
   size-says =
-      let e = Done (fileSize headSize (widthOf f) (levelsOf l) n) 0 in
+      let e = Done (fileSize newSize (widthOf f) (levelsOf l) n) 0 in
       sym (by _ (ap not (common f i .width)) (ap (λ (g : Filter). firstOf (depthChecks g l n) e) (sym (own-filter f i))))
 
   size-passes : done (saySize (widthOf f) n l) ≡ true → Passing (depthChecks f l n)
-  size-passes h = passing (depthChecks f l n) (Done (fileSize headSize (widthOf f) (levelsOf l) n) 0) (depth-refuse f l n) (sym (ap done size-says) ∙ h)
+  size-passes h = passing (depthChecks f l n) (Done (fileSize newSize (widthOf f) (levelsOf l) n) 0) (depth-refuse f l n) (sym (ap done size-says) ∙ h)
 
-  -- a done size call tells the size of the file, which is at most 67,108,974
-  pub size-told : {s : Answer} → s ≡ answerOf (saySize (widthOf f) n l) → s .number ≡ 0 → (s ≡ say 0 (fileSize headSize (widthOf f) (levelsOf l) n) 0) × (s .first ≤ mostBytes)
+  -- a done size call tells the size of the file, which is at most 67,108,978
+  pub size-told : {s : Answer} → s ≡ answerOf (saySize (widthOf f) n l) → s .number ≡ 0 → (s ≡ say 0 (fileSize newSize (widthOf f) (levelsOf l) n) 0) × (s .first ≤ mostBytes)
   size-told {s} told z =
       let p = size-passes (is-done (saySize (widthOf f) n l) s told z) in
-      let e = told ∙ ap answerOf (size-says ∙ through (depthChecks f l n) (Done (fileSize headSize (widthOf f) (levelsOf l) n) 0) p) in
+      let e = told ∙ ap answerOf (size-says ∙ through (depthChecks f l n) (Done (fileSize newSize (widthOf f) (levelsOf l) n) 0) p) in
       let most = file-most f i (levelsOf l) n (roomy (depthOf (waveletOf f) n) (levelsOf l) (p .1 .0)) (roomy mostSamples n (p .0)) in
       (e, omega (arith, ap (λ (a : Answer). a .first) e, most))
 
--- n samples in x, a file area b, and work areas u and v of p and q samples
-module _ (f : Filter) (i : Integers f) (l n : ℕ) (x b u v : List ℕ) (p q : ℕ) (ex : length x ≡ widthOf f * n) (eu : length u ≡ widthOf f * p) (ev : length v ≡ widthOf f * q) where
+-- n samples in x, a rate y, a file area b, and work areas u and v of p and q samples
+module _ (f : Filter) (i : Integers f) (l n y : ℕ) (some : 0 < y) (x b u v : List ℕ) (p q : ℕ) (ex : length x ≡ widthOf f * n) (eu : length u ≡ widthOf f * p) (ev : length v ≡ widthOf f * q) where
   abbrev k : ℕ
   k = widthOf f
 
   abbrev size : ℕ
-  size = fileSize headSize k (levelsOf l) n
+  size = fileSize newSize k (levelsOf l) n
 
   abbrev depth : List Check
   depth = depthChecks f l n
@@ -73,13 +74,13 @@ module _ (f : Filter) (i : Integers f) (l n : ℕ) (x b u v : List ℕ) (p q : �
   rooms = tight (length b) size ∷ twoAreas p q n
 
   abbrev writing : Refusal
-  writing = sayWrite f l (length x) (length b) (length u) (length v)
+  writing = sayWrite f l y (length x) (length b) (length u) (length v)
 
   write-says : writing ≡ firstOf (depth ++ rooms) (Done 0 0)
   unfolding sayWrite
   write-says =
-      pass-on (ragged k (length x) ∷ ragged k (length u) ∷ ragged k (length v) ∷ []) (writeChecks f l (length x / k) (length b) (length u / k) (length v / k)) (Done 0 0)
-      (whole-passes k n (length x) ex, (whole-passes k p (length u) eu, (whole-passes k q (length v) ev, tt)))
+      pass-on (ragged k (length x) ∷ ragged k (length u) ∷ ragged k (length v) ∷ (eqb y 0, NoRate) ∷ []) (writeChecks f l (length x / k) (length b) (length u / k) (length v / k)) (Done 0 0)
+      (whole-passes k n (length x) ex, (whole-passes k p (length u) eu, (whole-passes k q (length v) ev, (ne-eqb y 0 (λ z. omega arith), tt))))
       ∙ rw (count-is k n (length x) (width-pos f) ex, count-is k p (length u) (width-pos f) eu, count-is k q (length v) (width-pos f) ev)
 
   as-refused : done (saySize k n l) ≡ false → writing ≡ saySize k n l
@@ -90,7 +91,7 @@ module _ (f : Filter) (i : Integers f) (l n : ℕ) (x b u v : List ℕ) (p q : �
       write-says ∙ then-stop depth rooms (Done 0 0) (ap done e ∙ g) ∙ e ∙ sym said
 
   -- about the calls: s is what the size call answered, r what a write of the samples x answered
-  module _ (y : ℕ) {s r : Answer} {b′ u′ v′ : List ℕ} (told : s ≡ answerOf (saySize (widthOf f) n l)) (w : Write f l y x b u v r b′ u′ v′) where
+  module _ (point : ℕ) {s r : Answer} {b′ u′ v′ : List ℕ} (told : s ≡ answerOf (saySize (widthOf f) n l)) (w : Write f l point y x b u v r b′ u′ v′) where
     -- a size that is refused: writing gives the same answer
     pub size-refused : (s .number ≡ 0 → ⊥) → r ≡ s
     size-refused z = w .answer ∙ ap answerOf (as-refused (not-done (saySize k n l) s told z)) ∙ sym told

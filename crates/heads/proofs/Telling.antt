@@ -1,5 +1,5 @@
--- What the head of a file tells beside opening: a file that opens tells the width and the point that it opens for, and the number of samples that its count comes
--- from.
+-- What the head of a file tells beside opening: a file that opens tells the width and the point that it opens for, its rate, and the number of samples that its count
+-- comes from.
 use mathlib.Core.Bool.{cond}
 use mathlib.Core.List.{List}
 use mathlib.Core.Path.{_≡_, sym, ap, _∙_}
@@ -10,10 +10,10 @@ use Rattle.answers.specs.declared.err.Answer.{Answer}
 use Rattle.answers.specs.declared.err.Refusal.the-variants.{Done}
 use Rattle.answers.specs.Answers.{answerOf, say}
 use Rattle.answers.proofs.Endings.{is-done}
-use Rattle.answers.proofs.Passed.{Passing, both-pass, through, right}
+use Rattle.answers.proofs.Passed.{Passing, through, right}
 use Rattle.sizes.specs.Levels.{countAt}
-use Rattle.pyramid.specs.Opens.{headIn, startChecks, fieldChecks, levelIn, sayOpen, Open}
-use Rattle.pyramid.proofs.Opening.{open-head, open-says}
+use Rattle.pyramid.specs.Opens.{headIn, rateIn, startChecks, levelIn, sayOpen, rateOpened, Open}
+use Rattle.pyramid.proofs.Opening.{head-parts, open-head, open-says, open-rate}
 use Rattle.heads.specs.declared.HeadAnswer.{HeadAnswer}
 use Rattle.heads.specs.Heads.{sayHead, toldOf, Told, Tells}
 
@@ -29,7 +29,7 @@ told-decides m n = λ i. record {
 }
 
 -- an answer that is done tells all fields as section 0 has them
-pub done-tells : {s : List ℕ} {t : HeadAnswer} → Told s t → t .answer .number ≡ 0 → Tells t (headIn s)
+pub done-tells : {s : List ℕ} {t : HeadAnswer} → Told s t → t .answer .number ≡ 0 → Tells t (headIn s) (rateIn s)
 done-tells {s} {t} m z =
     let d = is-done (sayHead s) (t .answer) (m .answer) z in
     let all : (n : ℕ) → toldOf s n ≡ n = λ n. ap (λ b. cond b n 0) d in
@@ -38,7 +38,7 @@ done-tells {s} {t} m z =
       levels = m .levels ∙ all (headIn s .levels);
       samples = m .samples ∙ all (headIn s .samples);
       point = m .point ∙ all (headIn s .point);
-      rate = m .rate;
+      rate = m .rate ∙ all (rateIn s);
     }
 
 -- where the start of the file passes, the answer is done
@@ -46,14 +46,14 @@ pub start-done : {s : List ℕ} {t : HeadAnswer} → Passing (startChecks s) →
 unfolding sayHead
 start-done {s} p m = m .answer ∙ ap answerOf (through (startChecks s) (Done 0 0) p)
 
--- a file that opens tells the width and the point that it opens for; the level that it opens at is one of its levels or 0, and the count is that of its samples
--- at this level
+-- a file that opens tells the width and the point that it opens for, and the rate that opening gives; the level that it opens at is one of its levels or 0, and the
+-- count is that of its samples at this level
 pub opened-told : {s : List ℕ} {w p : ℕ} {o u v : List ℕ} {r : Answer} {o′ u′ v′ : List ℕ} {t : HeadAnswer} → Open s w p o u v r o′ u′ v′ → r .number ≡ 0 → Told s t
-    → (t .answer ≡ say 0 0 0) × (t .width ≡ w) × (t .point ≡ p) × (r .first ≤ t .levels) × (r .second ≡ countAt (r .first) (t .samples))
+    → (t .answer ≡ say 0 0 0) × (t .width ≡ w) × (t .point ≡ p) × (t .rate ≡ rateOpened s w p (length o) (length u) (length v)) × (r .first ≤ t .levels) × (r .second ≡ countAt (r .first) (t .samples))
 opened-told {s} {w} {p} {o} {u} {v} {r} {t = t} call z m =
     let said = sayOpen s w p (length o) (length u) (length v) in
     let d = is-done said r (call .answer) z in
-    let q = both-pass (startChecks s) (fieldChecks (headIn s) w p) (open-head s w p (length o) (length u) (length v) d) in
+    let q = head-parts s w p (open-head s w p (length o) (length u) (length v) d) in
     let a = start-done {s = s} {t = t} (q .0) m in
     let f = done-tells m (ap (λ (b : Answer). b .number) a) in
     let e = call .answer ∙ ap answerOf (open-says s w p (length o) (length u) (length v) d .0) in
@@ -62,6 +62,7 @@ opened-told {s} {w} {p} {o} {u} {v} {r} {t = t} call z m =
       a,
       f .width ∙ right (headIn s .width) w (q .1 .0),
       f .point ∙ right (headIn s .point) p (q .1 .1 .1 .1 .1 .1 .1 .0),
+      f .rate ∙ sym (open-rate s w p (length o) (length u) (length v) d),
       omega (arith, level, below, f .levels),
       ap (λ (b : Answer). b .second) e ∙ ap (λ (n : ℕ). countAt (levelIn s) n) (sym (f .samples)) ∙ ap (λ (l : ℕ). countAt l (t .samples)) (sym level),
     )

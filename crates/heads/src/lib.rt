@@ -8,13 +8,14 @@ use answers::err::is_done;
 use answers::err::numbers;
 use dwt::levels::check_depth;
 use pyramid::head::head_in;
+use pyramid::head::rate_in;
 use pyramid::open::check_start;
 use pyramid::open::filter_of;
 use pyramid::open::is_width;
 use pyramid::size::file_size;
 use sizes::at_least_one;
 
-// The answer, and what section 0 says as it is stored: zeros where the call is refused. No file has a rate yet.
+// The answer, and what section 0 says as it is stored: zeros where the call is refused. An old file has no rate, 0.
 #[repr(C)]
 pub struct HeadAnswer {
     pub answer: Answer,
@@ -48,7 +49,7 @@ pub fn head(s: &[u8]) -> HeadAnswer
         levels: h.levels as u32,
         samples: h.samples as u32,
         point: h.point as u32,
-        rate: 0,
+        rate: rate_in(s),
     }
 }
 

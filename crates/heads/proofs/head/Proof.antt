@@ -2,14 +2,16 @@
 use borrow.Author.Needs.{needs}
 use borrow.Author.Tests.{not-true, not-false}
 use mathlib.Core.Bool.{Bool, true, cond}
-use mathlib.Core.Path.{_≡_, refl, sym, ap, _∙_}
-use Prim.Native.Nat.{ℕ}
+use mathlib.Core.Path.{_≡_, sym, ap, _∙_}
+use Prim.Native.Nat.{ℕ, _≤_}
 use native.Mathlib.Omega.{arith}
+use lib.ListN.{length}
 use Rattle.answers.specs.declared.err.Refusal.the-variants.{Done}
 use Rattle.answers.specs.Answers.{answerOf, done}
 use Rattle.answers.proofs.Passed.{passing}
 use Rattle.pyramid.specs.declared.head.Head.{Head}
-use Rattle.pyramid.specs.Opens.{headIn, startChecks}
+use Rattle.pyramid.specs.Files.{commonSize}
+use Rattle.pyramid.specs.Opens.{headIn, rateIn, startChecks}
 use Rattle.pyramid.proofs.Opening.{start-refuses, start-passes}
 use Rattle.heads.specs.Heads.{sayHead}
 use Rattle.heads.proofs.head.Statement.{statement}
@@ -26,7 +28,8 @@ starts c = sym (ap done (c .before .before .before .check-start .ensures)) ∙ s
 returns : tie.Need-returns
 unfolding sayHead
 returns c =
-    let h = headIn (c .before .before .before .before .before .args .s .now) in
+    let s = c .before .before .before .before .before .args .s .now in
+    let h = headIn s in
     let e = c .before .before .before .check-start .ensures in
     let d = sym (ap done e) ∙ sym (c .before .is-done .ensures) ∙ not-true _ (c .if1 .taken) in
     record {
@@ -35,33 +38,35 @@ returns c =
       levels = kept (h .levels) d;
       samples = kept (h .samples) d;
       point = kept (h .point) d;
-      rate = refl;
+      rate = kept (rateIn s) d;
     }
 
-head-in-requires : tie.Need-head-in-requires
+there : (c : tie.Else1) → let s = c .before .before .before .before .before .args .s .now in (commonSize ≤ length s) × (headIn s .body ≤ length s)
 unfolding sayHead
-head-in-requires c κs = let s = c .before .before .before .before .before .args .s .now in start-passes s (passing (startChecks s) (Done 0 0) (start-refuses s) (starts c))
+there c = let s = c .before .before .before .before .before .args .s .now in start-passes s (passing (startChecks s) (Done 0 0) (start-refuses s) (starts c))
 
 returns-2 : tie.Need-returns-2
 unfolding sayHead
 returns-2 c =
-    let e = c .before .before .before .before .head-in .ensures .0 in
-    let d = starts (c .before .before .before .before .before) in
-    let h = headIn (c .before .before .before .before .before .before .before .before .before .before .args .s .now) in
+    let e = c .before .before .before .before .before .head-in .ensures .0 in
+    let then = c .before .before .before .before .before .before in
+    let d = starts then in
+    let s = then .before .before .before .before .before .args .s .now in
+    let h = headIn s in
     record {
-      answer = c .before .before .before .before .before .before .before .numbers .ensures ∙ ap answerOf (c .before .before .before .before .before .before .before .before .check-start .ensures);
+      answer = then .before .before .numbers .ensures ∙ ap answerOf (then .before .before .before .check-start .ensures);
       width = ap (λ (h : Head). h .width) e ∙ kept (h .width) d;
       levels = ap (λ (h : Head). h .levels) e ∙ kept (h .levels) d;
       samples = ap (λ (h : Head). h .samples) e ∙ kept (h .samples) d;
       point = ap (λ (h : Head). h .point) e ∙ kept (h .point) d;
-      rate = refl;
+      rate = c .rate-in .ensures ∙ kept (rateIn s) d;
     }
 
 pub head-spec : {M : Type 1} → statement M
 head-spec =
     tie.close
     (tie.spec
-    (λ c κs. search needs) (λ c κs. search needs) (λ c κs. search needs) returns head-in-requires
+    (λ c κs. search needs) (λ c κs. search needs) (λ c κs. search needs) returns (λ c κs. there c .0)
     (λ c. omega (arith, c .before .head-in .ensures .1)) (λ c. omega (arith, c .before .before .head-in .ensures .1))
     (λ c. omega (arith, c .before .before .before .head-in .ensures .1)) (λ c. omega (arith, c .before .before .before .before .head-in .ensures .1))
-    returns-2)
+    (λ c κs. there (c .before .before .before .before .before) .1) returns-2)

@@ -16,7 +16,7 @@ use Rattle.dwt.specs.declared.filter.Filter.{Filter}
 use Rattle.dwt.specs.Filters.{waveletOf, widthOf}
 use Rattle.dwt.specs.Calls.{depthChecks}
 use Rattle.dwt.proofs.Multi.{depth-refuse}
-use Rattle.pyramid.specs.Files.{headSize, fileSize}
+use Rattle.pyramid.specs.Files.{newSize, fileSize}
 use Rattle.pyramid.proofs.Opening.{filter-width}
 use Rattle.dwt.proofs.Cuts.{few-levels}
 use Rattle.heads.specs.Heads.{saySize}
@@ -25,11 +25,11 @@ use Rattle.heads.proofs.size.Tie as tie
 
 -- past the width: what the rest of the list says, of the filter that the code asks
 past : (c : tie.After-filter-of) {z : Refusal} → let a = c .before .before .before .args in
-    z ≡ firstOf (depthChecks (c .filter-of .result) (a .levels) (a .n)) (Done (fileSize headSize (a .w) (levelsOf (a .levels)) (a .n)) 0) → answerOf z ≡ answerOf (saySize (a .w) (a .n) (a .levels))
+    z ≡ firstOf (depthChecks (c .filter-of .result) (a .levels) (a .n)) (Done (fileSize newSize (a .w) (levelsOf (a .levels)) (a .n)) 0) → answerOf z ≡ answerOf (saySize (a .w) (a .n) (a .levels))
 unfolding saySize
 past c q =
     let a = c .before .before .before .args in
-    let e = Done (fileSize headSize (a .w) (levelsOf (a .levels)) (a .n)) 0 in
+    let e = Done (fileSize newSize (a .w) (levelsOf (a .levels)) (a .n)) 0 in
     let known = sym (c .before .before .is-width .ensures) ∙ not-false _ (c .before .if1 .left) in
     ap answerOf (by _ (ap not known) (q ∙ ap (λ (f : Filter). firstOf (depthChecks f (a .levels) (a .n)) e) (c .filter-of .ensures)))
 
@@ -69,7 +69,7 @@ returns-3 c =
     let f = w .filter-of .result in
     let known = sym (w .before .before .is-width .ensures) ∙ not-false _ (w .before .if1 .left) in
     let width : widthOf f ≡ a .w = ap widthOf (w .filter-of .ensures) ∙ filter-width (a .w) known in
-    let size = c .before .file-size .ensures ∙ ap₂ (λ (k l : ℕ). fileSize headSize k l (a .n)) width (c .before .before .at-least-one .ensures) in
+    let size = c .before .file-size .ensures ∙ ap₂ (λ (k l : ℕ). fileSize newSize k l (a .n)) width (c .before .before .at-least-one .ensures) in
     c .numbers3 .ensures ∙ past w (ap (λ (z : ℕ). Done z 0) size ∙ sym (through (depthChecks f (a .levels) (a .n)) _ (passes (c .before .before .before))))
 
 pub size-spec : {M : Type 1} → statement M

@@ -31,7 +31,7 @@ returns c =
     let head = c .before .before .before .before .before .before .before .before .before .before .before .before .before .lay-head in
     let la = c .before .before .before .before .before .before .lay-bands in
     let m : size .result - newSize ≡ bodySize (widthOf (a .f)) (a .levels) (a .n) = omega (arith, size .ensures) in (
-      file-laid (a .f) (a .levels) (a .n) (a .point) (a .rate) (size .result - newSize) (a .signal .now) (a .file .now) (head .last .1 .1 .1 .1 .0) (la .last .1 .1 .1 .1 .1 .0) (st .pre .1 .1) (st .pre .0 .whole) m (rw (c .before .before .before .before .before .before .before .before .before .before .before .before .before .before .before .width .ensures .0) at (head .ensures))
+      file-laid (a .f) (a .levels) (a .n) (a .point) (a .rate) (size .result - newSize) (a .signal .now) (a .file .now) (head .last .1 .1 .1 .1 .1 .0) (la .last .1 .1 .1 .1 .1 .0) (st .pre .1 .1) (st .pre .0 .whole) m (rw (c .before .before .before .before .before .before .before .before .before .before .before .before .before .before .before .width .ensures .0) at (head .ensures))
           (la .ensures .0),
       (la .ensures .1 .0, la .ensures .1 .1),
     )
