@@ -1,6 +1,5 @@
--- What follows of a file that was cut anywhere: opening it is done, 7 or 10, so never 8, 9, 11 or 12; the whole file gives the samples, and
--- nothing less does. Each of the integer
--- filters.
+-- What follows of a file that was cut anywhere: opening it is done, 7 or 10, so never 8, 9, 11, 12 or 18; the whole file gives the samples, and nothing less
+-- does. Each of the integer filters.
 use mathlib.Core.List.{List}
 use mathlib.Core.Logic.{_⊎_, inl, inr, ⊎-elim}
 use mathlib.Core.Path.{_≡_, refl, sym, ap, subst, _∙_}
@@ -40,12 +39,13 @@ only-whole z k zero n b h c e = omega arith
 only-whole z k (suc l) n b h c e =
     omega (arith, whole-is z k (suc l) n b c, whole-less k l n (b - z) (omega arith), whole-most k l (approxLength n) (b - z))
 
--- the number of an answer is none of those of a file of another width, with a wrong count, for another point, or with bytes behind it
+-- the number of an answer is none of those of a file of another width, with a wrong count, for another point, with bytes behind it, or without the rate that its kind has
 pub record Unmixed (r : Answer) : Type 0 where
   pub no-width : r .number ≡ 8 → ⊥
   pub no-count : r .number ≡ 9 → ⊥
   pub no-point : r .number ≡ 11 → ⊥
   pub no-trail : r .number ≡ 12 → ⊥
+  pub no-rate : r .number ≡ 18 → ⊥
 
 -- done, no room, or cut short
 abbrev pub Plain : Answer → Type 0
@@ -86,8 +86,8 @@ module _ {z : ℕ} {f : Filter} {l n p : ℕ} {x s : List ℕ} (d : Filed z f l 
   pub never-other : (b : ℕ) → b ≤ fileSize z k l n → Unmixed (answerOf (sayOpen (take b s) k p o u v))
   never-other b e =
       ⊎-elim
-      (λ z. record { no-width = λ h. omega arith; no-count = λ h. omega arith; no-point = λ h. omega arith; no-trail = λ h. omega arith })
+      (λ z. record { no-width = λ h. omega arith; no-count = λ h. omega arith; no-point = λ h. omega arith; no-trail = λ h. omega arith; no-rate = λ h. omega arith })
       (⊎-elim
-      (λ z. record { no-width = λ h. omega arith; no-count = λ h. omega arith; no-point = λ h. omega arith; no-trail = λ h. omega arith })
-      (λ z. record { no-width = λ h. omega arith; no-count = λ h. omega arith; no-point = λ h. omega arith; no-trail = λ h. omega arith }))
+      (λ z. record { no-width = λ h. omega arith; no-count = λ h. omega arith; no-point = λ h. omega arith; no-trail = λ h. omega arith; no-rate = λ h. omega arith })
+      (λ z. record { no-width = λ h. omega arith; no-count = λ h. omega arith; no-point = λ h. omega arith; no-trail = λ h. omega arith; no-rate = λ h. omega arith }))
       (plain b e)

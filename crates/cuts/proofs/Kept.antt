@@ -18,21 +18,21 @@ use Rattle.samples.specs.Le.{Bytes}
 use Rattle.dwt.proofs.Integers.{wavelet-is}
 use Rattle.dwt.specs.declared.filter.Filter.{Filter}
 use Rattle.dwt.specs.Filters.{widthOf, Integers}
-use Rattle.pyramid.specs.Files.{headSize, fileOf, fileSize}
-use Rattle.pyramid.specs.Opens.{Open}
+use Rattle.pyramid.specs.Files.{newSize, fileOf, fileSize}
+use Rattle.pyramid.specs.Opens.{rateIn, Open}
 use Rattle.pyramid.specs.Writes.{sayWrite, Write}
-use Rattle.pyramid.proofs.Writing.{write-ready}
+use Rattle.pyramid.proofs.Writing.{new-size, size-most, write-ready}
 use Rattle.cuts.specs.Sees.{Openings}
 use Rattle.cuts.proofs.Filed.{Recording, Filed, all-length}
-use Rattle.cuts.proofs.WrittenHead.{filed}
+use Rattle.cuts.proofs.WrittenHead.{filed, rate-read}
 use Rattle.cuts.proofs.Opened.{openings}
 
 -- samples that were written are a recording
-pub recorded : (f : Filter) (l p : ℕ) (x : List ℕ) (b u v : ℕ) → Integers f → Bytes x → p < 2 ^ 32 → done (sayWrite f l (length x) b u v) ≡ true
+pub recorded : (f : Filter) (l p rate : ℕ) (x : List ℕ) (b u v : ℕ) → Integers f → Bytes x → p < 2 ^ 32 → done (sayWrite f l rate (length x) b u v) ≡ true
     → Recording f (levelsOf l) (length x / widthOf f) p x
-recorded f l p x b u v i bx hp h =
+recorded f l p rate x b u v i bx hp h =
     let n = length x / widthOf f in
-    let r = write-ready f l (length x) b u v h .0 in
+    let r = write-ready f l rate (length x) b u v h .ready in
     let deep : levelsOf l ≤ depthOf Cdf53 n = subst (λ (y : Wavelet). levelsOf l ≤ depthOf y n) (wavelet-is f i) (r .deep) in
     let st = step 3 (omega arith) 0 n (omega (arith, r .some)) in
     record {
@@ -46,38 +46,48 @@ recorded f l p x b u v i bx hp h =
       point = hp;
     }
 
--- a done write: f, l, p and x are what it was given
-module _ (f : Filter) (l p : ℕ) (x : List ℕ) (i : Integers f) (bx : Bytes x) (hp : p < 2 ^ 32) where
+-- a done write: f, l, p, the rate and x are what it was given
+module _ (f : Filter) (l p rate : ℕ) (x : List ℕ) (i : Integers f) (bx : Bytes x) (hp : p < 2 ^ 32) (hr : rate < 2 ^ 32) where
   -- what it wrote is a file of the recording
-  pub written : (b u v : List ℕ) (a : Answer) (b′ u′ v′ : List ℕ) → Write f l p x b u v a b′ u′ v′ → a .number ≡ 0
-      → Filed headSize f (levelsOf l) (length x / widthOf f) p x (fileOf f (levelsOf l) p x)
-  written b u v a b′ u′ v′ w z = filed (recorded f l p x (length b) (length u) (length v) i bx hp (is-done (sayWrite f l (length x) (length b) (length u) (length v)) a (w .answer) z))
+  pub written : (b u v : List ℕ) (a : Answer) (b′ u′ v′ : List ℕ) → Write f l p rate x b u v a b′ u′ v′ → a .number ≡ 0
+      → Filed newSize f (levelsOf l) (length x / widthOf f) p x (fileOf f (levelsOf l) p rate x)
+  written b u v a b′ u′ v′ w z =
+      let d = is-done (sayWrite f l rate (length x) (length b) (length u) (length v)) a (w .answer) z in
+      subst (λ (y : ℕ). Filed y f (levelsOf l) (length x / widthOf f) p x (fileOf f (levelsOf l) p rate x)) (new-size rate (write-ready f l rate (length x) (length b) (length u) (length v) d .rate))
+      (filed (recorded f l p rate x (length b) (length u) (length v) i bx hp d) hr)
+
+  -- and says the rate, cut as it may be after section 0
+  pub written-rate : (b u v : List ℕ) (a : Answer) (b′ u′ v′ : List ℕ) → Write f l p rate x b u v a b′ u′ v′ → a .number ≡ 0
+      → (c : ℕ) → newSize ≤ c → rateIn (take c (fileOf f (levelsOf l) p rate x)) ≡ rate
+  written-rate b u v a b′ u′ v′ w z c h =
+      let d = is-done (sayWrite f l rate (length x) (length b) (length u) (length v)) a (w .answer) z in
+      rate-read (recorded f l p rate x (length b) (length u) (length v) i bx hp d) hr c (omega (arith, size-most rate))
 
   -- the file is at the front of the file area
-  pub file-in : (b u v : List ℕ) (a : Answer) (b′ u′ v′ : List ℕ) → Write f l p x b u v a b′ u′ v′ → a .number ≡ 0
-      → take (fileSize headSize (widthOf f) (levelsOf l) (length x / widthOf f)) b′ ≡ fileOf f (levelsOf l) p x
+  pub file-in : (b u v : List ℕ) (a : Answer) (b′ u′ v′ : List ℕ) → Write f l p rate x b u v a b′ u′ v′ → a .number ≡ 0
+      → take (fileSize newSize (widthOf f) (levelsOf l) (length x / widthOf f)) b′ ≡ fileOf f (levelsOf l) p rate x
   file-in b u v a b′ u′ v′ w z =
       let k = widthOf f in
       let n = length x / k in
-      let s = sayWrite f l (length x) (length b) (length u) (length v) in
-      let file = fileOf f (levelsOf l) p x in
-      let size = fileSize headSize k (levelsOf l) n in
+      let s = sayWrite f l rate (length x) (length b) (length u) (length v) in
+      let file = fileOf f (levelsOf l) p rate x in
+      let size = fileSize newSize k (levelsOf l) n in
       let d : done s ≡ true = is-done s a (w .answer) z in
       ap (take size) (w .output ∙ left-done s (file ++ drop size b) b d) ∙ take-at file (drop size b) size (all-length (written b u v a b′ u′ v′ w z))
 
   -- and its first c bytes are the file's
-  pub front-in : (b u v : List ℕ) (a : Answer) (b′ u′ v′ : List ℕ) → Write f l p x b u v a b′ u′ v′ → a .number ≡ 0
-      → (c : ℕ) → c ≤ fileSize headSize (widthOf f) (levelsOf l) (length x / widthOf f) → take c b′ ≡ take c (fileOf f (levelsOf l) p x)
-  front-in b u v a b′ u′ v′ w z c e = let size = fileSize headSize (widthOf f) (levelsOf l) (length x / widthOf f) in sym (take-take c size b′ e) ∙ ap (take c) (file-in b u v a b′ u′ v′ w z)
+  pub front-in : (b u v : List ℕ) (a : Answer) (b′ u′ v′ : List ℕ) → Write f l p rate x b u v a b′ u′ v′ → a .number ≡ 0
+      → (c : ℕ) → c ≤ fileSize newSize (widthOf f) (levelsOf l) (length x / widthOf f) → take c b′ ≡ take c (fileOf f (levelsOf l) p rate x)
+  front-in b u v a b′ u′ v′ w z c e = let size = fileSize newSize (widthOf f) (levelsOf l) (length x / widthOf f) in sym (take-take c size b′ e) ∙ ap (take c) (file-in b u v a b′ u′ v′ w z)
 
-  -- "two writes of one recording are the same bytes", whatever stood in what they were lent
-  pub same-file : (b u v : List ℕ) (a : Answer) (b′ u′ v′ : List ℕ) → Write f l p x b u v a b′ u′ v′ → a .number ≡ 0
-      → (c g h : List ℕ) (e : Answer) (c′ g′ h′ : List ℕ) → Write f l p x c g h e c′ g′ h′ → e .number ≡ 0
-      → take (fileSize headSize (widthOf f) (levelsOf l) (length x / widthOf f)) b′ ≡ take (fileSize headSize (widthOf f) (levelsOf l) (length x / widthOf f)) c′
+  -- "two writes of one recording are the same bytes", for one rate, whatever stood in what they were lent
+  pub same-file : (b u v : List ℕ) (a : Answer) (b′ u′ v′ : List ℕ) → Write f l p rate x b u v a b′ u′ v′ → a .number ≡ 0
+      → (c g h : List ℕ) (e : Answer) (c′ g′ h′ : List ℕ) → Write f l p rate x c g h e c′ g′ h′ → e .number ≡ 0
+      → take (fileSize newSize (widthOf f) (levelsOf l) (length x / widthOf f)) b′ ≡ take (fileSize newSize (widthOf f) (levelsOf l) (length x / widthOf f)) c′
   same-file b u v a b′ u′ v′ w z c g h e c′ g′ h′ w′ z′ = file-in b u v a b′ u′ v′ w z ∙ sym (file-in c g h e c′ g′ h′ w′ z′)
 
   -- and every front of it opens as `Openings` says
-  pub kept : (b u v : List ℕ) (a : Answer) (b′ u′ v′ : List ℕ) → Write f l p x b u v a b′ u′ v′ → a .number ≡ 0
-      → Openings headSize f (levelsOf l) (length x / widthOf f) p x b′
+  pub kept : (b u v : List ℕ) (a : Answer) (b′ u′ v′ : List ℕ) → Write f l p rate x b u v a b′ u′ v′ → a .number ≡ 0
+      → Openings newSize f (levelsOf l) (length x / widthOf f) p x b′
   kept b u v a b′ u′ v′ w z = λ c e o g h y room r o′ g′ h′ q.
       openings (written b u v a b′ u′ v′ w z) c e o g h y room r o′ g′ h′ (subst (λ (s : List ℕ). Open s (widthOf f) p o g h r o′ g′ h′) (front-in b u v a b′ u′ v′ w z c e) q)

@@ -12,6 +12,7 @@ pub mod CutSections
 pub mod Kept
 pub mod WriteFits
 pub mod Demand3
+pub mod Rates
 pub mod OpenT800
 pub mod SectionCalls
 pub mod HeadCalls

@@ -26,7 +26,7 @@ use Rattle.dwt.specs.Filters.{widthOf, Integers}
 use Rattle.dwt.specs.Pyramids.{approxAt}
 use Rattle.dwt.specs.Backward.{Area}
 use Rattle.dwt.proofs.Cuts.{width-pos}
-use Rattle.pyramid.specs.Files.{headSize, fileSize}
+use Rattle.pyramid.specs.Files.{newSize, fileSize}
 use Rattle.pyramid.specs.Opens.{fileChecks, levelIn, countIn, sayFile}
 use Rattle.pyramid.specs.Writes.{Write}
 use Rattle.peek.specs.declared.PeekAnswer.{PeekAnswer}
@@ -95,18 +95,18 @@ module _ {z : ℕ} {f : Filter} {l n p : ℕ} {x s : List ℕ} (d : Filed z f l 
       }
 
 -- the first bytes of what a done write left
-pub written-peeks : (f : Filter) (l p : ℕ) (x : List ℕ) → Integers f → Bytes x → p < 2 ^ 32 → (b u v : List ℕ) (a : Answer) (b′ u′ v′ : List ℕ)
-    → Write f l p x b u v a b′ u′ v′ → a .number ≡ 0 → Peekings headSize f (levelsOf l) (length x / widthOf f) p x b′
-written-peeks f l p x i bx hp b u v a b′ u′ v′ w z = λ c e j q m.
-    peeked (written f l p x i bx hp b u v a b′ u′ v′ w z) c e j q (subst (λ (s : List ℕ). Peek s (widthOf f) p j q) (front-in f l p x i bx hp b u v a b′ u′ v′ w z c e) m)
+pub written-peeks : (f : Filter) (l p rate : ℕ) (x : List ℕ) → Integers f → Bytes x → p < 2 ^ 32 → rate < 2 ^ 32 → (b u v : List ℕ) (a : Answer) (b′ u′ v′ : List ℕ)
+    → Write f l p rate x b u v a b′ u′ v′ → a .number ≡ 0 → Peekings newSize f (levelsOf l) (length x / widthOf f) p x b′
+written-peeks f l p rate x i bx hp hr b u v a b′ u′ v′ w z = λ c e j q m.
+    peeked (written f l p rate x i bx hp hr b u v a b′ u′ v′ w z) c e j q (subst (λ (s : List ℕ). Peek s (widthOf f) p j q) (front-in f l p rate x i bx hp hr b u v a b′ u′ v′ w z c e) m)
 
 -- demand 3, one sample at a time: with room the write is done, and each front of what it wrote is asked as `Peekings` says
-pub demand3-peeks : (f : Filter) → Integers f → (L n p : ℕ) → 1 ≤ L → L ≤ depthOf Cdf53 n → n ≤ mostSamples → p < 2 ^ 32 → (x : List ℕ) → Bytes x → length x ≡ widthOf f * n
-    → (b u v : List ℕ) → fileSize headSize (widthOf f) L n ≤ length b → Area (widthOf f) (length x) u → Area (widthOf f) (length x) v
-    → (a : Answer) (b′ u′ v′ : List ℕ) → Write f L p x b u v a b′ u′ v′ → (a ≡ say 0 0 0) × Peekings headSize f L n p x b′
-demand3-peeks f i L n p some deep most hp x bx size b u v file first second a b′ u′ v′ w =
+pub demand3-peeks : (f : Filter) → Integers f → (L n p rate : ℕ) → 1 ≤ L → L ≤ depthOf Cdf53 n → n ≤ mostSamples → p < 2 ^ 32 → 1 ≤ rate → rate < 2 ^ 32 → (x : List ℕ) → Bytes x → length x ≡ widthOf f * n
+    → (b u v : List ℕ) → fileSize newSize (widthOf f) L n ≤ length b → Area (widthOf f) (length x) u → Area (widthOf f) (length x) v
+    → (a : Answer) (b′ u′ v′ : List ℕ) → Write f L p rate x b u v a b′ u′ v′ → (a ≡ say 0 0 0) × Peekings newSize f L n p x b′
+demand3-peeks f i L n p rate some deep most hp hy hr x bx size b u v file first second a b′ u′ v′ w =
     let el : levelsOf L ≡ L = rw (ne-eqb L 0 (λ z. omega arith)) in
     let en : length x / widthOf f ≡ n = count-is (widthOf f) n (length x) (width-pos f) size in
-    let t = demand3-calls f i L n p some deep most hp x bx size b u v file first second a b′ u′ v′ w .0 in
-    let all = written-peeks f L p x i bx hp b u v a b′ u′ v′ w (ap (λ (q : Answer). q .number) t) in
-    (t, subst (λ (m : ℕ). Peekings headSize f L m p x b′) en (subst (λ (m : ℕ). Peekings headSize f m (length x / widthOf f) p x b′) el all))
+    let t = demand3-calls f i L n p rate some deep most hp hy hr x bx size b u v file first second a b′ u′ v′ w .0 in
+    let all = written-peeks f L p rate x i bx hp hr b u v a b′ u′ v′ w (ap (λ (q : Answer). q .number) t) in
+    (t, subst (λ (m : ℕ). Peekings newSize f L m p x b′) en (subst (λ (m : ℕ). Peekings newSize f m (length x / widthOf f) p x b′) el all))

@@ -19,7 +19,7 @@ use Rattle.dwt.specs.Filters.{widthOf, highOf, Integers}
 use Rattle.dwt.specs.Pyramids.{approxAt}
 use Rattle.dwt.specs.Calls.{sayMulti, Multi}
 use Rattle.trips.proofs.ThereAndBack.{call-approx, call-level}
-use Rattle.pyramid.specs.Files.{headSize, fileOf, fileSize}
+use Rattle.pyramid.specs.Files.{newSize, fileOf, fileSize}
 use Rattle.pyramid.specs.Opens.{headIn, lengthOf, startOf, sectionIn}
 use Rattle.pyramid.specs.Writes.{Write}
 use Rattle.cuts.specs.Sees.{sizeThrough}
@@ -64,8 +64,8 @@ module _ {z : ℕ} {f : Filter} {l n p : ℕ} {x s : List ℕ} (d : Filed z f l 
       ∙ ap (λ (q : ℕ). highOf f (approxAt f q x)) ei
 
 -- both calls are done
-module _ (f : Filter) (i : Integers f) (l p : ℕ) (hp : p < 2 ^ 32) (x : List ℕ) (bx : Bytes x)
-    (b u v : List ℕ) (a : Answer) (b′ u′ v′ : List ℕ) (w : Write f l p x b u v a b′ u′ v′) (z : a .number ≡ 0)
+module _ (f : Filter) (i : Integers f) (l p rate : ℕ) (hp : p < 2 ^ 32) (hr : rate < 2 ^ 32) (x : List ℕ) (bx : Bytes x)
+    (b u v : List ℕ) (a : Answer) (b′ u′ v′ : List ℕ) (w : Write f l p rate x b u v a b′ u′ v′) (z : a .number ≡ 0)
     (o g h : List ℕ) (r : Answer) (o′ g′ h′ : List ℕ) (m : Multi f l x o g h r o′ g′ h′) (y : r .number ≡ 0) where
   -- bytes of a sample, samples, levels
   abbrev k : ℕ
@@ -77,8 +77,8 @@ module _ (f : Filter) (i : Integers f) (l p : ℕ) (hp : p < 2 ^ 32) (x : List �
   abbrev L : ℕ
   L = levelsOf l
 
-  file : Filed headSize f L n p x (fileOf f L p x)
-  file = written f l p x i bx hp b u v a b′ u′ v′ w z
+  file : Filed newSize f L n p x (fileOf f L p rate x)
+  file = written f l p rate x i bx hp hr b u v a b′ u′ v′ w z
 
   made : done (sayMulti f l (length x) (length o) (length g) (length h)) ≡ true
   made = is-done (sayMulti f l (length x) (length o) (length g) (length h)) r (m .answer) y
@@ -90,11 +90,11 @@ module _ (f : Filter) (i : Integers f) (l p : ℕ) (hp : p < 2 ^ 32) (x : List �
       sym (call-level f l x m made (L - j) (omega arith)) ∙ ap (λ (q : ℕ). take (k * detailsLength (countAt (L - j) n)) (drop (k * countAt q n) o′)) e
 
   -- cut to c bytes, which have the section whole
-  pub section-in-cut : (c : ℕ) → c ≤ fileSize headSize k L n
-      → (sizeThrough headSize k L n 1 ≤ c → sectionIn (take c b′) k p 1 ≡ take (k * countAt L n) o′)
-      × ((j : ℕ) → 1 ≤ j → j ≤ L → sizeThrough headSize k L n (1 + j) ≤ c → sectionIn (take c b′) k p (1 + j) ≡ take (k * detailsLength (countAt (L - j) n)) (drop (k * countAt (L + 1 - j) n) o′))
+  pub section-in-cut : (c : ℕ) → c ≤ fileSize newSize k L n
+      → (sizeThrough newSize k L n 1 ≤ c → sectionIn (take c b′) k p 1 ≡ take (k * countAt L n) o′)
+      × ((j : ℕ) → 1 ≤ j → j ≤ L → sizeThrough newSize k L n (1 + j) ≤ c → sectionIn (take c b′) k p (1 + j) ≡ take (k * detailsLength (countAt (L - j) n)) (drop (k * countAt (L + 1 - j) n) o′))
   section-in-cut c e =
-      let front = front-in f l p x i bx hp b u v a b′ u′ v′ w z c e in (
+      let front = front-in f l p rate x i bx hp hr b u v a b′ u′ v′ w z c e in (
         λ up. ap (λ (s : List ℕ). sectionIn s k p 1) front ∙ file-first file c e up ∙ sym (call-approx f l x m made),
         λ j some most up.
             ap (λ (s : List ℕ). sectionIn s k p (1 + j)) front
@@ -103,8 +103,8 @@ module _ (f : Filter) (i : Integers f) (l p : ℕ) (hp : p < 2 ^ 32) (x : List �
       )
 
   -- the whole file: section 1 is the approximations, section 1 + j the details of level L + 1 - j
-  pub section-is-band : (sectionIn (take (fileSize headSize k L n) b′) k p 1 ≡ take (k * countAt L n) o′)
-      × ((j : ℕ) → 1 ≤ j → j ≤ L → sectionIn (take (fileSize headSize k L n) b′) k p (1 + j) ≡ take (k * detailsLength (countAt (L - j) n)) (drop (k * countAt (L + 1 - j) n) o′))
+  pub section-is-band : (sectionIn (take (fileSize newSize k L n) b′) k p 1 ≡ take (k * countAt L n) o′)
+      × ((j : ℕ) → 1 ≤ j → j ≤ L → sectionIn (take (fileSize newSize k L n) b′) k p (1 + j) ≡ take (k * detailsLength (countAt (L - j) n)) (drop (k * countAt (L + 1 - j) n) o′))
   section-is-band =
-      let t = section-in-cut (fileSize headSize k L n) (omega arith) in
-      (t .0 (up-most headSize k L n 0 (omega arith)), λ j some most. t .1 j some most (up-most headSize k L n j most))
+      let t = section-in-cut (fileSize newSize k L n) (omega arith) in
+      (t .0 (up-most newSize k L n 0 (omega arith)), λ j some most. t .1 j some most (up-most newSize k L n j most))

@@ -2,9 +2,11 @@
 use mathlib.Core.List.{_∷_}
 use mathlib.Core.Path.{_≡_}
 use Prim.Native.Nat.{ℕ, _*_, _/_, _≤_}
+use native.Mathlib.Omega.{arith}
 use native.Mathlib.Nat.{le-of-mul-le-mul-left}
-use borrow.Author.Tests.{le-ltb}
-use Rattle.answers.specs.declared.err.Refusal.the-variants.{Done}
+use borrow.Author.Tests.{le-ltb, ne-eqb}
+use lib.Dec.{eqb}
+use Rattle.answers.specs.declared.err.Refusal.the-variants.{Done, NoRate}
 use Rattle.answers.specs.Checks.{ragged}
 use Rattle.answers.proofs.Passed.{through}
 use Rattle.sizes.specs.Lengths.{mostSamples}
@@ -14,19 +16,19 @@ use Rattle.dwt.specs.declared.filter.Filter.{Filter}
 use Rattle.dwt.specs.Filters.{widthOf, waveletOf}
 use Rattle.dwt.specs.Calls.{Ready}
 use Rattle.dwt.proofs.Cuts.{width-pos}
-use Rattle.pyramid.specs.Files.{headSize, fileSize}
+use Rattle.pyramid.specs.Files.{newSize, fileSize}
 use Rattle.pyramid.specs.Writes.{writeChecks, sayWrite}
 
--- n samples that have the levels, a file area of b bytes with room for the file, and work areas of p and q samples
-pub write-fits : (f : Filter) (l n p q x b u v : ℕ) → Ready f (levelsOf l) n x u v → fileSize headSize (widthOf f) (levelsOf l) n ≤ b → u ≡ widthOf f * p → v ≡ widthOf f * q
-    → sayWrite f l x b u v ≡ Done 0 0
+-- n samples that have the levels, a rate, a file area of b bytes with room for the file, and work areas of p and q samples
+pub write-fits : (f : Filter) (l n rate p q x b u v : ℕ) → Ready f (levelsOf l) n x u v → fileSize newSize (widthOf f) (levelsOf l) n ≤ b → 1 ≤ rate → u ≡ widthOf f * p → v ≡ widthOf f * q
+    → sayWrite f l rate x b u v ≡ Done 0 0
 unfolding sayWrite
-write-fits f l n p q x b u v r room eu ev =
+write-fits f l n rate p q x b u v r room some eu ev =
     let k = widthOf f in
     let kp = width-pos f in
     let up : n ≤ p = le-of-mul-le-mul-left (rw eu at (r .first)) kp in
     let vp : n ≤ q = le-of-mul-le-mul-left (rw ev at (r .second)) kp in
-    through (ragged k x ∷ ragged k u ∷ ragged k v ∷ writeChecks f l (x / k) b (u / k) (v / k)) (Done 0 0)
+    through (ragged k x ∷ ragged k u ∷ ragged k v ∷ (eqb rate 0, NoRate) ∷ writeChecks f l (x / k) b (u / k) (v / k)) (Done 0 0)
     (rw (count-is k n x kp (r .whole), count-is k p u kp eu, count-is k q v kp ev) (
       whole-passes k n x (r .whole),
       (
@@ -34,10 +36,13 @@ write-fits f l n p q x b u v r room eu ev =
         (
           whole-passes k q v ev,
           (
-            le-ltb mostSamples n (r .short),
+            ne-eqb rate 0 (λ z. omega arith),
             (
-              le-ltb (depthOf (waveletOf f) n) (levelsOf l) (r .deep),
-              (le-ltb b (fileSize headSize k (levelsOf l) n) room, (le-ltb p n up, (le-ltb q n vp, tt))),
+              le-ltb mostSamples n (r .short),
+              (
+                le-ltb (depthOf (waveletOf f) n) (levelsOf l) (r .deep),
+                (le-ltb b (fileSize newSize k (levelsOf l) n) room, (le-ltb p n up, (le-ltb q n vp, tt))),
+              ),
             ),
           ),
         ),

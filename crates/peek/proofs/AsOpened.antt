@@ -72,7 +72,7 @@ way-never (Wrong j found) b = (λ z. omega arith, tt)
 file-never : (s : List ℕ) (w p : ℕ) → Never 7 (fileChecks s w p)
 file-never s w p =
     never-both 7 (headChecks s w p) (wayChecks (wayIn s (headIn s)) (length s))
-    (λ z. omega arith, (λ z. omega arith, (λ z. omega arith, (λ z. omega arith, (λ z. omega arith, (λ z. omega arith, (λ z. omega arith, (λ z. omega arith, (λ z. omega arith, (λ z. omega arith, tt))))))))))
+    (λ z. omega arith, (λ z. omega arith, (λ z. omega arith, (λ z. omega arith, (λ z. omega arith, (λ z. omega arith, (λ z. omega arith, (λ z. omega arith, (λ z. omega arith, (λ z. omega arith, (λ z. omega arith, (λ z. omega arith, tt))))))))))))
     (way-never (wayIn s (headIn s)) (length s))
 
 module _ (s : List ℕ) (w p : ℕ) where

@@ -84,7 +84,7 @@ peek-spec =
     tie.close
     (tie.spec
     (λ c κs. search needs) (λ c κs. search needs) (λ c κs. search needs) returns (λ c κs. search needs) (λ c κs. search needs) returns-2
-    (λ c κs. let a = c .before .before .before .before .before .before .args in file-restorable (a .s .now) (a .w) (a .p) (taken (c .before .before)) .head .there)
+    (λ c κs. let a = c .before .before .before .before .before .before .args in file-restorable (a .s .now) (a .w) (a .p) (taken (c .before .before)) .head .common)
     (λ c. let e = ap (λ (r : Answer). r .first) (told (c .before .before .before)) in omega (arith, e, ap (λ (h : Head). h .levels) (c .before .head-in .ensures .0)))
     word-of-requires (λ c κs. search needs)
     (λ c κs. let a = c .before .before .before .before .before .before .before .before .before .before .args in (width-of (a .w) (file-restorable (a .s .now) (a .w) (a .p) (taken (c .before .before .before .before .before .before)) .head .known), c .before .word-of .ensures .1))
