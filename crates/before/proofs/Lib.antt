@@ -1,0 +1,2 @@
+pub mod MeetsNew
+pub mod OldFiles

@@ -1,0 +1,160 @@
+-- Old files, and whatever else is not a new one, open as they did: what the opener says, and the samples that it gives. All that changed is at the ends: under 14
+-- bytes, where a wrong count is 9 now, and over 67,108,974, which is no longer 6 up to 67,108,978.
+use mathlib.Core.Bool.{Bool, true, false, cond, not, _||_, _&&_}
+use mathlib.Core.List.{List, [], _∷_, _++_}
+use mathlib.Core.Logic.{⊎-elim}
+use mathlib.Core.Path.{_≡_, refl, sym, ap, ap₂, _∙_}
+use Prim.Native.Nat.{ℕ, _+_, _-_, _≤_, _<_}
+use native.Mathlib.Omega.{arith}
+use borrow.Author.Tests.{lt-ltb, le-ltb, ne-eqb}
+use lib.Dec.{eqb}
+use lib.ListN.{length}
+use Rattle.answers.specs.declared.err.Refusal.{Refusal}
+use Rattle.answers.specs.declared.err.Refusal.the-variants.{Done, BadCount, CutShort}
+use Rattle.answers.specs.Answers.{done}
+use Rattle.answers.specs.Checks.{Check, firstOf}
+use Rattle.answers.proofs.Chain.{by, stop, same}
+use Rattle.answers.proofs.Passed.{Passing, pass-on}
+use Rattle.sizes.specs.Levels.{countAt}
+use Rattle.samples.specs.Le.{leAt}
+use Rattle.pyramid.specs.declared.head.Head.{Head}
+use Rattle.pyramid.specs.Files.{mostBytes, oldCount, newCount, isCount}
+use Rattle.pyramid.specs.Walks.{restoredAt}
+use Rattle.pyramid.specs.Opens.{headIn, rateIn, startChecks, fieldChecks, rateChecks, wayIn, wayChecks, fileChecks, wholeDetails, levelIn, countIn, samplesIn, areaChecks, roomsFor, sayOpen, rateOpened}
+use Rattle.pyramid.proofs.Opening.{which-count, whole-areas-pass}
+use Rattle.before.specs.Openers.{mostBefore, headBefore, startBefore, fileBefore, levelBefore, countBefore, samplesBefore, sayBefore, Whole}
+
+-- two lists behind the same part
+behind : (l m₁ m₂ : List Check) (e₁ e₂ : Refusal) → firstOf m₁ e₁ ≡ firstOf m₂ e₂ → firstOf (l ++ m₁) e₁ ≡ firstOf (l ++ m₂) e₂
+behind [] m₁ m₂ e₁ e₂ h = h
+behind (p ∷ l) m₁ m₂ e₁ e₂ h = ap (λ (r : Refusal). cond (p .0) (p .1) r) (behind l m₁ m₂ e₁ e₂ h)
+
+-- a count that is neither is not 10
+neither : (c : ℕ) → isCount c ≡ false → eqb c oldCount ≡ false
+neither c = pick (eqb c oldCount)
+  where
+    pick : (b : Bool) → (b || eqb c newCount) ≡ false → b ≡ false
+    pick true h = h
+    pick false h = refl
+
+-- what both openers say, behind the areas
+module _ (s : List ℕ) (w p o u v : ℕ) where
+  abbrev now : Refusal
+  now = firstOf (fileChecks s w p ++ roomsFor w (countIn s) o u v) (Done (levelIn s) (countIn s))
+
+  abbrev then : Refusal
+  then = firstOf (fileBefore s w p ++ roomsFor w (countBefore s) o u v) (Done (levelBefore s) (countBefore s))
+
+  alike : now ≡ then → sayOpen s w p o u v ≡ sayBefore s w p o u v
+  unfolding sayOpen sayBefore
+  alike h =
+      behind (areaChecks w o u v) (fileChecks s w p ++ roomsFor w (countIn s) o u v) (fileBefore s w p ++ roomsFor w (countBefore s) o u v) (Done (levelIn s) (countIn s))
+      (Done (levelBefore s) (countBefore s)) h
+
+  past-areas : Whole w o u v → (sayOpen s w p o u v ≡ now) × (sayBefore s w p o u v ≡ then)
+  unfolding sayOpen sayBefore
+  past-areas a =
+      let q = whole-areas-pass w o u v a in (
+        pass-on (areaChecks w o u v) (fileChecks s w p ++ roomsFor w (countIn s) o u v) (Done (levelIn s) (countIn s)) q,
+        pass-on (areaChecks w o u v) (fileBefore s w p ++ roomsFor w (countBefore s) o u v) (Done (levelBefore s) (countBefore s)) q,
+      )
+
+  -- ---- what is refused at the start
+
+  -- 14 bytes or more with a count that is neither: 9, as before
+  pub other-says : 14 ≤ length s → length s ≤ mostBefore → isCount (leAt 4 s 0) ≡ false → sayOpen s w p o u v ≡ sayBefore s w p o u v
+  other-says long short none =
+      let no = ap not none in
+      let ten = ap not (neither (leAt 4 s 0) none) in
+      alike
+      (sym (by _ (le-ltb mostBytes (length s) (omega arith)) (by _ (le-ltb (length s) 4 (omega arith)) (stop _ no refl)))
+      ∙ by _ (le-ltb mostBefore (length s) short) (by _ (le-ltb (length s) 14 long) (stop _ ten refl)))
+
+  -- under 4 bytes: 10, as before
+  pub few-says : length s < 4 → sayOpen s w p o u v ≡ sayBefore s w p o u v
+  few-says few =
+      alike
+      (sym (by _ (le-ltb mostBytes (length s) (omega arith)) (stop _ (lt-ltb (length s) 4 few) refl))
+      ∙ by _ (le-ltb mostBefore (length s) (omega arith)) (stop _ (lt-ltb (length s) 14 (omega arith)) refl))
+
+  -- 4 to 13 bytes with the count of either kind: 10, as before
+  pub short-says : 4 ≤ length s → length s < 14 → isCount (leAt 4 s 0) ≡ true → sayOpen s w p o u v ≡ sayBefore s w p o u v
+  short-says four short known =
+      let need : length s < headIn s .body = ⊎-elim (λ (e : leAt 4 s 0 ≡ oldCount). omega arith) (λ (e : leAt 4 s 0 ≡ newCount). omega arith) (which-count (leAt 4 s 0) known) in
+      alike
+      (sym (by _ (le-ltb mostBytes (length s) (omega arith)) (by _ (le-ltb (length s) 4 four) (by _ (ap not known) (stop _ (lt-ltb (length s) (headIn s .body) need) refl))))
+      ∙ by _ (le-ltb mostBefore (length s) (omega arith)) (stop _ (lt-ltb (length s) 14 short) refl))
+
+  -- and with any other count, which is what changed: 9 now, 10 before
+  pub short-changed : 4 ≤ length s → length s < 14 → isCount (leAt 4 s 0) ≡ false → Whole w o u v
+      → (sayOpen s w p o u v ≡ BadCount 0 (leAt 4 s 0)) × (sayBefore s w p o u v ≡ CutShort (length s))
+  short-changed four short none a =
+      let q = past-areas a in (
+        q .0 ∙ sym (by _ (le-ltb mostBytes (length s) (omega arith)) (by _ (le-ltb (length s) 4 four) (stop _ (ap not none) refl))),
+        q .1 ∙ sym (by _ (le-ltb mostBefore (length s) (omega arith)) (stop _ (lt-ltb (length s) 14 short) refl)),
+      )
+
+  -- over the limit of now: 6, as before
+  pub long-says : mostBytes < length s → sayOpen s w p o u v ≡ sayBefore s w p o u v
+  long-says long =
+      alike (sym (stop _ (lt-ltb mostBytes (length s) long) refl) ∙ stop _ (lt-ltb mostBefore (length s) (omega arith)) refl)
+
+-- ---- what opens
+
+-- a file of 14 bytes or more, and no more than the limit of before, with the count 10
+module _ (s : List ℕ) (long : 14 ≤ length s) (short : length s ≤ mostBefore) (count : leAt 4 s 0 ≡ oldCount) where
+  head-same : headIn s ≡ headBefore s
+  head-same = ap (λ (c : ℕ). record { width = leAt 1 s 4; levels = leAt 1 s 5; samples = leAt 4 s 6; point = leAt 4 s 10; body = 4 + c }) count
+
+  start-passes : Passing (startChecks s)
+  start-passes = (
+    le-ltb mostBytes (length s) (omega arith),
+    (le-ltb (length s) 4 (omega arith), (ap (λ (c : ℕ). not (isCount c)) count, (le-ltb (length s) (headIn s .body) (omega (arith, count)), tt))),
+  )
+
+  before-passes : Passing (startBefore s)
+  before-passes = (le-ltb mostBefore (length s) short, (le-ltb (length s) 14 long, (same (leAt 4 s 0) oldCount count, tt)))
+
+  rate-passes : Passing (rateChecks s)
+  rate-passes = (ap (λ (c : ℕ). eqb c newCount && eqb (cond (eqb c newCount) (leAt 4 s 14) 0) 0) count, tt)
+
+  -- all that is said from section 0's fields on
+  abbrev after : Head → ℕ → ℕ → ℕ → ℕ → ℕ → Refusal
+  after h w p o u v =
+      let m = wholeDetails (wayIn s h) (h .levels) in
+      let n = countAt (h .levels - m) (h .samples) in
+      firstOf (fieldChecks h w p ++ (wayChecks (wayIn s h) (length s) ++ roomsFor w n o u v)) (Done (h .levels - m) n)
+
+  now-says : (w p o u v : ℕ) → now s w p o u v ≡ after (headIn s) w p o u v
+  now-says w p o u v =
+      let way = wayChecks (wayIn s (headIn s)) (length s) ++ roomsFor w (countIn s) o u v in
+      let end = Done (levelIn s) (countIn s) in
+      pass-on (startChecks s) (fieldChecks (headIn s) w p ++ (rateChecks s ++ way)) end start-passes
+      ∙ behind (fieldChecks (headIn s) w p) (rateChecks s ++ way) way end end (pass-on (rateChecks s) way end rate-passes)
+
+  before-says : (w p o u v : ℕ) → then s w p o u v ≡ after (headBefore s) w p o u v
+  before-says w p o u v =
+      pass-on (startBefore s) (fieldChecks (headBefore s) w p ++ (wayChecks (wayIn s (headBefore s)) (length s) ++ roomsFor w (countBefore s) o u v)) (Done (levelBefore s) (countBefore s)) before-passes
+
+  -- it says what it said
+  pub old-says : (w p o u v : ℕ) → sayOpen s w p o u v ≡ sayBefore s w p o u v
+  old-says w p o u v = alike s w p o u v (now-says w p o u v ∙ ap (λ (h : Head). after h w p o u v) head-same ∙ sym (before-says w p o u v))
+
+  -- gives the samples that it gave, as many
+  pub old-samples : (samplesIn s ≡ samplesBefore s) × (countIn s ≡ countBefore s)
+  unfolding samplesIn samplesBefore
+  old-samples =
+      let all : Head → ℕ = λ h. countAt (h .levels - wholeDetails (wayIn s h) (h .levels)) (h .samples) in
+      (ap (λ (h : Head). restoredAt (h .width) s (wholeDetails (wayIn s h) (h .levels)) (all h) (h .body)) head-same, ap all head-same)
+
+  -- and no rate
+  pub old-rate : (w p o u v : ℕ) → rateOpened s w p o u v ≡ 0
+  unfolding rateOpened
+  old-rate w p o u v = pick (done (sayOpen s w p o u v))
+    where
+      none : rateIn s ≡ 0
+      none = ap (λ (c : ℕ). cond (eqb c newCount) (leAt 4 s 14) 0) count
+
+      pick : (b : Bool) → cond b (rateIn s) 0 ≡ 0
+      pick true = none
+      pick false = refl
