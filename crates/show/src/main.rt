@@ -3,11 +3,11 @@ ghost use Prim.Native.Nat.{_/_, _≤_};
 ghost use lib.ListN.{length};
 ghost use Rattle.samples.specs.Integers.{Width};
 ghost use Rattle.pyramid.specs.Opens.{Open, ownWidth, ownPoint};
-use answers::err::Answer;
 use libc::STDIN_FILENO;
 use libc::STDOUT_FILENO;
 use pyramid::head::Head;
 use pyramid::head::head_in;
+use pyramid::open::OpenAnswer;
 use pyramid::open::open;
 use pyramid::open::own_point;
 use pyramid::open::own_width;
@@ -44,12 +44,13 @@ fn print_number(v: Number) {
     end_line();
 }
 
-// What section 0 says.
-fn print_head(h: Head) {
+// What section 0 says; an old file has no rate, 0.
+fn print_head(h: Head, rate: u32) {
     print_named(b"point ", h.point as u64);
     print_named(b" width ", h.width as u64);
     print_named(b" samples ", h.samples as u64);
     print_named(b" levels ", h.levels as u64);
+    print_named(b" rate ", rate as u64);
     end_line();
 }
 
@@ -66,21 +67,22 @@ fn print_samples(k: usize, s: &[u8], n: usize)
 }
 
 // The file s, opened for the width and the point that its section 0 says, and for 1 and 0 where it has none.
-fn open_own(s: &[u8], out: &mut [u8], one: &mut [u8], two: &mut [u8]) -> Answer
-    ensures { λ r. ⌜ Open (now (s .entry)) (ownWidth (now (s .entry))) (ownPoint (now (s .entry))) (now (out .entry)) (now (one .entry)) (now (two .entry)) r (now (out .exit)) (now (one .exit)) (now (two .exit)) ⌝ }
+fn open_own(s: &[u8], out: &mut [u8], one: &mut [u8], two: &mut [u8]) -> OpenAnswer
+    ensures { λ r. ⌜ Open (now (s .entry)) (ownWidth (now (s .entry))) (ownPoint (now (s .entry))) (now (out .entry)) (now (one .entry)) (now (two .entry)) (r .answer) (now (out .exit)) (now (one .exit)) (now (two .exit)) ⌝ }
 {
     open(s, own_width(s), own_point(s), out, one, two)
 }
 
 // What opening the file s gives, by way of three areas.
 fn show(s: &[u8], out: &mut [u8], one: &mut [u8], two: &mut [u8]) {
-    let r = open_own(s, out, one, two);
+    let opened = open_own(s, out, one, two);
+    let r = opened.answer;
     if r.number != 0 {
         print_refused(r.number);
         return;
     }
     let h = head_in(s);
-    print_head(h);
+    print_head(h, opened.rate);
     print_named(b"level ", r.first);
     print_named(b" count ", r.second);
     end_line();

@@ -7,9 +7,9 @@ use Rattle.show.proofs.Shown.{Shown, shown}
 use Rattle.show.proofs.show.Statement.{statement}
 use Rattle.show.proofs.show.Tie as tie
 
-opened : (c : tie.Else1) → let d = c .before .before .before .before .before .before .before .before in Shown (d .before .before .before .before .before .before .before .before .args .s .now) (d .before .before .before .before .before .before .before .before .args .out .now) (d .open-own .result)
+opened : (c : tie.Else1) → let d = c .before .before .before .before .before .before .before .before .before in Shown (d .before .before .before .before .before .before .before .before .args .s .now) (d .before .before .before .before .before .before .before .before .args .out .now) (d .open-own .result .answer)
 opened c =
-    let d = c .before .before .before .before .before .before .before .before in
+    let d = c .before .before .before .before .before .before .before .before .before in
     let s = d .before .before .before .before .before .before .before .before .args .s .now in
     shown s (ownWidth s) (ownPoint s) (d .open-own .ensures) (c .if1 .left)
 
