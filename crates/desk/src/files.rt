@@ -1,8 +1,9 @@
 // Pyramid files: writing, opening, one sample, where a section is, what a file says of itself, and its size.
 ghost use mathlib.Core.Path.{_≡_};
+ghost use lib.ListN.{length};
 ghost use Rattle.answers.specs.Answers.{answerOf};
 ghost use Rattle.pyramid.specs.Writes.{Write};
-ghost use Rattle.pyramid.specs.Opens.{Open, saySection};
+ghost use Rattle.pyramid.specs.Opens.{Open, rateOpened, saySection};
 ghost use Rattle.heads.specs.Heads.{Told, saySize};
 ghost use Rattle.peek.specs.Peeks.{Peek};
 use answers::err::Answer;
@@ -12,6 +13,7 @@ use heads::head;
 use heads::size;
 use peek::PeekAnswer;
 use peek::peek;
+use pyramid::open::OpenAnswer;
 use pyramid::open::open;
 use pyramid::section::section_answer;
 use writes::write::write;
@@ -23,13 +25,14 @@ pub extern "C" fn bk_pyramid_write_i8(
     x: &[u8],
     levels: u32,
     point: u32,
+    rate: u32,
     file: &mut [u8],
     one: &mut [u8],
     two: &mut [u8],
 ) -> Answer
-    ensures { λ r. ⌜ Write Filter.Cdf53I8 levels point (now (x .entry)) (now (file .entry)) (now (one .entry)) (now (two .entry)) r (now (file .exit)) (now (one .exit)) (now (two .exit)) ⌝ }
+    ensures { λ r. ⌜ Write Filter.Cdf53I8 levels point rate (now (x .entry)) (now (file .entry)) (now (one .entry)) (now (two .entry)) r (now (file .exit)) (now (one .exit)) (now (two .exit)) ⌝ }
 {
-    write(Filter::Cdf53I8, levels as usize, point, x, file, one, two)
+    write(Filter::Cdf53I8, levels as usize, point, rate, x, file, one, two)
 }
 
 #[no_mangle]
@@ -37,13 +40,14 @@ pub extern "C" fn bk_pyramid_write_i16(
     x: &[u8],
     levels: u32,
     point: u32,
+    rate: u32,
     file: &mut [u8],
     one: &mut [u8],
     two: &mut [u8],
 ) -> Answer
-    ensures { λ r. ⌜ Write Filter.Cdf53I16 levels point (now (x .entry)) (now (file .entry)) (now (one .entry)) (now (two .entry)) r (now (file .exit)) (now (one .exit)) (now (two .exit)) ⌝ }
+    ensures { λ r. ⌜ Write Filter.Cdf53I16 levels point rate (now (x .entry)) (now (file .entry)) (now (one .entry)) (now (two .entry)) r (now (file .exit)) (now (one .exit)) (now (two .exit)) ⌝ }
 {
-    write(Filter::Cdf53I16, levels as usize, point, x, file, one, two)
+    write(Filter::Cdf53I16, levels as usize, point, rate, x, file, one, two)
 }
 
 #[no_mangle]
@@ -51,13 +55,14 @@ pub extern "C" fn bk_pyramid_write_i32(
     x: &[u8],
     levels: u32,
     point: u32,
+    rate: u32,
     file: &mut [u8],
     one: &mut [u8],
     two: &mut [u8],
 ) -> Answer
-    ensures { λ r. ⌜ Write Filter.Cdf53I32 levels point (now (x .entry)) (now (file .entry)) (now (one .entry)) (now (two .entry)) r (now (file .exit)) (now (one .exit)) (now (two .exit)) ⌝ }
+    ensures { λ r. ⌜ Write Filter.Cdf53I32 levels point rate (now (x .entry)) (now (file .entry)) (now (one .entry)) (now (two .entry)) r (now (file .exit)) (now (one .exit)) (now (two .exit)) ⌝ }
 {
-    write(Filter::Cdf53I32, levels as usize, point, x, file, one, two)
+    write(Filter::Cdf53I32, levels as usize, point, rate, x, file, one, two)
 }
 
 #[no_mangle]
@@ -68,8 +73,9 @@ pub extern "C" fn bk_pyramid_open(
     out: &mut [u8],
     one: &mut [u8],
     two: &mut [u8],
-) -> Answer
-    ensures { λ r. ⌜ Open (now (file .entry)) width point (now (out .entry)) (now (one .entry)) (now (two .entry)) r (now (out .exit)) (now (one .exit)) (now (two .exit)) ⌝ }
+) -> OpenAnswer
+    ensures { λ r. ⌜ Open (now (file .entry)) width point (now (out .entry)) (now (one .entry)) (now (two .entry)) (r .answer) (now (out .exit)) (now (one .exit)) (now (two .exit)) ⌝ }
+    ensures { λ r. ⌜ r .rate ≡ rateOpened (now (file .entry)) width point (length (now (out .entry))) (length (now (one .entry))) (length (now (two .entry))) ⌝ }
 {
     open(file, width as usize, point as usize, out, one, two)
 }

@@ -20,21 +20,25 @@ use Rattle.entries.specs.Books.{dataAt}
 use Rattle.route.specs.Maps.{AllLent, has, fileFor, mapTotal, bytesBefore, removed, mapAnswers}
 use Rattle.route.proofs.FileBytes.{file-bytes}
 use Rattle.route.proofs.IsMap.{is-map}
-use Rattle.figures.specs.Worked.{five}
-use Rattle.figures.specs.Book.{fileAt, day, asked, answered, Day}
+use Rattle.figures.specs.Worked.{five, unrated}
+use Rattle.figures.specs.Book.{oldAt, day, asked, answered, Day}
 use Rattle.figures.proofs.Files.{five-bytes}
+
+-- new bytes but for four zeros
+no-rate : Bytes unrated
+no-rate = ?
 
 lent : AllLent (asked day)
 unfolding AllLent asked
 lent =
-    let at : (p : ℕ) → Bytes (fileAt p) = λ p. file-bytes Cdf53I8 tt 2 p five (record { byte = five-bytes }) in
-    (at 14, (at 15, (tt, (at 15, (at 16, (tt, (tt, (tt, (tt, (tt, (at 15, (bytes-take 30 (fileAt 16) (at 16), (at 16, (tt, tt))))))))))))))
+    let at : (p r : ℕ) → Bytes (fileOf Cdf53I8 2 p r five) = λ p r. file-bytes Cdf53I8 tt 2 p r five (record { byte = five-bytes }) in
+    (at 14 0, (at 15 1000, (tt, (at 15 0, (at 16 0, (tt, (tt, (tt, (tt, (tt, (no-rate, (at 15 1000, (bytes-take 30 (oldAt 16) (at 16 0), (at 16 1000, (at 16 0, (tt, tt))))))))))))))))
 
-on-map : mapAnswers 62 [] (asked day) ≡ answered day
+on-map : mapAnswers 66 [] (asked day) ≡ answered day
 unfolding asked answered mapAnswers has fileFor mapTotal bytesBefore removed fileOf laidOut oneOf walkOf ownWidth afterLevels depthFrom depthWithin leAt leBytes tabulate wordAt wordsOf bytesOf val residue wrap decode encode detail details approx approxs low high
 on-map = refl
 
 pub a-day : Day
 a-day b b₀ b′ r rs h e f ran =
-    let n : length b - dataAt ≡ 62 = omega (arith, e) in
+    let n : length b - dataAt ≡ 66 = omega (arith, e) in
     is-map b h (omega (arith, e)) (omega (arith, e)) r b₀ f (asked day) lent rs b′ ran .1 ∙ ap (λ (m : ℕ). mapAnswers m [] (asked day)) n ∙ on-map

@@ -83,10 +83,10 @@ module _ (f : Filter) where
         back = λ a d o u v ea ed eo eu ev m.
             number-of (m .answer) (back-fits f 2 2 8 8 twoFour (length a) (length d) (length o) (length u) (length v) ea (rising (length d) (length u) (length v) (length o) ed eu ev eo) refl (omega arith) eu ev);
         writes = λ i x b u v ex eb eu ev m.
-            number-of (m .answer) (write-fits f 2 8 8 8 (length x) (length b) (length u) (length v) (ready (length x) (length u) (length v) ex eu ev) (omega (arith, eb)) eu ev);
-        opens = λ i x o u v bx ex eo eu ev m.
+            number-of (m .answer) (write-fits f 2 8 1000 8 8 (length x) (length b) (length u) (length v) (ready (length x) (length u) (length v) ex eu ev) (omega (arith, eb)) (omega arith) eu ev);
+        opens = λ i rate hr x o u v bx ex eo eu ev m.
             number-of (m .answer)
-            (opens-whole (filed (recording x i bx ex))
+            (opens-whole (filed (recording x i bx ex) hr)
             (record { output = whole (length o) eo; first = whole (length u) eu; second = whole (length v) ev })
             (record { output = omega (arith, eo); first = omega (arith, eu); second = omega (arith, ev) }) .says);
       }

@@ -9,7 +9,7 @@ use Rattle.cdf53i.specs.Bands.{low, high, back}
 use Rattle.cdf53i.specs.T800 as t800
 use Rattle.dwt.specs.Pyramids.{approxAt, pyramid, samplesOf}
 use Rattle.figures.specs.Worked.{Worked}
-use Rattle.figures.proofs.Files.{p6-to-p10}
+use Rattle.figures.proofs.Files.{p6-to-p10, new-file, new-checks}
 
 pub worked : Worked
 unfolding leAt leBytes tabulate wordAt wordsOf bytesOf val residue wrap decode encode detail details approx approxs even odd sample restored low high back afterLevels pyramid samplesOf t800.pse t800.extended t800.high
@@ -23,4 +23,6 @@ worked =
       p5 = record { down = refl; back = refl };
       p5-level1 = refl;
       p6-to-p10 = p6-to-p10;
+      new-file = new-file;
+      new-checks = new-checks;
     }

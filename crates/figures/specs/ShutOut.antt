@@ -26,7 +26,7 @@ use Rattle.dwt.specs.Filters.{widthOf, lowOf, highOf, Integers}
 use Rattle.dwt.specs.Pyramids.{approxAt}
 use Rattle.dwt.specs.Calls.{OneForward, OneInverse, Dwt, sayMulti, Multi}
 use Rattle.dwt.specs.Backward.{MultiBack}
-use Rattle.pyramid.specs.Files.{headSize, fileSize, fileOf}
+use Rattle.pyramid.specs.Files.{newSize, fileSize, fileOf}
 use Rattle.pyramid.specs.Writes.{Write}
 use Rattle.pyramid.specs.Opens.{Open, saySection, sectionIn}
 use Rattle.figures.specs.Worked.{neg, five, thirtyOne}
@@ -133,9 +133,9 @@ pub record EachDone (f : Filter) : Type 0 where
   pub last : {x a d u v : List ℕ} {r : Answer} {a′ d′ u′ v′ : List ℕ} → Long f 8 x → Long f 2 a → Long f 2 d → Long f 8 u → Long f 8 v → Dwt f 2 x a d u v r a′ d′ u′ v′ → r .number ≡ 0
   pub down : (x o u v : List ℕ) {r : Answer} {o′ u′ v′ : List ℕ} → Long f 8 x → Long f 8 o → Long f 8 u → Long f 8 v → Multi f 2 x o u v r o′ u′ v′ → r .number ≡ 0
   pub back : (a d o u v : List ℕ) {r : Answer} {o′ u′ v′ : List ℕ} → Long f 2 a → Long f 6 d → Long f 8 o → Long f 8 u → Long f 8 v → MultiBack f a d twoFour o u v r o′ u′ v′ → r .number ≡ 0
-  pub writes : Integers f → (x b u v : List ℕ) {r : Answer} {b′ u′ v′ : List ℕ} → Long f 8 x → length b ≡ fileSize headSize (widthOf f) 2 8 → Long f 8 u → Long f 8 v → Write f 2 14 x b u v r b′ u′ v′
+  pub writes : Integers f → (x b u v : List ℕ) {r : Answer} {b′ u′ v′ : List ℕ} → Long f 8 x → length b ≡ fileSize newSize (widthOf f) 2 8 → Long f 8 u → Long f 8 v → Write f 2 14 1000 x b u v r b′ u′ v′
       → r .number ≡ 0
-  pub opens : Integers f → (x o u v : List ℕ) {r : Answer} {o′ u′ v′ : List ℕ} → Bytes x → Long f 8 x → Long f 8 o → Long f 8 u → Long f 8 v → Open (fileOf f 2 14 x) (widthOf f) 14 o u v r o′ u′ v′
+  pub opens : Integers f → (rate : ℕ) → rate < 2 ^ 32 → (x o u v : List ℕ) {r : Answer} {o′ u′ v′ : List ℕ} → Bytes x → Long f 8 x → Long f 8 o → Long f 8 u → Long f 8 v → Open (fileOf f 2 14 rate x) (widthOf f) 14 o u v r o′ u′ v′
       → r .number ≡ 0
 
 pub record NotAllRefused : Type 0 where
@@ -143,7 +143,7 @@ pub record NotAllRefused : Type 0 where
   pub depth : (w : Wavelet) → sayDepth w 8 ≡ Done 2 0
   pub section : saySection thirtyOne 1 14 2 ≡ Done 24 1
   pub head : sayHead thirtyOne ≡ Done 0 0
-  pub size : saySize 1 5 2 ≡ Done 31 0
+  pub size : saySize 1 5 2 ≡ Done 35 0
   pub sample : sayPeek thirtyOne 1 14 2 ≡ Done 0 0
   pub column : sayColumn 5 1 3 ≡ Done 1 0
   pub span : saySpan Approx 5 1 1 ≡ Done 0 4

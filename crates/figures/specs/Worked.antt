@@ -1,18 +1,22 @@
--- Document 01, "Figures worked by hand": those marked P, one table under one statement. Samples are 8 bits wide.
+-- Document 01, "Figures worked by hand": those marked P, one table under one statement; and those of C-17, of the file with a rate. Samples are 8 bits wide.
 use mathlib.Core.List.{List, [], _∷_, _++_}
 use mathlib.Core.Path.{_≡_}
 use Prim.Native.Nat.{ℕ, _≤_}
 use lib.IntN.{ℤ, pos, negℤ}
-use lib.ListN.{take}
-use Rattle.answers.specs.declared.err.Refusal.the-variants.{CutShort}
+use lib.ListN.{take, drop}
+use Rattle.answers.specs.declared.err.Refusal.the-variants.{Done, BadCount, CutShort, OtherPoint, NoRate}
+use Rattle.answers.specs.Answers.{say}
 use Rattle.samples.specs.Integers.{encode}
 use Rattle.cdf53i.specs.Bands.{low, high, back}
 use Rattle.cdf53i.specs.T800 as t800
-use Rattle.dwt.specs.declared.filter.Filter.the-variants.{Cdf53I8}
+use Rattle.dwt.specs.declared.filter.Filter.the-variants.{Cdf53I8, Cdf53I16}
 use Rattle.dwt.specs.Pyramids.{approxAt, pyramid, samplesOf}
 use Rattle.cuts.specs.Sees.{OpensTo}
 use Rattle.pyramid.specs.Files.{fileOf}
-use Rattle.pyramid.specs.Opens.{sayOpen}
+use Rattle.pyramid.specs.Opens.{sayOpen, rateOpened, saySection}
+use Rattle.pyramid.specs.Writes.{sayWrite}
+use Rattle.heads.specs.declared.HeadAnswer.{HeadAnswer}
+use Rattle.heads.specs.Heads.{Told}
 
 -- the number -n
 abbrev pub neg : ℕ → ℤ
@@ -38,10 +42,19 @@ abbrev pub thirtyOne : List ℕ
 thirtyOne =
     0x0A ∷ 0 ∷ 0 ∷ 0 ∷ 0x01 ∷ 0x02 ∷ 0x05 ∷ 0 ∷ 0 ∷ 0 ∷ 0x0E ∷ 0 ∷ 0 ∷ 0 ∷ 0x02 ∷ 0 ∷ 0 ∷ 0 ∷ 0xFF ∷ 0x03 ∷ 0x01 ∷ 0 ∷ 0 ∷ 0 ∷ 0xF8 ∷ 0x02 ∷ 0 ∷ 0 ∷ 0 ∷ 0x05 ∷ 0 ∷ []
 
--- P5 as a file, opened for 8 bits and point 14, with output and work areas of five samples
+-- the same with a rate of 1,000 millihertz: 4 bytes more behind the point
+abbrev pub thirtyFive : List ℕ
+thirtyFive =
+    0x0E ∷ 0 ∷ 0 ∷ 0 ∷ 0x01 ∷ 0x02 ∷ 0x05 ∷ 0 ∷ 0 ∷ 0 ∷ 0x0E ∷ 0 ∷ 0 ∷ 0 ∷ 0xE8 ∷ 0x03 ∷ 0 ∷ 0 ∷ 0x02 ∷ 0 ∷ 0 ∷ 0 ∷ 0xFF ∷ 0x03 ∷ 0x01 ∷ 0 ∷ 0 ∷ 0 ∷ 0xF8 ∷ 0x02 ∷ 0 ∷ 0 ∷ 0 ∷ 0x05 ∷ 0 ∷ []
+
+-- and with a stored rate of 0, which nothing writes
+abbrev pub unrated : List ℕ
+unrated = take 14 thirtyFive ++ (0 ∷ 0 ∷ 0 ∷ 0 ∷ drop 18 thirtyFive)
+
+-- P5 as a file without a rate, opened for 8 bits and point 14, with output and work areas of five samples
 pub record File : Type 0 where
   -- "P5 as a file for point 14, 31 bytes"
-  pub p6 : fileOf Cdf53I8 2 14 five ≡ thirtyOne
+  pub p6 : fileOf Cdf53I8 2 14 0 five ≡ thirtyOne
   -- "its first 0 to 19 bytes: 10"
   pub p7 : (b : ℕ) → b ≤ 19 → sayOpen (take b thirtyOne) 1 14 5 5 5 ≡ CutShort b
   -- "20 to 24: level 2, -1, 3"
@@ -50,6 +63,38 @@ pub record File : Type 0 where
   pub p9 : (b : ℕ) → 25 ≤ b → b ≤ 30 → OpensTo (take b thirtyOne) 1 14 5 5 5 1 3 (3 ∷ 253 ∷ 7 ∷ [])
   -- "31: the samples"
   pub p10 : OpensTo thirtyOne 1 14 5 5 5 0 5 five
+  -- no rate
+  pub rate : (b : ℕ) → b ≤ 31 → rateOpened (take b thirtyOne) 1 14 5 5 5 ≡ 0
+
+-- the same as a file with a rate
+pub record NewFile : Type 0 where
+  pub bytes : fileOf Cdf53I8 2 14 1000 five ≡ thirtyFive
+  pub short : (b : ℕ) → b ≤ 23 → sayOpen (take b thirtyFive) 1 14 5 5 5 ≡ CutShort b
+  pub second : (b : ℕ) → 24 ≤ b → b ≤ 28 → OpensTo (take b thirtyFive) 1 14 5 5 5 2 2 (255 ∷ 3 ∷ [])
+  pub first : (b : ℕ) → 29 ≤ b → b ≤ 34 → OpensTo (take b thirtyFive) 1 14 5 5 5 1 3 (3 ∷ 253 ∷ 7 ∷ [])
+  pub whole : OpensTo thirtyFive 1 14 5 5 5 0 5 five
+  pub rate : (b : ℕ) → 24 ≤ b → b ≤ 35 → rateOpened (take b thirtyFive) 1 14 5 5 5 ≡ 1000
+  pub none : (b : ℕ) → b ≤ 23 → rateOpened (take b thirtyFive) 1 14 5 5 5 ≡ 0
+
+-- the places of the new refusals among the others
+pub record NewChecks : Type 0 where
+  -- "under 4 bytes or fewer than section 0 needs is 10, with 9 tested between them"
+  pub three : sayOpen (11 ∷ 0 ∷ 0 ∷ []) 1 14 5 5 5 ≡ CutShort 3
+  pub four : sayOpen (11 ∷ 0 ∷ 0 ∷ 0 ∷ []) 1 14 5 5 5 ≡ BadCount 0 11
+  pub thirteen : sayOpen (take 13 thirtyOne) 1 14 5 5 5 ≡ CutShort 13
+  pub seventeen : sayOpen (take 17 thirtyFive) 1 14 5 5 5 ≡ CutShort 17
+  -- "18 for a stored rate of 0 in a new file, right after 11"; in the section lookup before 13
+  pub no-rate : sayOpen unrated 1 14 5 5 5 ≡ NoRate
+  pub before-sections : sayOpen (take 20 unrated) 1 14 5 5 5 ≡ NoRate
+  pub other-point : sayOpen unrated 1 15 5 5 5 ≡ OtherPoint 14 15
+  pub before-number : saySection unrated 1 14 9 ≡ NoRate
+  -- the head of a file never says it
+  pub head : (t : HeadAnswer) → Told unrated t → (t .answer ≡ say 0 0 0) × (t .rate ≡ 0)
+  -- "in writing a rate of 0 is 18, first after the byte-length 9": before 6, 1, 4 and 7
+  pub written : sayWrite Cdf53I8 9 0 2 0 0 0 ≡ NoRate
+  pub ragged : sayWrite Cdf53I16 9 0 3 0 0 0 ≡ BadCount 0 3
+  -- a rate of 1 is one
+  pub least : sayWrite Cdf53I8 2 1 5 35 5 5 ≡ Done 0 0
 
 pub record Worked : Type 0 where
   pub p1 : OneLevel (pos 1 ∷ pos 5 ∷ pos 2 ∷ []) (pos 3 ∷ pos 4 ∷ []) (pos 4 ∷ [])
@@ -63,3 +108,6 @@ pub record Worked : Type 0 where
   pub p5-level1 : approxAt Cdf53I8 1 (encode 1 (pos 0 ∷ pos 3 ∷ neg 4 ∷ pos 1 ∷ pos 7 ∷ [])) ≡ encode 1 (pos 3 ∷ neg 3 ∷ pos 7 ∷ [])
   -- P6 to P10
   pub p6-to-p10 : File
+  -- and C-17's
+  pub new-file : NewFile
+  pub new-checks : NewChecks

@@ -8,7 +8,6 @@ use lib.ListN.{length, take, drop}
 use Rattle.answers.specs.declared.err.Answer.{Answer}
 use Rattle.answers.specs.declared.err.Refusal.the-variants.{Done}
 use Rattle.samples.specs.Le.{Bytes}
-use Rattle.pyramid.specs.Files.{headSize}
 use Rattle.pyramid.specs.Opens.{filterOf, headIn, samplesIn}
 use Rattle.cuts.specs.Sees.{Openings}
 use Rattle.cuts.proofs.Opened.{openings}
@@ -28,7 +27,7 @@ pub each-opens : (b : List ℕ) → Bytes b → dataAt ≤ length b → length b
     let h = headIn s in
     (sayFind b′ q ≡ Done (placeFor q m) (length s))
     × (take (length s) (drop (placeFor q m) b′) ≡ s)
-    × Openings headSize (filterOf (h .width)) (h .levels) (h .samples) q (samplesIn s) s
+    × Openings (h .body) (filterOf (h .width)) (h .levels) (h .samples) q (samplesIn s) s
 each-opens b bytes long short r b₀ f cs l rs b′ ran q held =
     let n = length b - dataAt in
     let named = is-map b bytes long short r b₀ f cs l rs b′ ran .2 .present q held in

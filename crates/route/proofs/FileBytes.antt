@@ -1,6 +1,8 @@
 -- A file of any samples is bytes. Each of the integer filters.
-use mathlib.Core.List.{List, _++_}
+use mathlib.Core.Bool.{Bool, true, false, cond}
+use mathlib.Core.List.{List, [], _++_}
 use Prim.Native.Nat.{ℕ, zero, suc, _/_}
+use lib.Dec.{eqb}
 use lib.ListN.{length}
 use Rattle.sizes.specs.Lengths.{approxLength, detailsLength}
 use Rattle.samples.specs.Le.{leBytes, Bytes}
@@ -11,8 +13,8 @@ use Rattle.dwt.specs.declared.filter.Filter.{Filter}
 use Rattle.dwt.specs.Filters.{widthOf, lowOf, highOf, Integers}
 use Rattle.dwt.specs.Pyramids.{laidOut}
 use Rattle.dwt.proofs.Integers.{each-width}
-use Rattle.pyramid.specs.Files.{sectionOf, headCount, bodyOf, fileOf}
-use Rattle.route.proofs.ByteParts.{bytes-number}
+use Rattle.pyramid.specs.Files.{sectionOf, countBy, rateOf, bodyOf, fileOf}
+use Rattle.route.proofs.ByteParts.{bytes-zeros, bytes-number}
 
 -- both bands are
 bytes-high : (k : ℕ) (x : List ℕ) → Bytes (high k x)
@@ -33,9 +35,16 @@ body-bytes f i (suc l) n x h =
     bytes-join (bodyOf f l (approxLength n) (lowOf f x)) (sectionOf (detailsLength n) (highOf f x))
     (body-bytes f i l (approxLength n) (lowOf f x) (bands-bytes f i .0 x)) (section-bytes (detailsLength n) (highOf f x) (bands-bytes f i .1 x))
 
-pub file-bytes : (f : Filter) → Integers f → (l p : ℕ) (x : List ℕ) → Bytes x → Bytes (fileOf f l p x)
+rate-bytes : (r : ℕ) → Bytes (rateOf r)
+rate-bytes r = pick (eqb r 0)
+  where
+    pick : (b : Bool) → Bytes (cond b [] (leBytes 4 r))
+    pick true = bytes-zeros 0
+    pick false = bytes-number 4 r
+
+pub file-bytes : (f : Filter) → Integers f → (l p r : ℕ) (x : List ℕ) → Bytes x → Bytes (fileOf f l p r x)
 unfolding fileOf
-file-bytes f i l p x h =
+file-bytes f i l p r x h =
     let n = length x / widthOf f in
     let join : (s t : List ℕ) → Bytes s → Bytes t → Bytes (s ++ t) = bytes-join in
-    join _ _ (section-bytes headCount _ (join _ _ (bytes-number 1 (widthOf f)) (join _ _ (bytes-number 1 l) (join _ _ (bytes-number 4 n) (bytes-number 4 p))))) (body-bytes f i l n x h)
+    join _ _ (section-bytes (countBy r) _ (join _ _ (bytes-number 1 (widthOf f)) (join _ _ (bytes-number 1 l) (join _ _ (bytes-number 4 n) (join _ _ (bytes-number 4 p) (rate-bytes r)))))) (body-bytes f i l n x h)

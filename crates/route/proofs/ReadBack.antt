@@ -1,6 +1,7 @@
 -- A book that is laid out is read back, whatever stands behind it: its entries, its data, and that calls could have left it.
 use mathlib.Core.Bool.{Bool, true, false, cond, not, _&&_, and-eq-true-iff}
 use mathlib.Core.List.{List, [], _∷_, _++_, append-assoc}
+use mathlib.Core.Logic.{⊎-elim}
 use mathlib.Core.Path.{_≡_, refl, sym, ap, ap₂, _∙_}
 use Prim.Native.Nat.{ℕ, zero, suc, _+_, _-_, _*_, _≤_, _<_, _^_}
 use native.Mathlib.Nat.{mul-suc}
@@ -11,7 +12,8 @@ use lib.ListN.{length, take, drop, getD, replicate, length-append, length-replic
 use lib.Seq.{take-at, drop-at, drop-drop, getD-take}
 use Rattle.samples.specs.Le.{leAt, leBytes}
 use Rattle.samples.proofs.LeLaws.{length-leBytes, leAt-same, leAt-drop, leAt-bytes}
-use Rattle.pyramid.specs.Files.{sectionOf, headCount}
+use Rattle.pyramid.specs.Files.{sectionOf, oldCount, newCount, isCount}
+use Rattle.pyramid.proofs.Opening.{which-count}
 use Rattle.entries.specs.Books.{most, entrySize, entryStart, totalAt, dataAt, joined, bookOf, entryAt, isUsed, usedFrom, entriesIn, totalBy, dataIn, isHead, areEntries, allZero, couldBe}
 use Rattle.entries.proofs.Laid.{AllSized, unused, joined-length, directory-length, book-length}
 use Rattle.route.proofs.Changed.{heads-parts}
@@ -41,8 +43,8 @@ zeros-unused n t = ap (λ (c : ℕ). not (eqb c 0)) (zeros-read (entrySize * suc
 -- what begins a file is used
 head-used : (e : List ℕ) → isHead e ≡ true → isUsed e ≡ true
 head-used e h =
-    let count : leAt 4 e 0 ≡ headCount = eqb-true (leAt 4 e 0) headCount (and-eq-true-iff (eqb (leAt 4 e 0) headCount) _ .0 h .0) in
-    ap not (ne-eqb (leAt 4 e 0) 0 (λ z. omega arith))
+    let count = which-count (leAt 4 e 0) (and-eq-true-iff (isCount (leAt 4 e 0)) _ .0 h .0) in
+    ap not (ne-eqb (leAt 4 e 0) 0 (λ z. ⊎-elim (λ (c : leAt 4 e 0 ≡ oldCount). omega arith) (λ (c : leAt 4 e 0 ≡ newCount). omega arith) count))
 
 -- the entries are read back, of any n from entry i on
 used-back : (es : List (List ℕ)) (n i : ℕ) (b t : List ℕ) → AllSized es → areEntries es ≡ true → length es ≤ n

@@ -1,5 +1,6 @@
--- A file that adding takes is the file of its own samples, whoever wrote it: writing the samples that it opens as gives every byte of it.
-use mathlib.Core.Bool.{true}
+-- A file that adding takes is the file of its own samples and rate, whoever wrote it: writing the samples that it opens as gives every byte of it, an old file apart,
+-- which is no longer written but is the same bytes.
+use mathlib.Core.Bool.{Bool, true, false, cond}
 use mathlib.Core.List.{List, [], _∷_, _++_}
 use mathlib.Core.Path.{_≡_, refl, sym, ap, ap₂, subst, _∙_}
 use Prim.Native.Nat.{ℕ, _-_, _^_, _≤_, _<_}
@@ -21,17 +22,17 @@ use Rattle.dwt.specs.Filters.{widthOf}
 use Rattle.dwt.proofs.Integers.{own-depth}
 use Rattle.pyramid.specs.declared.walk.Way.{Way}
 use Rattle.pyramid.specs.declared.walk.Way.the-variants.{Went}
-use Rattle.pyramid.specs.Files.{headCount, headOf, headSize, bodyOf, bodySize, fileOf}
+use Rattle.pyramid.specs.Files.{headOf, headSize, commonSize, bodyOf, bodySize, fileOf}
 use Rattle.pyramid.specs.Walks.{walkOf, restoredAt}
-use Rattle.pyramid.specs.Opens.{filterOf, headIn, startChecks, fieldChecks, headChecks, wayIn, wayChecks, fileChecks, wholeDetails, levelIn, samplesIn, ownWidth}
+use Rattle.pyramid.specs.Opens.{filterOf, headIn, isNew, rateIn, startChecks, fieldChecks, rateChecks, headChecks, wayIn, wayChecks, fileChecks, wholeDetails, levelIn, samplesIn, ownWidth}
 use Rattle.pyramid.proofs.Ways.{walk-size}
-use Rattle.pyramid.proofs.Opening.{filter-width, filter-integers, start-passes}
+use Rattle.pyramid.proofs.Opening.{filter-width, filter-integers, start-passes, head-parts}
 use Rattle.pyramid.proofs.Writing.{file-parts}
 use Rattle.cuts.proofs.SectionsBack.{Sections, sections-back}
 use Rattle.cuts.proofs.Filed.{Recording, Filed}
 use Rattle.cuts.proofs.WrittenHead.{filed}
 use Rattle.entries.specs.Checks.{wholeChecks}
-use Rattle.route.proofs.WholeFile.{head-back, whole-went}
+use Rattle.route.proofs.WholeFile.{head-back, size-back, whole-went}
 
 module _ (s : List ℕ) (p : ℕ) (bs : Bytes s) (c : Passing (wholeChecks s p)) where
   abbrev w : ℕ
@@ -43,6 +44,9 @@ module _ (s : List ℕ) (p : ℕ) (bs : Bytes s) (c : Passing (wholeChecks s p))
   abbrev n : ℕ
   n = headIn s .samples
 
+  abbrev z : ℕ
+  z = headIn s .body
+
   abbrev f : Filter
   f = filterOf w
 
@@ -53,12 +57,12 @@ module _ (s : List ℕ) (p : ℕ) (bs : Bytes s) (c : Passing (wholeChecks s p))
   parts : Passing (headChecks s (ownWidth s) p) × Passing (wayChecks (wayIn s (headIn s)) (length s))
   parts = both-pass (headChecks s (ownWidth s) p) (wayChecks (wayIn s (headIn s)) (length s)) (file .0)
 
-  head : Passing (startChecks s) × Passing (fieldChecks (headIn s) (ownWidth s) p)
-  head = both-pass (startChecks s) (fieldChecks (headIn s) (ownWidth s) p) (parts .0)
+  head : Passing (startChecks s) × Passing (fieldChecks (headIn s) (ownWidth s) p) × Passing (rateChecks s)
+  head = head-parts s (ownWidth s) p (parts .0)
 
   -- so section 0 is there, for a width that a filter has, for point p, and for levels that run
-  there : headSize ≤ length s
-  there = start-passes s (head .0)
+  there : z ≤ length s
+  there = start-passes s (head .0) .1
 
   width : widthOf f ≡ w
   width = filter-width w (subst (λ (k : ℕ). isWidth k ≡ true) (sym (right w (ownWidth s) (head .1 .0))) (not-false (isWidth (ownWidth s)) (head .1 .1 .0)))
@@ -71,23 +75,23 @@ module _ (s : List ℕ) (p : ℕ) (bs : Bytes s) (c : Passing (wholeChecks s p))
 
   -- the walk goes to the end
   way : wayIn s (headIn s) ≡ Went (length s)
-  way = whole-went s w l n headSize (wayIn s (headIn s)) refl there (parts .1) (ltb-false 0 (levelIn s) (file .1 .0))
+  way = whole-went s w l n z (wayIn s (headIn s)) refl there (parts .1) (ltb-false 0 (levelIn s) (file .1 .0))
 
-  walk : walkOf s (widthOf f) l n headSize ≡ Went (length s)
-  walk = ap (λ (k : ℕ). walkOf s k l n headSize) width ∙ way
+  walk : walkOf s (widthOf f) l n z ≡ Went (length s)
+  walk = ap (λ (k : ℕ). walkOf s k l n z) width ∙ way
 
   -- so its samples are what all levels restore
-  restored : restoredAt (widthOf f) s l n headSize ≡ samplesIn s
+  restored : restoredAt (widthOf f) s l n z ≡ samplesIn s
   unfolding samplesIn afterLevels
   restored =
       let none : l - l ≡ 0 = omega arith in
-      ap (λ (k : ℕ). restoredAt k s l n headSize) width
-      ∙ ap (λ (j : ℕ). restoredAt w s l (countAt j n) headSize) (sym none)
-      ∙ ap (λ (v : Way). restoredAt w s (wholeDetails v l) (countAt (l - wholeDetails v l) n) headSize) (sym way)
+      ap (λ (k : ℕ). restoredAt k s l n z) width
+      ∙ ap (λ (j : ℕ). restoredAt w s l (countAt j n) z) (sym none)
+      ∙ ap (λ (v : Way). restoredAt w s (wholeDetails v l) (countAt (l - wholeDetails v l) n) z) (sym way)
 
   -- and the sections are those of what they restore
-  sections : Sections f s l n headSize
-  sections = sections-back f (filter-integers w) s bs l n headSize (length s) there (own-depth f (filter-integers w) l n deep) walk
+  sections : Sections f s l n z
+  sections = sections-back f (filter-integers w) s bs l n z (length s) there (own-depth f (filter-integers w) l n deep) walk
 
   -- its samples can be recorded
   pub whole-recording : Recording f l n p (samplesIn s)
@@ -103,20 +107,29 @@ module _ (s : List ℕ) (p : ℕ) (bs : Bytes s) (c : Passing (wholeChecks s p))
   }
 
   -- nothing stands behind the sections
-  body : drop headSize s ≡ bodyOf f l n (samplesIn s)
+  body : drop z s ≡ bodyOf f l n (samplesIn s)
   body =
-      let size = walk-size l s (widthOf f) n headSize (length s) there walk in
-      sym (take-all (bodySize (widthOf f) l n) (drop headSize s) (omega (arith, length-drop headSize s, size .0)))
+      let size = walk-size l s (widthOf f) n z (length s) there walk in
+      sym (take-all (bodySize (widthOf f) l n) (drop z s) (omega (arith, length-drop z s, size .0)))
       ∙ sections .body ∙ ap (bodyOf f l n) restored
 
-  -- a whole file is the file of its own samples
-  pub whole-written : s ≡ fileOf f l p (samplesIn s)
+  -- a whole file is the file of its own samples, for its rate
+  pub whole-written : s ≡ fileOf f l p (rateIn s) (samplesIn s)
   whole-written =
-      sym (head-back s bs there (right (leAt 4 s 0) headCount (head .0 .1 .1 .0)))
-      ∙ ap₂ (λ (k q : ℕ). headOf k l n q ++ drop headSize s) (sym width) point
-      ∙ ap (λ (t : List ℕ). headOf (widthOf f) l n p ++ t) body
-      ∙ sym (file-parts f l p n (samplesIn s) (whole-recording .size))
+      sym (head-back s bs (head .0) (head .2))
+      ∙ ap₂ (λ (k q : ℕ). headOf k l n q (rateIn s) ++ drop z s) (sym width) point
+      ∙ ap (λ (t : List ℕ). headOf (widthOf f) l n p (rateIn s) ++ t) body
+      ∙ sym (file-parts f l p (rateIn s) n (samplesIn s) (whole-recording .size))
+
+  rate-small : rateIn s < 2 ^ 32
+  rate-small = pick (isNew s)
+    where
+      pick : (b : Bool) → cond b (leAt 4 s commonSize) 0 < 2 ^ 32
+      pick true = leAt-lt s bs 4 commonSize
+      pick false = omega arith
 
   -- so what is proved of written files holds of it
-  pub whole-filed : Filed headSize f l n p (samplesIn s) s
-  whole-filed = subst (Filed headSize f l n p (samplesIn s)) (sym whole-written) (filed whole-recording)
+  pub whole-filed : Filed z f l n p (samplesIn s) s
+  whole-filed =
+      subst (λ (j : ℕ). Filed j f l n p (samplesIn s) s) (size-back s bs (head .0) (head .2))
+      (subst (Filed (headSize (rateIn s)) f l n p (samplesIn s)) (sym whole-written) (filed whole-recording rate-small))
