@@ -2,7 +2,7 @@
 -- a byte is a sample, and the inputs are those of P1, P3 and P5, unless another filter is named.
 use mathlib.Core.List.{List, [], _∷_, _++_}
 use mathlib.Core.Path.{_≡_}
-use Prim.Native.Nat.{ℕ, zero, suc, _*_}
+use Prim.Native.Nat.{ℕ, zero, suc, _*_, _^_, _<_}
 use lib.Ieee.{Float, nan, inf, fin, binary32, unlike, add, mul}
 use lib.IntN.{pos, _+ℤ_}
 use lib.ListN.{length, take}
