@@ -5,13 +5,14 @@
  *   export PKG_CONFIG_PATH=PREFIX/lib/pkgconfig LD_LIBRARY_PATH=PREFIX/lib
  *   cc examples/desk.c $(pkg-config --cflags --libs beksanour) -o desk
  *
- *   desk          a tour: four recordings are made and kept as pyramid files. Files are cut, opened, drawn and marked with notes,
- *                 and kept in a route book, where one is opened and one is withdrawn. One recording comes in pieces. Then the
- *                 library is made to refuse with every refusal's number
+ *   desk          a tour: four recordings are made and kept as pyramid files, with their sampling rates. Files are cut, opened,
+ *                 drawn and marked with notes, and kept in a route book, where one is opened and one is withdrawn. An old file,
+ *                 which has no rate, is opened too. One recording comes in pieces. Then the library is made to refuse with every
+ *                 refusal's number
  *   desk FILE     what a pyramid file says of itself, the level that it opens at, and its overview
  *   desk --help   this
  *
- * It ends with 0 when all went well; `desk FILE` ends with the number of the refusal, 1 to 13, where the library refuses the
+ * It ends with 0 when all went well; `desk FILE` ends with the number of the refusal, 1 to 13 or 18, where the library refuses the
  * file. 64: the call is wrong, or the file cannot be read. 70: no memory, an answer that was not expected, or what it prints
  * could not be written.
  */
@@ -62,11 +63,20 @@ static void expect(const char *tried, bk_answer a, uint32_t number) {
     exit(BAD_TURN);
 }
 
+/* The end of a line that says what opens: the rate of the recording, in samples a second; an old file has none. */
+static void say_rate(uint32_t rate) {
+    if (rate == 0)
+        printf(", without a rate\n");
+    else
+        printf(", recorded at %lu.%03lu Hz\n", (unsigned long)(rate / 1000), (unsigned long)(rate % 1000));
+}
+
 /* ---- recordings: made by integers alone, so that they are the same everywhere */
 
 typedef struct recording {
     const char *where;
     uint32_t point, width;
+    uint32_t rate; /* in millihertz: 1,000 times the samples a second */
     size_t n;
     uint8_t *samples; /* n samples of width bytes each */
 } recording;
@@ -99,12 +109,14 @@ static int32_t run_up(uint64_t k, uint64_t n) { return wave(k * k * 8 * 65536 / 
 /* A fan: its turning, and its blades, five to a turn. */
 static int32_t fan(uint64_t k, uint64_t n) { return tone(k, n, 8) / 4 + tone(k, n, 40) / 16; }
 
-static recording record(const char *where, uint32_t point, uint32_t width, size_t n, int32_t (*at)(uint64_t, uint64_t)) {
+static recording record(const char *where, uint32_t point, uint32_t width, uint32_t rate, size_t n,
+                        int32_t (*at)(uint64_t, uint64_t)) {
     recording r;
     size_t k;
     r.where = where;
     r.point = point;
     r.width = width;
+    r.rate = rate;
     r.n = n;
     r.samples = room(n * width);
     for (k = 0; k < n; k++) put_sample(r.samples + k * width, width, at(k, n));
@@ -131,9 +143,9 @@ static pyramid_file keep(const recording *r) {
     f.length = (size_t)size.first;
     f.bytes = room(f.length);
     if (r->width == 2)
-        done = bk_pyramid_write_i16(r->samples, bytes, levels, r->point, f.bytes, f.length, work1, bytes, work2, bytes);
+        done = bk_pyramid_write_i16(r->samples, bytes, levels, r->point, r->rate, f.bytes, f.length, work1, bytes, work2, bytes);
     else
-        done = bk_pyramid_write_i32(r->samples, bytes, levels, r->point, f.bytes, f.length, work1, bytes, work2, bytes);
+        done = bk_pyramid_write_i32(r->samples, bytes, levels, r->point, r->rate, f.bytes, f.length, work1, bytes, work2, bytes);
     expect("writing a file", done, BK_DONE);
     free(work1);
     free(work2);
@@ -154,30 +166,32 @@ typedef struct opened {
     bk_head head;
     uint32_t level;
     size_t count;
+    uint32_t rate;    /* of the recording, in millihertz; 0 for an old file */
     uint8_t *samples; /* count samples of head.width bytes each; null where the front does not open */
 } opened;
 
 /* Opens the front of a file for its own width and point. Empty areas first, which tell how much room is needed. */
 static bk_answer open_front(const uint8_t *file, size_t length, opened *o) {
     uint8_t empty[3], *work1, *work2;
-    bk_answer a;
+    bk_opened a;
     size_t bytes;
     memset(o, 0, sizeof *o);
     o->head = bk_pyramid_head(file, length);
     if (o->head.answer.number != BK_DONE) return o->head.answer;
     a = bk_pyramid_open(file, length, o->head.width, o->head.point, empty, 0, empty + 1, 0, empty + 2, 0);
-    if (a.number != BK_NO_ROOM) return a;
-    bytes = (size_t)a.second * o->head.width;
+    if (a.answer.number != BK_NO_ROOM) return a.answer;
+    bytes = (size_t)a.answer.second * o->head.width;
     o->samples = room(bytes);
     work1 = room(bytes);
     work2 = room(bytes);
     a = bk_pyramid_open(file, length, o->head.width, o->head.point, o->samples, bytes, work1, bytes, work2, bytes);
-    expect("opening with the room that was asked for", a, BK_DONE);
+    expect("opening with the room that was asked for", a.answer, BK_DONE);
     free(work1);
     free(work2);
-    o->level = (uint32_t)a.first;
-    o->count = (size_t)a.second;
-    return a;
+    o->level = (uint32_t)a.answer.first;
+    o->count = (size_t)a.answer.second;
+    o->rate = a.rate;
+    return a.answer;
 }
 
 /* Opens a file at a level from 1 to its levels: only the front through section levels + 1 - level is lent. */
@@ -274,12 +288,25 @@ static void tour_cuts(const pyramid_file *f, const size_t *places, size_t count)
         char tried[60];
         bk_answer a = open_front(f->bytes, places[i], &o);
         snprintf(tried, sizeof tried, "the first %lu of %lu bytes", (unsigned long)places[i], (unsigned long)f->length);
-        if (a.number == BK_DONE)
-            printf("%s: level %lu, %lu samples\n", tried, (unsigned long)o.level, (unsigned long)o.count);
-        else
+        if (a.number == BK_DONE) {
+            printf("%s: level %lu, %lu samples", tried, (unsigned long)o.level, (unsigned long)o.count);
+            say_rate(o.rate);
+        } else {
             say_refused(tried, a);
+        }
         free(o.samples);
     }
+}
+
+/* Opens a file of a version before 0.10.0, five samples of 8 bits, whole and without its last four bytes: it has no rate. */
+static void tour_old_file(void) {
+    static uint8_t old[31] = {10, 0, 0, 0, 1, 2, 5, 0, 0, 0, 14, 0, 0, 0, /* section 0, which ends with the point */
+                              2, 0, 0, 0, 255, 3, 1, 0, 0, 0, 248, 2, 0, 0, 0, 5, 0};
+    static const size_t cuts[] = {31, 27};
+    pyramid_file f;
+    f.bytes = old;
+    f.length = sizeof old;
+    tour_cuts(&f, cuts, 2);
 }
 
 /* Draws the level of a file that fits the screen, from the front of the file alone. */
@@ -454,10 +481,11 @@ static void open_found(const route_book *b, uint32_t point, size_t front) {
     lengths[0] = f.length;
     lengths[1] = front;
     for (i = 0; i < 2; i++) {
-        bk_answer a = bk_pyramid_open(f.bytes, lengths[i], head.width, point, out, bytes, work1, bytes, work2, bytes);
-        expect("opening a file in the book", a, BK_DONE);
-        printf("point %lu, the first %lu of %lu bytes: level %lu, %lu samples\n", (unsigned long)point, (unsigned long)lengths[i],
-               (unsigned long)f.length, (unsigned long)a.first, (unsigned long)a.second);
+        bk_opened a = bk_pyramid_open(f.bytes, lengths[i], head.width, point, out, bytes, work1, bytes, work2, bytes);
+        expect("opening a file in the book", a.answer, BK_DONE);
+        printf("point %lu, the first %lu of %lu bytes: level %lu, %lu samples", (unsigned long)point, (unsigned long)lengths[i],
+               (unsigned long)f.length, (unsigned long)a.answer.first, (unsigned long)a.answer.second);
+        say_rate(a.rate);
     }
     free(out);
     free(work1);
@@ -567,22 +595,28 @@ static void tour_refused_pieces(void) {
     provoked(BK_BAD_COUNT, "a piece beside a damaged state", bk_stream_piece_i8(state, BK_STREAM_BYTES, x, 2, a, 1, d, 1));
 }
 
-/* Refusals of a file: the recording's own file, asked for what it has not, cut too short, or with a byte too many. */
+/* What opening a file without lending an area says. */
+static bk_answer say_open(const uint8_t *file, size_t length, uint32_t width, uint32_t point) {
+    uint8_t none[3];
+    return bk_pyramid_open(file, length, width, point, none, 0, none + 1, 0, none + 2, 0).answer;
+}
+
+/* Refusals of a file: the recording's own file, asked for what it has not, cut too short, with a byte too many, or with no rate. */
 static void tour_refused_files(const recording *r, const pyramid_file *f) {
     uint8_t *longer = room(f->length + 1), none[3];
     size_t bytes = r->n * r->width;
     memcpy(longer, f->bytes, f->length);
     longer[f->length] = 0;
     provoked(BK_NO_ROOM, "writing a file into no room",
-             bk_pyramid_write_i16(r->samples, bytes, 1, r->point, none, 0, none + 1, 0, none + 2, 0));
-    provoked(BK_OTHER_WIDTH, "opening 16 bits as 32",
-             bk_pyramid_open(f->bytes, f->length, 4, r->point, none, 0, none + 1, 0, none + 2, 0));
-    provoked(BK_CUT_SHORT, "opening the first 15 bytes",
-             bk_pyramid_open(f->bytes, 15, r->width, r->point, none, 0, none + 1, 0, none + 2, 0));
-    provoked(BK_OTHER_POINT, "opening it for the next point",
-             bk_pyramid_open(f->bytes, f->length, r->width, r->point + 1, none, 0, none + 1, 0, none + 2, 0));
-    provoked(BK_TRAILING, "opening it with a byte behind it",
-             bk_pyramid_open(longer, f->length + 1, r->width, r->point, none, 0, none + 1, 0, none + 2, 0));
+             bk_pyramid_write_i16(r->samples, bytes, 1, r->point, r->rate, none, 0, none + 1, 0, none + 2, 0));
+    provoked(BK_NO_RATE, "writing a file with the rate 0",
+             bk_pyramid_write_i16(r->samples, bytes, 1, r->point, 0, none, 0, none + 1, 0, none + 2, 0));
+    provoked(BK_OTHER_WIDTH, "opening 16 bits as 32", say_open(f->bytes, f->length, 4, r->point));
+    provoked(BK_CUT_SHORT, "opening the first 15 bytes", say_open(f->bytes, 15, r->width, r->point));
+    provoked(BK_OTHER_POINT, "opening it for the next point", say_open(f->bytes, f->length, r->width, r->point + 1));
+    provoked(BK_TRAILING, "opening it with a byte behind it", say_open(longer, f->length + 1, r->width, r->point));
+    memset(longer + 14, 0, 4);
+    provoked(BK_NO_RATE, "opening it with zeros where its rate was", say_open(longer, f->length, r->width, r->point));
     provoked(BK_NO_SUCH_PLACE, "a note after the last sample", bk_note_column(r->n, 1, r->n));
     provoked(BK_NO_SUCH_PLACE, "a column of level 0", bk_note_column(r->n, 0, 0));
     provoked(BK_NO_SUCH_PLACE, "the span of a detail after the last", bk_note_detail_span(r->n, 1, r->n / 2));
@@ -614,7 +648,7 @@ static void tour_refused_books(const recording *r, const pyramid_file *f) {
 /* Files of points 13, 14 and 15 in a book, with a note each; 14 is withdrawn, 15 is opened, and 16 takes of the free room. */
 static void tour_book(const recording *r, const pyramid_file *f) {
     static const pinned notes[] = {{"blades", 13, 310}, {"first knock", 14, 2600}, {"beat", 15, 9000}};
-    recording r13 = record("fan", 13, 2, 1200, fan);
+    recording r13 = record("fan", 13, 2, 2560000, 1200, fan);
     pyramid_file f13 = keep(&r13);
     shown before[3], after;
     route_book b;
@@ -660,9 +694,9 @@ static int tour(void) {
     opened seen[3];
     size_t cuts[5], i;
     printf("== three recordings, kept as files\n");
-    r[0] = record("bearing", 14, 2, 6000, bearing);
-    r[1] = record("gear box", 15, 4, 20000, gears);
-    r[2] = record("run-up", 16, 2, 601, run_up);
+    r[0] = record("bearing", 14, 2, 25600000, 6000, bearing);
+    r[1] = record("gear box", 15, 4, 51200000, 20000, gears);
+    r[2] = record("run-up", 16, 2, 2048000, 601, run_up);
     for (i = 0; i < 3; i++) f[i] = keep(&r[i]);
 
     printf("\n== what a cut leaves of point 16\n");
@@ -672,6 +706,9 @@ static int tour(void) {
     cuts[3] = 100;
     cuts[4] = 20;
     tour_cuts(&f[2], cuts, 5);
+
+    printf("\n== an old file, which has no rate\n");
+    tour_old_file();
 
     printf("\n== the sections of point 16\n");
     tour_sections(&f[2]);
@@ -741,7 +778,8 @@ static int show_bytes(const char *name, const uint8_t *bytes, size_t length) {
         say_refused(name, a);
         return (int)a.number;
     }
-    printf("%lu bytes open at level %lu, %lu samples\n", (unsigned long)length, (unsigned long)o.level, (unsigned long)o.count);
+    printf("%lu bytes open at level %lu, %lu samples", (unsigned long)length, (unsigned long)o.level, (unsigned long)o.count);
+    say_rate(o.rate);
     level = fitting_level(&o.head, o.level);
     if (level == o.level) {
         draw(o.samples, o.head.width, o.count);

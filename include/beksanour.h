@@ -1,6 +1,12 @@
 /*
  * Beksanour: the numeric core of the review desk.
  *
+ * Changed in 0.10.0 under their old names, which no linker notices: bk_pyramid_write_i8, bk_pyramid_write_i16 and
+ * bk_pyramid_write_i32 take one number more, the sampling rate, after the point; and bk_pyramid_open returns a bk_opened, the
+ * answer and the rate, and no longer a bk_answer. Whatever calls one of them must be compiled again with this header. Code that was
+ * compiled with an earlier one hands over its areas at wrong places, or has too little room for what is returned. It does not start
+ * with the shared library, which has both numbers of the version in its name; with the static one it links. CHANGELOG.md has more.
+ *
  * Every call takes numbers and byte slices that the caller lends, each slice as a pointer and its length in bytes. It keeps
  * nothing between calls, no pointer either, needs no heap, may be called from any thread, and ends for every input with an answer:
  * done, or one refusal. A refusal changes no lent byte. The slices of one call must not overlap where one of them is written. An
@@ -26,9 +32,9 @@
  *   bk_stream_piece_i8, _i16, _i32                 one level while it is recorded: the next piece of the samples
  *   bk_stream_finish_i8, _i16, _i32                and its end
  *   bk_pyramid_size                                how many bytes a pyramid file has
- *   bk_pyramid_write_i8, _i16, _i32                a recording as a pyramid file
+ *   bk_pyramid_write_i8, _i16, _i32                a recording, with its sampling rate, as a pyramid file
  *   bk_pyramid_head                                what a file says of itself
- *   bk_pyramid_open                                what a file, or the front of one, still lets see
+ *   bk_pyramid_open                                what a file, or the front of one, still lets see, and its rate
  *   bk_pyramid_sample                              one sample of it, with no room lent
  *   bk_pyramid_section                             where a section of a file stands
  *   bk_book_fresh                                  an empty route book, for up to 64 files in one area
@@ -48,12 +54,20 @@
  * bk_book_room, whose second counts points; the numbers of 10 and 12; the length of 9 (0, length) and the count of section 0; and
  * of 7 those of the file that is written and those of a book. All other lengths and counts in an answer are samples.
  *
- * How much room. A slice may be lent with length 0 to ask. bk_pyramid_open with three empty areas answers 7 (0, count) for a
- * file that opens, and a write with an empty file answers 7 (0, size); nothing is changed. The same refusal comes for areas
- * that are merely too short. A book does not tell so: its 7 always says 904, and 14 says no number. A book for given files needs
- * 904 bytes and the sizes of the files; the first number of bk_book_room is the most bytes that an add may still take, while
- * fewer than 64 points are held. Do not ask so with a piece of a recording: one that writes no coefficient needs no room, and is
- * taken. bk_stream_written says beforehand what a piece writes.
+ * Old and new files, and the rate. A pyramid file is of one of two kinds. A new file has the sampling rate in its section 0, whose
+ * count is 14; an old file has no rate, and its count is 10. Versions before 0.10.0 wrote old files. The write calls here write
+ * new files alone, and every other call takes both kinds. A rate is in millihertz: 25,600 samples a second are 25600000, and
+ * 4294967295 is the most. It is that of the recording, at whatever level the file opens, and no sample depends on it. Beside a
+ * file that opens, 0 means an old file; beside a refusal it is always 0. In a new file 0 is no rate: it is refused with 18, and so
+ * is writing it. A version before 0.10.0 refuses a new file, with 9 (0, 14), under 14 bytes with 10, over 67,108,974 bytes with 6,
+ * and gives no sample of it; and it refuses a book that holds one, with 9 (0, 0).
+ *
+ * How much room. A slice may be lent with length 0 to ask. bk_pyramid_open with three empty areas answers 7 (0, count) for a file
+ * that opens, with the rate 0 beside it, as beside every refusal; and a write with an empty file answers 7 (0, size); nothing is
+ * changed. The same refusal comes for areas that are merely too short. A book does not tell so: its 7 always says 904, and 14 says
+ * no number. A book for given files needs 904 bytes and the sizes of the files; the first number of bk_book_room is the most bytes
+ * that an add may still take, while fewer than 64 points are held. Do not ask so with a piece of a recording: one that writes no
+ * coefficient needs no room, and is taken. bk_stream_written says beforehand what a piece writes.
  *
  * Which band is wrong. 2 is said of the approximations and 17 of the details, 2 first. Forward and dwt know the length of a level,
  * so the number names the band. The inverse and multi_idwt go back, and know it only as the sum of the two bands: they say 17 only
@@ -63,14 +77,15 @@
  *
  * A file whose width and point are not known. bk_pyramid_head reads them; hand them to bk_pyramid_open, which then refuses the
  * file only for what is wrong in it, or for the areas (7, 9). A head's width may be any byte, 0 too: bk_pyramid_open refuses it
- * with 8 if it is not 1, 2 or 4. Check it before you divide by it, or probe with empty areas. The head's samples is the n that
- * the three calls for notes ask for: the length of the whole recording, also where the file was cut and opens with fewer.
+ * with 8 if it is not 1, 2 or 4. Check it before you divide by it, or probe with empty areas. The head's samples is the n that the
+ * three calls for notes ask for: the length of the whole recording, also where the file was cut and opens with fewer. The head's
+ * rate is as it is stored: where it is 0 the file is an old one, or a new one that bk_pyramid_open refuses with 18.
  *
- * Opening at a chosen level l, 1 to the head's levels. Ask bk_pyramid_section for section levels + 1 - l, and lend
- * bk_pyramid_open only the front of the file through that section, which is first + second bytes: it opens at level l, with m
- * samples, m being n halved, rounded up, l times. That front is 14 + 4(levels + 1 - l) + width m bytes, so a program that has
- * read the head need not read more of the file. The whole file opens at level 0. bk_pyramid_sample of that front gives one sample
- * of level l in the same way.
+ * Opening at a chosen level l, 1 to the head's levels. Ask bk_pyramid_section for section levels + 1 - l, and lend bk_pyramid_open
+ * only the front of the file through that section, which is first + second bytes: it opens at level l, with m samples, m being n
+ * halved, rounded up, l times. That front is z + 4(levels + 1 - l) + width m bytes, where z is 18 for a new file, whose head has a
+ * rate, and 14 for an old one, whose head has the rate 0. So a program that has read the head need not read more of the file. The
+ * whole file opens at level 0. bk_pyramid_sample of that front gives one sample of level l in the same way.
  *
  * Columns and spans. A column is an approximation of a level from 1 on. Level 0 is the recording itself and has no columns, so
  * the three calls for notes refuse level 0: there sample s stands at place s. bk_note_column gives each sample one column, which
@@ -82,8 +97,10 @@
  * Damage. A file has no checksum. That it is short shows in the level that it opens at, or it is refused with 10. A section's
  * count that is there whole and is wrong, which is not what n and the levels give, is found. What section 0 says is checked only
  * against itself, what is asked and the counts: in a file that was cut a changed number of samples need not be found, and where
- * width and point are taken from the head, a changed width need not be found and a changed point never is. A bit that flipped
- * among the samples of a section is not found, and the file opens as other samples. Keep a checksum beside it where that matters.
+ * width and point are taken from the head, a changed width need not be found and a changed point never is. A changed rate is found
+ * only where it became 0. A count of section 0 that became that of the other kind need not be found, though the next count seldom
+ * fits then. A bit that flipped among the samples of a section is not found, and the file opens as other samples. Keep a checksum
+ * beside it where that matters.
  * A book has none either. Every call but bk_book_fresh looks at its directory and its two counts, and refuses with 9 (0, 0) those
  * that no calls could have left. Others pass: a point that became one that is not held, or two entries exchanged. The bytes of the
  * files are not looked at. So open what was found for the point that you asked for, not for the point of its head: then a file of
@@ -108,7 +125,7 @@ extern "C" {
 
 /* The version of this header and of the library that is installed with it; CHANGELOG.md has what changed. */
 #define BK_VERSION_MAJOR 0
-#define BK_VERSION_MINOR 9
+#define BK_VERSION_MINOR 10
 #define BK_VERSION_PATCH 0
 
 /*
@@ -123,8 +140,8 @@ typedef struct bk_answer {
 } bk_answer;
 
 /*
- * The refusals, with their two numbers. 18 and 19 are kept for later versions. 17 is new in 0.9.0: before, a wrong length of
- * the details was 2 too, in the inverse and multi_idwt with the numbers of the approximations.
+ * The refusals, with their two numbers. 19 is kept for a later version. 18 is new in 0.10.0. 17 is new in 0.9.0: before, a wrong
+ * length of the details was 2 too, in the inverse and multi_idwt with the numbers of the approximations.
  */
 enum {
     BK_DONE = 0,
@@ -152,8 +169,9 @@ enum {
     BK_BOOK_FULL = 14,                     /* the book holds 64 points, or has too little free room */
     BK_ALREADY_HELD = 15,                  /* the book holds a file of this point */
     BK_NOT_HELD = 16,                      /* the book holds no file of this point */
-    BK_DETAILS_SIZE_NOT_MATCHES = 17       /* the details have a wrong length, and the approximations the right one: got, the
+    BK_DETAILS_SIZE_NOT_MATCHES = 17,      /* the details have a wrong length, and the approximations the right one: got, the
                                               level's input length; of the calls that go back: expected, got */
+    BK_NO_RATE = 18                        /* the rate is 0: the one that a new file stores, or the one to be written */
 };
 
 /* The name of an answer's number, as in the list above; of a number that is not in it "unknown". */
@@ -177,6 +195,7 @@ static inline const char *bk_refusal_name(uint32_t number) {
     case BK_ALREADY_HELD: return "BK_ALREADY_HELD";
     case BK_NOT_HELD: return "BK_NOT_HELD";
     case BK_DETAILS_SIZE_NOT_MATCHES: return "BK_DETAILS_SIZE_NOT_MATCHES";
+    case BK_NO_RATE: return "BK_NO_RATE";
     default: return "unknown";
     }
 }
@@ -202,13 +221,14 @@ static inline const char *bk_refusal_sentence(uint32_t number) {
     case BK_ALREADY_HELD: return "The book holds a file of this measuring point already.";
     case BK_NOT_HELD: return "The book holds no file of this measuring point.";
     case BK_DETAILS_SIZE_NOT_MATCHES: return "The details do not have the length that their level gives.";
+    case BK_NO_RATE: return "The sampling rate is 0, which is no rate.";
     default: return "unknown";
     }
 }
 
-/* The most samples of a recording, and the most bytes of a pyramid file. */
+/* The most samples of a recording, and the most bytes of a pyramid file, one limit for both kinds: before 0.10.0 4 fewer. */
 #define BK_MOST_SAMPLES 16777216
-#define BK_MOST_BYTES 67108974
+#define BK_MOST_BYTES 67108978
 
 /*
  * How many levels a recording of n samples has: how many run before an input has fewer than 3 samples (5/3) or 4 (9/7).
@@ -545,45 +565,51 @@ bk_answer bk_stream_finish_i32(uint8_t *state, size_t state_bytes, uint8_t *appr
                                size_t details_bytes);
 
 /*
- * How many bytes the pyramid file of n samples of `width` bytes each has, at so many levels: 14 + 4(L + 1) + width n, where L is
- * `levels`, or 1 for 0. So much room a write needs; the two areas beside it need n samples, width n bytes, each.
- * Done: first is the size. Never more than 67,108,974, so it fits a size_t.
+ * How many bytes the new pyramid file of n samples of `width` bytes each has, at so many levels: 18 + 4(L + 1) + width n, where L
+ * is `levels`, or 1 for 0. So much room a write needs; the two areas beside it need n samples, width n bytes, each. The old file of
+ * the same samples and levels has 4 bytes fewer.
+ * Done: first is the size. Never more than 67,108,978, so it fits a size_t.
  *
  * Refused, in this order:
  *   8 (0, width)   width is not 1, 2 or 4
  *   6              over 16,777,216 samples
  *   1 (n, 3)       0 or 1 levels: fewer than 3 samples
  *   4              more levels: fewer levels in the recording than asked
- * After 8 these are what the write answers for the same samples and levels.
+ * After 8 these are what the write answers for the same samples and levels, where its rate is not 0: there is no 18 here.
  *
- * For example, 5 samples of 1 byte at 2 levels are 31 bytes.
+ * For example, 5 samples of 1 byte at 2 levels are 35 bytes.
  */
 bk_answer bk_pyramid_size(uint32_t width, uint64_t n, uint32_t levels);
 
 /*
- * The samples in `signal`, 8, 16 or 32 bits each, as a pyramid file for a point, into `file`. A file is sections in a fixed
- * order, each after its count, a u32, little-endian. Section 0 has the count 10: the width of a sample in bytes (one byte), the
- * levels (one byte), n (u32) and the point (u32). Section 1 has the deepest approximations of integer 5/3, sections 2 to
- * levels + 1 the details, deepest first, each counted in samples. The size is what bk_pyramid_size says; what is past it in
- * `file` is as it was. 0 levels means 1, and 1 is what the file says. `work1` and `work2` are room; what their first n
- * samples hold after a done call is not said, and what is beyond them is as it was.
+ * The samples in `signal`, 8, 16 or 32 bits each, as a new pyramid file for a point, into `file`. `rate` is the sampling rate in
+ * millihertz, 1 or more: 25600000 for 25,600 samples a second. A file is sections in a fixed order, each after its count, a u32,
+ * little-endian. Section 0 has the count 14: the width of a sample in bytes (one byte), the levels (one byte), n (u32), the point
+ * (u32) and the rate (u32). Section 1 has the deepest approximations of integer 5/3, sections 2 to levels + 1 the details, deepest
+ * first, each counted in samples. The size is what bk_pyramid_size says; what is past it in `file` is as it was. 0 levels means 1,
+ * and 1 is what the file says. `work1` and `work2` are room; what their first n samples hold after a done call is not said, and
+ * what is beyond them is as it was. Old files are not written.
+ * Done: first and second are 0.
  *
  * Refused, in this order:
  *   9 (0, length)    a slice's byte length is no multiple of the width: the first of signal, work1, work2; file may have any
+ *   18               rate is 0
  *   6                over 16,777,216 samples
  *   1 (n, 3)         0 or 1 levels: fewer than 3 samples
  *   4                more levels: fewer levels in the recording than asked
  *   7 (have, size)   file has fewer bytes than the file's size, both in bytes
  *   7 (have, n)      work1 holds fewer than n samples, then work2, both in samples
  * Which 7 it is: second is n for a work area, and more than n for the file.
+ *
+ * Changed in 0.10.0: `rate` is new, and the file is 4 bytes longer.
  */
-bk_answer bk_pyramid_write_i8(const uint8_t *signal, size_t signal_bytes, uint32_t levels, uint32_t point,
+bk_answer bk_pyramid_write_i8(const uint8_t *signal, size_t signal_bytes, uint32_t levels, uint32_t point, uint32_t rate,
                               uint8_t *file, size_t file_bytes, uint8_t *work1, size_t work1_bytes, uint8_t *work2,
                               size_t work2_bytes);
-bk_answer bk_pyramid_write_i16(const uint8_t *signal, size_t signal_bytes, uint32_t levels, uint32_t point,
+bk_answer bk_pyramid_write_i16(const uint8_t *signal, size_t signal_bytes, uint32_t levels, uint32_t point, uint32_t rate,
                                uint8_t *file, size_t file_bytes, uint8_t *work1, size_t work1_bytes, uint8_t *work2,
                                size_t work2_bytes);
-bk_answer bk_pyramid_write_i32(const uint8_t *signal, size_t signal_bytes, uint32_t levels, uint32_t point,
+bk_answer bk_pyramid_write_i32(const uint8_t *signal, size_t signal_bytes, uint32_t levels, uint32_t point, uint32_t rate,
                                uint8_t *file, size_t file_bytes, uint8_t *work1, size_t work1_bytes, uint8_t *work2,
                                size_t work2_bytes);
 
@@ -594,42 +620,53 @@ typedef struct bk_head {
     uint32_t levels;  /* how many levels the whole file has */
     uint32_t samples; /* n, how many samples the whole recording has */
     uint32_t point;   /* the number of the measuring point */
-    uint32_t rate;    /* 0: kept for a later version */
+    uint32_t rate;    /* the sampling rate in millihertz; 0 for an old file, which has none */
 } bk_head;
 
 /*
  * What section 0 of a pyramid file, or of the front of one, says. It is read and not judged: a done call does not say that the
- * file opens, nor that the width is 1, 2 or 4, nor that so many samples follow; bk_pyramid_open says that. The first 14 bytes
- * are enough. Done: first and second are 0, and the fields are as stored.
+ * file opens, nor that the width is 1, 2 or 4, nor that a new file has a rate other than 0, nor that so many samples follow;
+ * bk_pyramid_open says that. The first 18 bytes are enough, of an old file the first 14. Done: first and second are 0, and the
+ * fields are as stored; the rate of an old file is 0.
  *
  * Refused, in this order:
- *   6                over 67,108,974 bytes
- *   10 (length, 0)   under 14 bytes
- *   9 (0, found)     the count of section 0 is not 10: this is no pyramid file
+ *   6                over 67,108,978 bytes
+ *   10 (length, 0)   under 4 bytes
+ *   9 (0, found)     the count of section 0 is neither 10 nor 14: this is no pyramid file
+ *   10 (length, 0)   section 0 is not whole: under 14 bytes where its count is 10, under 18 where it is 14
+ * There is no 18: a stored rate of 0 is given as it is.
  */
 bk_head bk_pyramid_head(const uint8_t *file, size_t file_bytes);
+
+/* What bk_pyramid_open returns: the answer, and the sampling rate in millihertz. It is 0 for an old file, and when refused. */
+typedef struct bk_opened {
+    bk_answer answer;
+    uint32_t rate;
+} bk_opened;
 
 /*
  * The samples of the finest level that a pyramid file, or the front of one that was cut, has whole, into `output`: its
  * approximations at that level, or at level 0 the recording itself. `width`, in bytes, and `point` are those that the file
- * must have. A file cut in section 1 is refused; one cut later ends there, and the broken section is ignored.
- * Done: first is the level, second the count of samples, n halved, rounded up, so many times as the level says. With empty areas
- * a file that opens is refused with 7 (0, count). Room for file_bytes / width samples is always enough, where the width is 1, 2 or
- * 4: one that comes from a head may be any byte, so check it before you divide by it. Samples in `output` past the count are as
- * they were. `work1` and `work2` are room; what their first count samples hold after a done call is not said, and what is beyond
- * them is as it was.
+ * must have. A file cut in section 0 or 1 is refused; one cut later ends there, and the broken section is ignored.
+ * Done: first is the level, second the count of samples, n halved, rounded up, so many times as the level says. The rate beside
+ * them is that of the recording, whatever the level is, and 0 for an old file. With empty areas a file that opens is refused with
+ * 7 (0, count). Room for file_bytes / width samples is always enough, where the width is 1, 2 or 4: one that comes from a head may
+ * be any byte, so check it before you divide by it. Samples in `output` past the count are as they were. `work1` and `work2` are
+ * room; what their first count samples hold after a done call is not said, and what is beyond them is as it was.
  *
  * Refused, in this order:
  *   9 (0, length)         a slice's byte length is no multiple of the width asked: the first of output, work1, work2; not asked
  *                         where that width is not 1, 2 or 4; file may have any
- *   6                     over 67,108,974 bytes
- *   10 (length, 0)        under 14 bytes
- *   9 (0, found)          the count of section 0 is not 10
+ *   6                     over 67,108,978 bytes
+ *   10 (length, 0)        under 4 bytes
+ *   9 (0, found)          the count of section 0 is neither 10 nor 14
+ *   10 (length, 0)        section 0 is not whole: under 14 bytes where its count is 10, under 18 where it is 14
  *   8 (file's, asked)     the file's width is not the one asked, or that is not 1, 2 or 4
  *   1 (n, 3)              fewer than 3 samples
  *   6                     over 16,777,216 samples
  *   4                     0 levels, or more than the recording has
  *   11 (file's, asked)    the file's point is not the one asked
+ *   18                    a new file whose rate is 0
  *   10 (length, 0)        the file ends in the count of section 1
  *   9 (section, found)    section by section: its count is not the one that n and the levels give
  *   10 (length, 0)        the file ends in the samples of section 1, whose count is right
@@ -639,8 +676,15 @@ bk_head bk_pyramid_head(const uint8_t *file, size_t file_bytes);
  * first number is that section's. 6 is the file's where file_bytes is over the limit, else the samples that its head says. 8
  * with two equal numbers: the file has the width that was asked, and it is not 1, 2 or 4. 10 always means that too little is
  * left: nothing of this file can be shown.
+ *
+ * Changed in 0.10.0: what is returned; new files are taken too; 18 is new. 4 to 13 bytes with a count of section 0 that is neither
+ * 10 nor 14 are 9, and were 10. An old file with bytes behind it, 67,108,975 to 67,108,978 in all, is 12, and was 6.
+ *
+ * For example, of the 35 bytes that bk_pyramid_write_i8 makes of 0, 3, -4, 1, 7 at 2 levels for point 14 and the rate 1000, the
+ * first 24 to 28 open at level 2 as -1, 3, the first 29 to 34 at level 1 as 3, -3, 7, and all 35 as the recording, each with the
+ * rate 1000; fewer than 24 are refused with 10.
  */
-bk_answer bk_pyramid_open(const uint8_t *file, size_t file_bytes, uint32_t width, uint32_t point, uint8_t *output,
+bk_opened bk_pyramid_open(const uint8_t *file, size_t file_bytes, uint32_t width, uint32_t point, uint8_t *output,
                           size_t output_bytes, uint8_t *work1, size_t work1_bytes, uint8_t *work2, size_t work2_bytes);
 
 /* What bk_pyramid_sample returns: the answer, and the sample as a signed number. When refused the sample is 0. */
@@ -656,16 +700,17 @@ typedef struct bk_sample {
  * sample takes a few bytes of each level, however long the recording is. Done: first and second are 0, and the sample stands
  * beside them; look at the number first, since 0 is a sample too.
  *
- * The answer does not tell the level. It is the recording's own sample where the file is whole, that is where file_bytes is what
- * bk_pyramid_size says of the head's width, samples and levels. Where the file was cut, ask bk_pyramid_open once which level is
- * left, and then here for the column that bk_note_column gives at that level.
+ * The answer tells neither the level nor the rate. It is the recording's own sample where the file is whole, that is where
+ * file_bytes is what bk_pyramid_size says of the head's width, samples and levels, or 4 less for an old file, whose head has the
+ * rate 0. Where the file was cut, ask bk_pyramid_open once which level is left, and then here for the column that bk_note_column
+ * gives at that level.
  *
- * Refused, in this order: as bk_pyramid_open from 6 (over 67,108,974 bytes) to 12, then
+ * Refused, in this order: as bk_pyramid_open from 6 (over 67,108,978 bytes) to 12, then
  *   13 (place, count)   place is not one of 0 to count - 1; count is what bk_pyramid_open would give back
  * There is no 7, and 9 with 0 is section 0's count: there is no area here. 8 with two equal numbers as in bk_pyramid_open.
  *
- * For example, of the 31 bytes that bk_pyramid_write_i8 makes of 0, 3, -4, 1, 7 at 2 levels for point 14, place 2 is -4. Of
- * their first 27 bytes, which open at level 1 with 3 samples, place 1 is -3, and place 3 is refused with 13 (3, 3).
+ * For example, of the 35 bytes that bk_pyramid_write_i8 makes of 0, 3, -4, 1, 7 at 2 levels for point 14, at any rate, place 2 is
+ * -4. Of their first 31 bytes, which open at level 1 with 3 samples, place 1 is -3, and place 3 is refused with 13 (3, 3).
  */
 bk_sample bk_pyramid_sample(const uint8_t *file, size_t file_bytes, uint32_t width, uint32_t point, uint64_t place);
 
@@ -675,17 +720,18 @@ bk_sample bk_pyramid_sample(const uint8_t *file, size_t file_bytes, uint32_t wid
  * Sections after it are not looked at, so it may be asked of a file that was cut behind it.
  * Done: first is the place of its first byte in `file`, second how many bytes it has.
  *
- * Refused, in this order: as bk_pyramid_open from 6 (over 67,108,974 bytes) to 11, then
+ * Refused, in this order: as bk_pyramid_open from 6 (over 67,108,978 bytes) to 18, then
  *   13 (number, levels + 1)   number is 0 or above levels + 1
  *   9 (section, found)        section by section up to this one: its count is not the one that n and the levels give
  *   10 (length, 0)            the file ends in this section or before it
- * Which 10 it is: under 14 bytes the file has no head; else the section asked for is not whole, and one with a smaller number
- * may still be. 8 with two equal numbers as in bk_pyramid_open. 9 with 0 is section 0's count: there is no area here.
+ * Which 10 it is: where bk_pyramid_head answers 10 too, section 0 is not whole; else the section asked for is not, and one with a
+ * smaller number may still be. 8 with two equal numbers as in bk_pyramid_open. 9 with 0 is section 0's count: there is no area
+ * here.
  */
 bk_answer bk_pyramid_section(const uint8_t *file, size_t file_bytes, uint32_t width, uint32_t point, uint32_t number);
 
 /*
- * The route book: up to 64 whole pyramid files in one area, found by the number of their measuring point.
+ * The route book: up to 64 whole pyramid files in one area, old and new ones, found by the number of their measuring point.
  *
  * bk_book_fresh makes an empty book of an area, bk_book_add copies a file into it, bk_book_find says where the file of a point
  * stands, bk_book_withdraw takes one out and moves those behind it down, and bk_book_room says how much room is free. A point is
@@ -701,18 +747,19 @@ bk_answer bk_pyramid_section(const uint8_t *file, size_t file_bytes, uint32_t wi
  *
  * Layout, with numbers as in a file (docs/FORMAT.md has it with an example, byte by byte): in bytes 0 to 3 the count of entries,
  * 64; from byte 4 on the entries, 14 bytes each: the first 14 bytes of the files that are held, in the order in which these were
- * added, then zeros; in bytes 900 to 903 how many bytes all these files have, a u32; from byte 904 on the files, without gaps, in
- * the order of the entries. What is behind them is free room: no call reads it, and only bk_book_add writes it. A withdrawal wipes
- * nothing: the last bytes of the old data, as many as the withdrawn file had, stay behind the new data until a file is added over
- * them. If it was the last file it stays there whole. The free room is the end of the area, as many bytes as the first number
- * of bk_book_room: overwrite these where that matters, or keep on a disk only what is before them.
+ * added, then zeros; an entry does not have the rate, which is in the file alone; in bytes 900 to 903 how many bytes all these
+ * files have, a u32; from byte 904 on the files, without gaps, in the order of the entries. What is behind them is free room: no
+ * call reads it, and only bk_book_add writes it. A withdrawal wipes nothing: the last bytes of the old data, as many as the
+ * withdrawn file had, stay behind the new data until a file is added over them. If it was the last file it stays there whole. The
+ * free room is the end of the area, as many bytes as the first number of bk_book_room: overwrite these where that matters, or keep
+ * on a disk only what is before them.
  *
  * Refused by every call, in this order, before what the call itself lists:
  *   6               the area has over 4,294,967,295 bytes
  *   7 (have, 904)   the area has under 904 bytes, which an empty book has
  *   9 (0, 0)        not by bk_book_fresh: a directory or a count that no calls could have left. The first count is not 64; or of
  *                   the entries before the first whose own first four bytes are 0, one is not what any file could begin with
- *                   (count 10, width 1, 2 or 4, 3 to 16,777,216 samples, 1 level up to their depth), or two have the same
+ *                   (count 10 or 14, width 1, 2 or 4, 3 to 16,777,216 samples, 1 level up to their depth), or two have the same
  *                   point; or a byte of the other entries is not 0; or the second count is not the sum of the sizes that the
  *                   entries tell; or the area is too short for these. The bytes of the files are not looked at
  */
@@ -730,19 +777,21 @@ bk_answer bk_book_fresh(uint8_t *area, size_t area_bytes);
 
 /*
  * Copies the pyramid file in `file` into the book in `area`, behind the files that it holds, for `point`, which must be the file's
- * own. Only a whole file is kept. It may have any of the three widths, and is opened for the one that it says. `file` and `area`
- * must not overlap: a file cannot be added from where it stands in the same book, nor from its free room. A file of another book
- * may be added, where the two areas do not overlap. Done: first and second are 0.
+ * own. Only a whole file is kept, of either kind. It may have any of the three widths, and is opened for the one that it says.
+ * `file` and `area` must not overlap: a file cannot be added from where it stands in the same book, nor from its free room. A file
+ * of another book may be added, where the two areas do not overlap. Done: first and second are 0.
  *
  * Refused, in this order, after what every book call refuses:
- *   6                    file: over 67,108,974 bytes
- *   10 (length, 0)       file: under 14 bytes
- *   9 (0, found)         the count of section 0 is not 10
+ *   6                    file: over 67,108,978 bytes
+ *   10 (length, 0)       file: under 4 bytes
+ *   9 (0, found)         the count of section 0 is neither 10 nor 14
+ *   10 (length, 0)       section 0 is not whole: under 14 bytes where its count is 10, under 18 where it is 14
  *   8 (width, width)     the file's width is not 1, 2 or 4
  *   1 (n, 3)             fewer than 3 samples
  *   6                    over 16,777,216 samples
  *   4                    0 levels, or more than the recording has
  *   11 (file's, asked)   the file's point is not the one asked
+ *   18                   a new file whose rate is 0
  *   10 (length, 0)       section by section: the file ends in its count
  *   9 (section, found)   or its count is not the one that n and the levels give
  *   10 (length, 0)       or the file ends in its samples
@@ -753,7 +802,7 @@ bk_answer bk_book_fresh(uint8_t *area, size_t area_bytes);
  * From 6 to 12 these are what bk_pyramid_open says of the file, asked for its own width, but that it is refused with 10 also where
  * a part of it would open.
  * Which one it is: 7 is always the area's, and 10 always the file's. 6 is the area's where area_bytes is over 4,294,967,295; else
- * the file's where file_bytes is over 67,108,974; else the samples that its head says. 9 (0, 0) is the book's where bk_book_room
+ * the file's where file_bytes is over 67,108,978; else the samples that its head says. 9 (0, 0) is the book's where bk_book_room
  * answers the same; where bk_book_room is done, and for every other 9, it is the file's. 14 is the 64 points where bk_book_room
  * says 64, else the free room.
  */
