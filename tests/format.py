@@ -1,6 +1,6 @@
 #!/usr/bin/env python3
 # The desk's calls compared with tests/reader.py, a reader and a writer made from docs/FORMAT.md, on whole, cut and damaged
-# files, on books of them, and on recordings in pieces. Call: tests/format.py [--seed N]
+# files of both kinds, on books of them, and on recordings in pieces. Call: tests/format.py [--seed N]
 # First tests/desk/build. The first answer that differs ends the run. The lent slices of a file's calls are looked at by
 # tests/pyramid.py, of which only the talking to the server is used here.
 import argparse
@@ -19,14 +19,15 @@ def bytes_of(values, width):
     return b"".join(value.to_bytes(width, "little", signed=True) for value in values)
 
 
-def write(samples, width, levels, point):
-    return reader.write(samples, width, levels, point)[3]
+# The file of a rate: an old one where it is 0.
+def file_of(samples, width, levels, point, rate):
+    return reader.write(samples, width, levels, point, rate)[3] if rate else reader.write_old(samples, width, levels, point)
 
 
 # ---- asking the desk
 
-# A request, and the words its answer starts with: the three numbers and the first lent slice, where it has one; of a recording in
-# pieces all lent slices.
+# A request, and the words its answer starts with: the three numbers, of an opening also the rate, and the first lent slice, where
+# it has one; of a recording in pieces all lent slices.
 class Ask(NamedTuple):
     request: str
     wanted: list
@@ -55,12 +56,12 @@ def words(said, *slices):
 
 
 # Lent slices are as long as they must be; every byte of the first starts as another than is wanted.
-def ask_write(samples, width, levels, point):
-    *said, file = reader.write(samples, width, levels, point)
+def ask_write(samples, width, levels, point, rate):
+    *said, file = reader.write(samples, width, levels, point, rate)
     file = file or b""
     signal = bytes_of(samples, width)
     lent = [bytes(byte ^ 255 for byte in file), signal, signal]
-    return Ask(request(f"pyramid_write_i{8 * width}", [signal, *lent], levels, point), words(said, file))
+    return Ask(request(f"pyramid_write_i{8 * width}", [signal, *lent], levels, point, rate), words(said, file))
 
 
 def ask_open(data, width, point):
@@ -140,22 +141,23 @@ def any_point(random):
     return random.choice((0, 14, 255, 256, 2**31, LAST_U32, random.randint(0, LAST_U32)))
 
 
-class File(NamedTuple):
-    data: bytes
-    width: int
-    point: int
-    levels: int
+def any_rate(random):
+    return random.choice((1, 255, 256, 1000, 25_600_000, 2**31, LAST_U32, random.randint(1, LAST_U32)))
 
 
-def any_file(random, width, n, levels):
-    point = any_point(random)
-    return File(write(any_samples(random, width, n), width, levels, point), width, point, levels)
+# A recording as an old file, as a new one, and as a new one whose rate was made 0.
+def kinds(random, samples, width, levels, point):
+    old, new = (file_of(samples, width, levels, point, rate) for rate in (0, any_rate(random)))
+    return old, new, new[:14] + bytes(4) + new[18:]
 
 
+# Each with its width, point and levels. Of the third kind every fault is one more: 18 is in its place among them.
 def small_files(random):
     for width in WIDTHS:
         for n in (3, 4, 5, 6, 9, 17):
-            yield any_file(random, width, n, random.randint(1, depth(n)))
+            levels, point = random.randint(1, depth(n)), any_point(random)
+            for data in kinds(random, any_samples(random, width, n), width, levels, point):
+                yield data, width, point, levels
 
 
 # ---- the parts of the test
@@ -166,40 +168,55 @@ def section_of(heading):
         return re.search(rf"^## {heading}\n(.*?)(?=^## |\Z)", document.read(), re.MULTILINE | re.DOTALL)[1]
 
 
-# The example of docs/FORMAT.md, as it stands there.
-def example(random):
-    rows = re.findall(r"^\| (`[^|]*)\|", section_of("Example"), re.MULTILINE)
-    data = bytes.fromhex("".join(rows).replace("`", ""))
+def numbers_in(text):
+    return [int(number.replace(",", "")) for number in re.findall(r"-?\d+(?:,\d{3})*", text)]
+
+
+# The examples of both kinds in docs/FORMAT.md, as they stand there: the bytes, and what each front of them opens as.
+def examples(random):
     samples = [0, 3, -4, 1, 7]
-    assert data == write(samples, 1, 2, 14) and reader.open_file(data, 1, 14) == (0, 0, 5, samples)
-    yield ask_write(samples, 1, 2, 14)
-    yield from ask_all(data, 1, 14, 2)
+    yield ask_write(samples, 1, 2, 14, 1000)
+    for heading, rate in ("Example", 1000), ("Example of an old file", 0):
+        text, cuts = section_of(heading), 0
+        data = bytes.fromhex("".join(re.findall(r"^\| (`[^|]*)\|", text, re.MULTILINE)).replace("`", ""))
+        assert data == file_of(samples, 1, 2, 14, rate)
+        for fronts, what, beside in re.findall(r"^\| (\d[^|]*) \| ([^|]*) \| ([^|]*) \|$", text, re.MULTILINE):
+            first, *_, last = 2 * numbers_in(fronts)
+            level, *left = numbers_in(what)
+            for cut in range(first, last + 1):
+                said = (10, cut, 0) if what == "refused 10" else (0, level, len(left))
+                assert cut == cuts and reader.open_file(data[:cut], 1, 14) == (*said, *numbers_in(beside), left or None)
+                yield from ask_all(data[:cut], 1, 14, 2)
+                cuts += 1
+        assert cuts == len(data) + 1 and reader.open_file(data, 1, 14) == (0, 0, 5, rate, samples)
 
 
-# Files of every width, and each prefix of those that are small.
+# Files of every width and both kinds, and each prefix of those that are small.
 def written(random):
     for width in WIDTHS:
         for n in [*range(3, 40), *(random.randint(40, 1500) for _ in range(40))]:
             for levels in {1, depth(n), random.randint(1, depth(n))}:
                 samples, point = any_samples(random, width, n), any_point(random)
-                yield ask_write(samples, width, levels, point)
-                data = write(samples, width, levels, point)
-                for cut in range(len(data) + 1) if len(data) <= SMALL else [len(data), random.randint(14, len(data))]:
-                    yield from ask_all(data[:cut], width, point, levels)
+                yield ask_write(samples, width, levels, point, any_rate(random))
+                for data in kinds(random, samples, width, levels, point)[:2]:
+                    for cut in range(len(data) + 1) if len(data) <= SMALL else [len(data), random.randint(14, len(data))]:
+                        yield from ask_all(data[:cut], width, point, levels)
 
 
+# Levels of every number, and no rate.
 def too_deep(random):
     for width in WIDTHS:
         for n in range(20):
             for levels in (0, 1, depth(n), depth(n) + 1, 23, 24, 256, 257, LAST_U32):
-                yield ask_write(any_samples(random, width, n), width, levels, any_point(random))
+                for rate in 0, any_rate(random):
+                    yield ask_write(any_samples(random, width, n), width, levels, any_point(random), rate)
 
 
-# Each byte changed, in the whole file and in one that is cut.
+# Each byte changed, in the whole file and in one that is cut. A 4 changed in the first byte is the other kind.
 def damaged(random):
     for data, width, point, levels in small_files(random):
         for place, byte in enumerate(data):
-            for other in {(byte + 1) % 256, (byte - 1) % 256, byte ^ 128, 0, 255, random.randrange(256)} - {byte}:
+            for other in {(byte + 1) % 256, (byte - 1) % 256, byte ^ 4, byte ^ 128, 0, 255, random.randrange(256)} - {byte}:
                 changed = data[:place] + bytes([other]) + data[place + 1:]
                 yield from ask_all(changed, width, point, levels)
                 yield from ask_all(changed[:random.randint(place, len(data))], width, point, levels)
@@ -220,19 +237,21 @@ def other_asked(random):
             yield from ask_all(data[:4] + bytes([own]) + data[5:], own, point, levels)
 
 
-# Random bytes alone, and after a section 0 of a recording of any length.
+# Random bytes, alone and after a count of section 0, and after a section 0, of a recording of any length.
 def noise(random):
     lengths = [0, 2, 3, 4, 5, 8, 9, MOST_SAMPLES // 2 + 1, MOST_SAMPLES, MOST_SAMPLES + 1, 2**31, LAST_U32]
     for _ in range(500):
-        yield from ask_all(random.randbytes(random.randint(0, 60)), random.choice(WIDTHS), 0, 1)
+        count = random.choice((b"", b"\x0a\0\0\0", b"\x0e\0\0\0"))
+        yield from ask_all(count + random.randbytes(random.randint(0, 60)), random.choice(WIDTHS), 0, 1)
     for n in lengths:
         for levels in {0, 1, depth(n) - 1, depth(n), depth(n) + 1, 23, 24, 255} & {*range(256)}:
             for width in WIDTHS:
-                front = bytes([10, 0, 0, 0, width, levels]) + n.to_bytes(4, "little") + bytes([7, 0, 0, 0])
                 count = counts_of(n, levels)[0].to_bytes(4, "little")
-                for data in (front, front + random.randbytes(40), front + count + random.randbytes(40)):
-                    yield from ask_all(data, width, 7, 2)
-                    yield ask_section(data, width, 7, levels + 1)
+                for kind, rate in (10, b""), (14, any_rate(random).to_bytes(4, "little")), (14, bytes(4)):
+                    front = bytes([kind, 0, 0, 0, width, levels]) + n.to_bytes(4, "little") + bytes([7, 0, 0, 0]) + rate
+                    for data in (front, front + random.randbytes(40), front + count + random.randbytes(40)):
+                        yield from ask_all(data, width, 7, 2)
+                        yield ask_section(data, width, 7, levels + 1)
 
 
 # The area that a table shows, a row for each part of it: its first byte, its bytes, of which one may stand for many.
@@ -245,29 +264,30 @@ def area_in(table):
     return area
 
 
-# The example of a book in docs/FORMAT.md, as it stands there: both areas, byte by byte, and the answers below them.
-def book_example(random):
-    text = section_of("Example of a book")
-    both, alone = (area_in(table) for table in text.split("Point 14 is withdrawn"))
-    answers = [re.findall(r"(\d+) \((\d+), (\d+)\)", row) for row in re.findall(r"^\| (?:find|how).*$", text, re.MULTILINE)]
-    answers = [[tuple(map(int, said)) for said in column] for column in zip(*answers)]
-    book = Book(b"\x5a" * len(both))
-    yield book.ask("fresh")
-    yield book.ask("add", write([0, 3, -4, 1, 7], 1, 2, 14), 14)
-    yield book.ask("add", write([7, 1, -4, 3, 0], 1, 2, 15), 15)
-    for area, said in (both, answers[0]), (alone, answers[1]):
-        assert len(area) == 1000 and book.area == area
-        assert [reader.book_find(area, 14)[0], reader.book_find(area, 15)[0], reader.book_room(area)[0]] == said
-        yield book.ask("find", 14)
-        yield book.ask("find", 15)
-        yield book.ask("room")
-        if area == both:
+# The examples of a book in docs/FORMAT.md, as they stand there: the areas, byte by byte, and the answers below them.
+def book_examples(random):
+    for heading, rate in ("Example of a book", 0), ("Example of a book of both kinds", 1000):
+        text = section_of(heading)
+        areas = [area_in(table) for table in text.split("Point 14 is withdrawn")]
+        answers = [re.findall(r"(\d+) \((\d+), (\d+)\)", row) for row in re.findall(r"^\| (?:find|how).*$", text, re.MULTILINE)]
+        answers = [[tuple(map(int, said)) for said in column] for column in zip(*answers)]
+        book = Book(b"\x5a" * 1000)
+        yield book.ask("fresh")
+        yield book.ask("add", file_of([0, 3, -4, 1, 7], 1, 2, 14, rate), 14)
+        yield book.ask("add", file_of([7, 1, -4, 3, 0], 1, 2, 15, 0), 15)
+        for area, said in zip(areas, answers, strict=True):
+            assert len(area) == 1000 and book.area == area
+            assert [reader.book_find(area, 14)[0], reader.book_find(area, 15)[0], reader.book_room(area)[0]] == said
+            yield book.ask("find", 14)
+            yield book.ask("find", 15)
+            yield book.ask("room")
             yield book.ask("withdraw", 14)
 
 
 def any_book_file(random, point):
     width, n = random.choice(WIDTHS), random.randint(3, 20)
-    file = write(any_samples(random, width, n), width, random.randint(1, depth(n)), point)
+    files = kinds(random, any_samples(random, width, n), width, random.randint(1, depth(n)), point)
+    file = random.choices(files, (4, 4, 1))[0]
     cut = random.randrange(len(file))
     return random.choice((file, file, file, file[:cut], file + b"\0", file[:cut] + b"\1" + file[cut + 1:]))
 
@@ -285,16 +305,23 @@ def books(random):
             yield book.ask(name, *{"add": (file, point), "room": ()}.get(name, (point,)))
 
 
-# Each byte of a directory and of the two counts changed.
+# Each byte of a directory and of the two counts changed; and the kind of an entry with the data bytes that it then says, which is a
+# book: its files are not asked.
 def damaged_books(random):
     book = Book(bytes(1100))
     yield book.ask("fresh")
-    for point in 14, 15, 270:
-        yield book.ask("add", write(any_samples(random, 1, 5), 1, 2, point), point)
-    area, file = book.area, write(any_samples(random, 1, 4), 1, 1, 14)
+    for point, rate in (14, 0), (15, any_rate(random)), (270, 0):
+        yield book.ask("add", file_of(any_samples(random, 1, 5), 1, 2, point, rate), point)
+    area, file = book.area, file_of(any_samples(random, 1, 4), 1, 1, 14, any_rate(random))
     for place in range(904):
-        for other in {area[place] ^ 1, random.randrange(256)} - {area[place]}:
+        for other in {area[place] ^ 1, area[place] ^ 4, random.randrange(256)} - {area[place]}:
             yield from Book(area[:place] + bytes([other]) + area[place + 1:]).ask_all(file, 14)
+    for place in 4, 18, 32:
+        other = bytearray(area)
+        other[place] ^= 4
+        other[900] += other[place] - area[place]
+        assert reader.book_room(bytes(other))[0] == (0, len(area) - 904 - other[900], 3)
+        yield from Book(bytes(other)).ask_all(file, 14)
 
 
 # The example of a recording in pieces in docs/FORMAT.md, as it stands there: the state after each sample, and what is written; and
@@ -352,8 +379,8 @@ def states(random):
             yield Stream(width, state).ask(None, *(random.randbytes(width * random.randrange(2)) for _ in range(2)))
 
 
-PARTS = [example, written, too_deep, damaged, trailing, other_asked, noise]
-PARTS += [book_example, books, damaged_books, stream_example, streams, states]
+PARTS = [examples, written, too_deep, damaged, trailing, other_asked, noise]
+PARTS += [book_examples, books, damaged_books, stream_example, streams, states]
 
 
 def main():

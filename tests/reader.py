@@ -1,369 +1,330 @@
-# A reader and a writer of the pyramid file, of the route book and of a recording in pieces, written from docs/FORMAT.md alone.
+# A reader and a writer of the pyramid file, of both kinds, of the route book and of a recording in pieces, written from docs/FORMAT.md alone.
 # tests/format.py holds the desk to it.
-MOST_BYTES = 67_108_974
-MOST_SAMPLES = 16_777_216
+
+import struct
+
+MOST_BYTES = 67108978
+MOST_SAMPLES = 16777216
+STATE_BYTES = 16
+OLD, NEW = 10, 14  # section 0's count
+ENTRIES, ENTRY, DATA, MOST_AREA = 64, 14, 904, 4294967295  # of a book; DATA is where its data starts
+CODES = {1: "b", 2: "h", 4: "i"}
 
 
-def keep(v, width):
-    bits = 8 * width
-    v &= (1 << bits) - 1
-    return v - (1 << bits) if v >> (bits - 1) else v
+def u32(data, at):
+    return struct.unpack_from("<I", data, at)[0]
+
+
+def pack(values, width):
+    return struct.pack("<%d%s" % (len(values), CODES[width]), *values)
+
+
+def unpack(data, width):
+    return list(struct.unpack("<%d%s" % (len(data) // width, CODES[width]), data))
+
+
+def keep(value, width):
+    half = 1 << (8 * width - 1)
+    return ((value + half) & (2 * half - 1)) - half
+
+
+# One level.
 
 
 def depth(n):
     levels = 0
     while n >= 3:
-        levels += 1
-        n = (n + 1) // 2
+        n, levels = (n + 1) // 2, levels + 1
     return levels
 
 
+def counts_of(n, levels):
+    details = []
+    for _ in range(levels):
+        details.insert(0, n // 2)
+        n = (n + 1) // 2
+    return [n] + details
+
+
+def lifted(even, d, sign, width):  # the even ones and the details beside them; zip ends with the even ones
+    return [keep(e + sign * ((l + r + 2) // 4), width) for e, l, r in zip(even, d[:1] + d, d + d[-1:])]
+
+
 def forward(x, width):
-    m = len(x)
-    half = m // 2
-    d = []
-    for i in range(half):
-        right = x[2 * i + 2] if 2 * i + 2 < m else x[m - 2]
-        d.append(keep(x[2 * i + 1] - (x[2 * i] + right) // 2, width))
-    a = []
-    for i in range((m + 1) // 2):
-        left = d[i - 1] if i > 0 else d[0]
-        right = d[i] if i < half else d[half - 1]
-        a.append(keep(x[2 * i] + (left + right + 2) // 4, width))
-    return a, d
+    even, odd = list(x[0::2]), list(x[1::2])
+    d = [keep(o - (l + r) // 2, width) for o, l, r in zip(odd, even, even[1:] + even[-1:])]
+    return lifted(even, d, 1, width), d
 
 
 def back(a, d, width):
-    m = len(a) + len(d)
-    half = len(d)
-    x = [0] * m
-    for i in range(len(a)):
-        left = d[i - 1] if i > 0 else d[0]
-        right = d[i] if i < half else d[half - 1]
-        x[2 * i] = keep(a[i] - (left + right + 2) // 4, width)
-    for i in range(half):
-        right = x[2 * i + 2] if 2 * i + 2 < m else x[m - 2]
-        x[2 * i + 1] = keep(d[i] + (x[2 * i] + right) // 2, width)
+    even = lifted(a, d, -1, width)
+    odd = [keep(o + (l + r) // 2, width) for o, l, r in zip(d, even, even[1:] + even[-1:])]
+    x = [0] * (len(even) + len(odd))
+    x[0::2], x[1::2] = even, odd
     return x
 
 
-def u32(data, at):
-    return int.from_bytes(data[at:at + 4], "little")
+# The pyramid file.
 
 
-def numbers(data, width):
-    return [int.from_bytes(data[k:k + width], "little", signed=True)
-            for k in range(0, len(data), width)]
-
-
-def counts_of(n, levels):
-    """Counts of the sections 1 .. L + 1."""
-    details = []
-    m = n
+def sections(samples, width, levels):
+    a, details = list(samples), []
     for _ in range(levels):
-        details.append(m // 2)
-        m = (m + 1) // 2
-    return [m] + details[::-1]
+        a, d = forward(a, width)
+        details.insert(0, d)
+    return b"".join(struct.pack("<I", len(s)) + pack(s, width) for s in [a] + details)
 
 
-def head(data, width, point):
-    """-> refusal or None, L, n"""
-    length = len(data)
-    if length > MOST_BYTES:
-        return (6, 0, 0), 0, 0
-    if length < 14:
-        return (10, length, 0), 0, 0
-    count = u32(data, 0)
-    if count != 10:
-        return (9, 0, count), 0, 0
-    own = data[4]
-    if own != width or width not in (1, 2, 4):
-        return (8, own, width), 0, 0
-    levels = data[5]
-    n = u32(data, 6)
-    if n < 3:
-        return (1, n, 3), 0, 0
+def write(samples, width, levels, point, rate):
+    n = len(samples)
+    if rate == 0:
+        return 18, 0, 0, None
     if n > MOST_SAMPLES:
-        return (6, 0, 0), 0, 0
-    if levels == 0 or levels > depth(n):
-        return (4, 0, 0), 0, 0
-    own = u32(data, 10)
-    if own != point:
-        return (11, own, point), 0, 0
-    return None, levels, n
+        return 6, 0, 0, None
+    if n < 3 and levels < 2:
+        return 1, n, 3, None
+    if levels > depth(n):
+        return 4, 0, 0, None
+    levels = max(levels, 1)
+    return 0, 0, 0, struct.pack("<IBBIII", NEW, width, levels, n, point, rate) + sections(samples, width, levels)
 
 
-CUT = object()
+def write_old(samples, width, levels, point):
+    levels = max(levels, 1)
+    return struct.pack("<IBBII", OLD, width, levels, len(samples), point) + sections(samples, width, levels)
 
 
-def one(data, at, number, count, width):
-    """One section at a place: CUT, a refusal (9, ..) or (place, how many bytes)."""
-    if len(data) - at < 4:
-        return CUT
-    said = u32(data, at)
-    if said != count:
-        return (9, number, said)
-    if len(data) - at - 4 < count * width:
-        return CUT
-    return (at + 4, count * width)
+def head(data, width, point):  # the tests down to and with 18: the refusal, if any
+    if len(data) > MOST_BYTES:
+        return 6, 0, 0
+    if len(data) < 4:
+        return 10, len(data), 0
+    count = u32(data, 0)
+    if count not in (OLD, NEW):
+        return 9, 0, count
+    if len(data) < 4 + count:
+        return 10, len(data), 0
+    its_width, levels, n, its_point = struct.unpack_from("<BBII", data, 4)
+    if its_width != width or width not in CODES:
+        return 8, its_width, width
+    if n < 3:
+        return 1, n, 3
+    if n > MOST_SAMPLES:
+        return 6, 0, 0
+    if not 1 <= levels <= depth(n):
+        return 4, 0, 0
+    if its_point != point:
+        return 11, its_point, point
+    if count == NEW and u32(data, 14) == 0:
+        return 18, 0, 0
+    return None
+
+
+def walk(data, last):  # sections 1 to last, after head: a wrong count, if any, and (place, bytes) of those that are whole
+    width, levels, n = struct.unpack_from("<BBI", data, 4)
+    at, whole = 4 + u32(data, 0), []
+    for number, count in enumerate(counts_of(n, levels)[:last], 1):
+        if len(data) - at < 4:
+            break
+        if u32(data, at) != count:
+            return (9, number, u32(data, at)), whole
+        at += 4
+        if len(data) - at < width * count:
+            break
+        whole.append((at, width * count))
+        at += width * count
+    return None, whole
+
+
+def parts(data, width, point):  # all the tests: the refusal, if any, and (place, bytes) of the sections that are whole
+    refusal = head(data, width, point)
+    if refusal:
+        return refusal, []
+    refusal, whole = walk(data, data[5] + 1)
+    if not refusal and not whole:
+        refusal = 10, len(data), 0
+    if not refusal and len(whole) == data[5] + 1 and sum(whole[-1]) < len(data):
+        refusal = 12, len(data) - sum(whole[-1]), 0
+    return refusal, whole
 
 
 def open_file(data, width, point):
-    refusal, levels, n = head(data, width, point)
+    refusal, whole = parts(data, width, point)
     if refusal:
-        return refusal + (None,)
-    counts = counts_of(n, levels)
-    at = 14
-    parts = []
-    cut = False
-    for number, count in enumerate(counts, 1):
-        got = one(data, at, number, count, width)
-        if got is CUT:
-            if number == 1:
-                return (10, len(data), 0, None)
-            cut = True
-            break
-        if len(got) == 3:
-            return got + (None,)
-        parts.append(numbers(data[got[0]:got[0] + got[1]], width))
-        at = got[0] + got[1]
-    if not cut and at < len(data):
-        return (12, len(data) - at, 0, None)
-    x = parts[0]
-    for d in parts[1:]:
-        x = back(x, d, width)
-    return (0, levels - (len(parts) - 1), len(x), x)
+        return *refusal, 0, None
+    a, *details = [unpack(data[at:at + size], width) for at, size in whole]
+    for d in details:
+        a = back(a, d, width)
+    return 0, data[5] - len(details), len(a), u32(data, 14) if u32(data, 0) == NEW else 0, a
 
 
 def section(data, width, point, number):
-    refusal, levels, n = head(data, width, point)
+    refusal = head(data, width, point)
     if refusal:
-        return refusal + (None,)
-    if number == 0 or number > levels + 1:
-        return (13, number, levels + 1, None)
-    counts = counts_of(n, levels)
-    at = 14
-    for k in range(1, number + 1):
-        got = one(data, at, k, counts[k - 1], width)
-        if got is CUT:
-            return (10, len(data), 0, None)
-        if len(got) == 3:
-            return got + (None,)
-        at = got[0] + got[1]
-    return (0, got[0], got[1], bytes(data[got[0]:at]))
+        return *refusal, None
+    if not 1 <= number <= data[5] + 1:
+        return 13, number, data[5] + 1, None
+    refusal, whole = walk(data, number)
+    if not refusal and len(whole) < number:
+        refusal = 10, len(data), 0
+    if refusal:
+        return *refusal, None
+    at, size = whole[-1]
+    return 0, at, size, data[at:at + size]
 
 
-def write(samples, width, levels, point):
-    n = len(samples)
-    if n > MOST_SAMPLES:
-        return (6, 0, 0, None)
-    if n < 3 and levels <= 1:
-        return (1, n, 3, None)
-    levels = levels or 1
-    if levels > depth(n):
-        return (4, 0, 0, None)
-    x = list(samples)
-    details = []
-    for _ in range(levels):
-        x, d = forward(x, width)
-        details.append(d)
-    out = bytearray()
-    out += (10).to_bytes(4, "little")
-    out += bytes([width, levels])
-    out += n.to_bytes(4, "little")
-    out += point.to_bytes(4, "little")
-    for part in [x] + details[::-1]:
-        out += len(part).to_bytes(4, "little")
-        for v in part:
-            out += v.to_bytes(width, "little", signed=True)
-    return (0, 0, 0, bytes(out))
+# The route book.
 
 
-# ---- the route book
+def area_of(area):
+    if len(area) > MOST_AREA:
+        return 6, 0, 0
+    if len(area) < DATA:
+        return 7, len(area), DATA
+    return None
 
-MOST_AREA = 4_294_967_295
-ENTRIES = 64
-DATA_AT = 904
 
-
-def in_use(area):
-    """The entries in use."""
-    entries = []
+def entries_of(area):  # the refusal, if any, and (point, place, size) of the entries in use
+    if refusal := area_of(area):
+        return refusal, []
+    used, points, at, bad = [], set(), DATA, (9, 0, 0)
     for i in range(ENTRIES):
-        entry = area[4 + 14 * i:18 + 14 * i]
-        if u32(entry, 0) == 0:
+        count, width, levels, n, point = struct.unpack_from("<IBBII", area, 4 + ENTRY * i)
+        if count == 0:
             break
-        entries.append(entry)
-    return entries
+        if count not in (OLD, NEW) or width not in CODES or not 3 <= n <= MOST_SAMPLES or not 1 <= levels <= depth(n):
+            return bad, []
+        if point in points:
+            return bad, []
+        size = 4 + count + 4 * (levels + 1) + width * n
+        used.append((point, at, size))
+        points.add(point)
+        at += size
+    if u32(area, 0) != ENTRIES or any(area[4 + ENTRY * len(used):DATA - 4]) or u32(area, DATA - 4) != at - DATA or at > len(area):
+        return bad, []
+    return None, used
 
 
-def size(entry):
-    return 14 + 4 * (entry[5] + 1) + entry[4] * u32(entry, 6)
+def end_of(used):
+    return sum(used[-1][1:]) if used else DATA
 
 
-def point_of(entry):
-    return u32(entry, 10)
-
-
-def is_book(area):
-    if u32(area, 0) != ENTRIES:
-        return False
-    entries = in_use(area)
-    for entry in entries:
-        n = u32(entry, 6)
-        if u32(entry, 0) != 10 or entry[4] not in (1, 2, 4) or not 3 <= n <= MOST_SAMPLES or not 1 <= entry[5] <= depth(n):
-            return False
-    if len({point_of(entry) for entry in entries}) < len(entries):
-        return False
-    if any(area[4 + 14 * len(entries):900]):
-        return False
-    total = sum(map(size, entries))
-    return u32(area, 900) == total and DATA_AT + total <= len(area)
-
-
-def laid(entries, data, area):
-    """The area with these entries and this data, and behind them what it had."""
-    front = ENTRIES.to_bytes(4, "little") + b"".join(entries).ljust(14 * ENTRIES, b"\0") + len(data).to_bytes(4, "little") + data
+def laid(area, entries, data):  # the area with these entries and data, and what is behind them as it was
+    front = struct.pack("<I", ENTRIES) + entries.ljust(ENTRIES * ENTRY, b"\0") + struct.pack("<I", len(data)) + data
     return front + area[len(front):]
 
 
-def book_refusal(area, fresh=False):
-    if len(area) > MOST_AREA:
-        return (6, 0, 0)
-    if len(area) < DATA_AT:
-        return (7, len(area), DATA_AT)
-    return None if fresh or is_book(area) else (9, 0, 0)
-
-
 def book_fresh(area):
-    refusal = book_refusal(area, fresh=True)
-    return (refusal, area) if refusal else ((0, 0, 0), laid([], b"", area))
+    if refusal := area_of(area):
+        return refusal, area
+    return (0, 0, 0), laid(area, b"", b"")
 
 
 def book_add(area, file, point):
-    refusal = book_refusal(area)
+    refusal, used = entries_of(area)
     if refusal:
         return refusal, area
-    number, level, other, _ = open_file(file, file[4] if len(file) >= 14 else 1, point)
-    if number:
-        return (number, level, other), area
-    if level > 0:
-        return (10, len(file), 0), area
-    entries = in_use(area)
-    if any(point_of(entry) == point for entry in entries):
+    refusal, whole = parts(file, file[4] if len(file) > 4 else 0, point)
+    if not refusal and len(whole) < file[5] + 1:
+        refusal = 10, len(file), 0
+    if refusal:
+        return refusal, area
+    if point in [p for p, _, _ in used]:
         return (15, 0, 0), area
-    total = sum(map(size, entries))
-    if len(entries) == ENTRIES or len(file) > len(area) - DATA_AT - total:
+    end = end_of(used)
+    if len(used) == ENTRIES or len(file) > len(area) - end:
         return (14, 0, 0), area
-    return (0, 0, 0), laid(entries + [file[:14]], area[DATA_AT:DATA_AT + total] + file, area)
+    return (0, 0, 0), laid(area, area[4:4 + ENTRY * len(used)] + file[:ENTRY], area[DATA:end] + file)
 
 
 def book_find(area, point):
-    refusal = book_refusal(area)
-    if refusal:
-        return refusal, area
-    at = DATA_AT
-    for entry in in_use(area):
-        if point_of(entry) == point:
-            return (0, at, size(entry)), area
-        at += size(entry)
-    return (16, 0, 0), area
+    refusal, used = entries_of(area)
+    for p, at, size in used:
+        if p == point:
+            return (0, at, size), area
+    return refusal or (16, 0, 0), area
 
 
 def book_withdraw(area, point):
-    said, _ = book_find(area, point)
-    if said[0]:
-        return said, area
-    _, at, gone = said
-    entries = in_use(area)
-    end = DATA_AT + sum(map(size, entries))
-    kept = [entry for entry in entries if point_of(entry) != point]
-    return (0, 0, 0), laid(kept, area[DATA_AT:at] + area[at + gone:end], area)
+    refusal, used = entries_of(area)
+    for i, (p, at, size) in enumerate(used):
+        if p == point:
+            place = 4 + ENTRY * i
+            entries = area[4:place] + area[place + ENTRY:4 + ENTRY * len(used)]
+            return (0, 0, 0), laid(area, entries, area[DATA:at] + area[at + size:end_of(used)])
+    return refusal or (16, 0, 0), area
 
 
 def book_room(area):
-    refusal = book_refusal(area)
-    if refusal:
-        return refusal, area
-    entries = in_use(area)
-    return (0, len(area) - DATA_AT - sum(map(size, entries)), len(entries)), area
+    refusal, used = entries_of(area)
+    return refusal or (0, len(area) - end_of(used), len(used)), area
 
 
-# ---- a recording in pieces
-
-STATE_BYTES = 16
+# A recording in pieces.
 
 
 def written(t):
     return (t - 1) // 2 if t else 0
 
 
-def state_of(t, e, o, d, width):
-    """The four numbers as bytes; e, o and d are signed."""
-    words = [t, *(v & ((1 << 8 * width) - 1) for v in (e, o, d))]
-    return b"".join(word.to_bytes(4, "little") for word in words)
-
-
-def numbers_of(state, width):
-    """t, e, o and d of a state, or None."""
+def state_of(width, state):  # t, e, o, d, or None where it is not a state
     if len(state) != STATE_BYTES:
         return None
-    t, *words = (u32(state, at) for at in (0, 4, 8, 12))
-    for word, none in zip(words, (t == 0, t == 0 or t % 2 == 1, t < 3)):
-        if word >= 1 << (0 if none else 8 * width):
-            return None
-    return (t, *(keep(word, width) for word in words)) if t <= MOST_SAMPLES else None
+    t, *kept = struct.unpack("<4I", state)
+    zero = (t == 0, t == 0 or t % 2 == 1, t < 3)
+    if t > MOST_SAMPLES or any(k >= (1 if z else 1 << (8 * width)) for k, z in zip(kept, zero)):
+        return None
+    return [t] + [keep(k, width) for k in kept]
 
 
-def front(values, area, width):
-    """An area with these numbers at its front."""
-    data = b"".join(v.to_bytes(width, "little", signed=True) for v in values)
-    return data + area[len(data):]
+def state_bytes(width, t, *kept):
+    return struct.pack("<4I", t, *[k & ((1 << (8 * width)) - 1) for k in kept])
 
 
-def slices_refusal(state, width, *lengths):
-    for length in lengths:
-        if length % width:
-            return (9, 0, length)
-    return None if numbers_of(state, width) else (9, 0, 0)
+def lent(width, state, *areas):  # the refusal, if any, that both calls can give
+    for area in areas:
+        if len(area) % width:
+            return 9, 0, len(area)
+    return None if state_of(width, state) else (9, 0, 0)
 
 
 def stream_piece(width, state, piece, approx, details):
-    refusal = slices_refusal(state, width, len(piece), len(approx), len(details))
-    if refusal:
-        return refusal, state, approx, details
-    t, e, o, d = numbers_of(state, width)
-    samples = numbers(piece, width)
-    if t + len(samples) > MOST_SAMPLES:
-        return (6, 0, 0), state, approx, details
-    need = written(t + len(samples)) - written(t)
-    for area in approx, details:
+    same = state, approx, details
+    if refusal := lent(width, state, piece, approx, details):
+        return refusal, *same
+    t, e, o, d = state_of(width, state)
+    n = len(piece) // width
+    if t + n > MOST_SAMPLES:
+        return (6, 0, 0), *same
+    need = written(t + n) - written(t)
+    for area in (approx, details):
         if len(area) // width < need:
-            return (7, len(area) // width, need), state, approx, details
-    low, high = [], []
-    for x in samples:
+            return (7, len(area) // width, need), *same
+    new_a, new_d = [], []
+    for x in unpack(piece, width):
         if t == 0:
             e = x
         elif t % 2:
             o = x
         else:
-            high.append(keep(o - (e + x) // 2, width))
-            low.append(keep(e + ((d if t > 2 else high[-1]) + high[-1] + 2) // 4, width))
-            e, o, d = x, 0, high[-1]
+            detail = keep(o - (e + x) // 2, width)
+            new_a.append(keep(e + ((detail if t == 2 else d) + detail + 2) // 4, width))
+            new_d.append(detail)
+            e, o, d = x, 0, detail
         t += 1
-    return (0, 0, 0), state_of(t, e, o, d, width), front(low, approx, width), front(high, details, width)
+    a, b = pack(new_a, width), pack(new_d, width)
+    return (0, 0, 0), state_bytes(width, t, e, o, d), a + approx[len(a):], b + details[len(b):]
 
 
 def stream_finish(width, state, approx, details):
-    refusal = slices_refusal(state, width, len(approx), len(details))
-    if refusal:
-        return refusal, state, approx, details
-    t, e, o, d = numbers_of(state, width)
+    same = state, approx, details
+    if refusal := lent(width, state, approx, details):
+        return refusal, *same
+    t, e, o, d = state_of(width, state)
     if t < 3:
-        return (1, t, 3), state, approx, details
-    high = [] if t % 2 else [keep(o - e, width)]
-    for area, need in (approx, 1), (details, len(high)):
-        if len(area) // width < need:
-            return (7, 0, 1), state, approx, details
-    low = [keep(e + (d + (high or [d])[0] + 2) // 4, width)]
-    return (0, 0, 0), bytes(STATE_BYTES), front(low, approx, width), front(high, details, width)
+        return (1, t, 3), *same
+    if not approx or (t % 2 == 0 and not details):
+        return (7, 0, 1), *same
+    last = d if t % 2 else keep(o - e, width)
+    a, b = pack([keep(e + (d + last + 2) // 4, width)], width), b"" if t % 2 else pack([last], width)
+    return (0, 0, 0), bytes(STATE_BYTES), a + approx[len(a):], b + details[len(b):]
