@@ -48,4 +48,4 @@ add-passes b p s h =
     let r = both-pass (wholeChecks s p) (roomChecks b p (length s)) (q .1) in
     let file = both-pass (fileChecks s (ownWidth s) p) ((ltb 0 (levelIn s), CutShort (length s)) ∷ []) (r .0) in
     let head = both-pass (headChecks s (ownWidth s) p) (wayChecks (wayIn s (headIn s)) (length s)) (file .0) in
-    record { book = book-passes b (q .0); head = head-passes s (ownWidth s) p (head .0) .there; few = leb-false most (length (entriesIn b)) (r .1 .1 .0); room = roomy (freeIn b) (length s) (r .1 .1 .1 .0) }
+    record { book = book-passes b (q .0); head = head-passes s (ownWidth s) p (head .0) .common; few = leb-false most (length (entriesIn b)) (r .1 .1 .0); room = roomy (freeIn b) (length s) (r .1 .1 .1 .0) }

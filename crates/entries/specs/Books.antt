@@ -10,7 +10,7 @@ use Rattle.answers.specs.declared.err.Refusal.the-variants.{Done}
 use Rattle.answers.specs.Answers.{done}
 use Rattle.answers.specs.Checks.{firstOf}
 use Rattle.samples.specs.Le.{leAt}
-use Rattle.pyramid.specs.Files.{sectionOf, headCount, fileSize}
+use Rattle.pyramid.specs.Files.{sectionOf, isCount, commonSize, fileSize}
 use Rattle.pyramid.specs.Opens.{headIn, fieldChecks}
 
 -- "a directory of 64 fixed entries"
@@ -18,9 +18,9 @@ abbrev pub most : ℕ
 most = 64
 
 -- an entry is the first 14 bytes of the file that it stands for: the count of the file's section 0, width, levels, n and point. One that stands for none is 14 zeros.
--- Not `headSize`: whatever section 0 has behind the point is not in an entry
+-- They are what both kinds of file begin with: "the book of C-14 holds both". The rate is not in an entry
 abbrev pub entrySize : ℕ
-entrySize = 4 + 1 + 1 + 4 + 4
+entrySize = commonSize
 
 -- where entry i starts, where the data's count stands (900), and where the data starts (904)
 abbrev pub entryStart : ℕ → ℕ
@@ -39,9 +39,9 @@ pointBy e = headIn e .point
 abbrev pub sizeBy : List ℕ → ℕ
 sizeBy e = let h = headIn e in fileSize (h .body) (h .width) (h .levels) (h .samples)
 
--- no entry says more, whatever its bytes are: 2 to the 40
+-- no entry says more, whatever its bytes are: 2 to the 41
 abbrev pub mostSize : ℕ
-mostSize = 1099511627776
+mostSize = 2199023255552
 
 -- ---- as bytes
 
@@ -105,7 +105,7 @@ sizeAt i es = sizeBy (getD es i [])
 
 -- what some file begins with: what opening asks of section 0, for its own width and point
 abbrev pub isHead : List ℕ → Bool
-isHead e = let h = headIn e in eqb (leAt 4 e 0) headCount && done (firstOf (fieldChecks h (h .width) (h .point)) (Done 0 0))
+isHead e = let h = headIn e in isCount (leAt 4 e 0) && done (firstOf (fieldChecks h (h .width) (h .point)) (Done 0 0))
 
 -- an entry is what some file begins with, and none of the entries es behind it has its point
 abbrev pub isOnly : List ℕ → List (List ℕ) → Bool

@@ -17,7 +17,7 @@ use crate::directory::total_of;
 use answers::err::Refusal;
 use answers::err::is_done;
 use answers::err::numbers;
-use pyramid::head::HEAD_COUNT;
+use pyramid::head::is_count;
 use pyramid::open::check_fields;
 use pyramid::open::check_file;
 use pyramid::open::own_width;
@@ -32,7 +32,7 @@ fn is_head(b: &[u8], i: usize) -> bool
     ensures { λ r. ⌜ r ≡ isHead (entryAt (now (b .entry)) i) ⌝ }
 {
     let count = read_u32(b, 4 + ENTRY_SIZE * i) as usize;
-    if count != HEAD_COUNT {
+    if !is_count(count) {
         return false;
     }
     let h = entry(b, i);

@@ -3,15 +3,16 @@ ghost use mathlib.Core.Path.{_≡_};
 ghost use Prim.Native.Nat.{_+_, _*_, _≤_, _<_};
 ghost use lib.ListN.{length, drop};
 ghost use Rattle.pyramid.specs.Opens.{headIn, Read};
-ghost use Rattle.entries.specs.Books.{mostSize, most, entrySize, dataAt, sizeBy, entryAt, entriesIn, slotOf, placeAt};
+ghost use Rattle.entries.specs.Books.{mostSize, most, dataAt, sizeBy, entryAt, entriesIn, slotOf, placeAt};
+use pyramid::head::COMMON_SIZE;
 use pyramid::head::Head;
 use pyramid::head::head_in;
 use samples::le::read_u32;
 
 pub const MOST: usize = 64;
 
-// A file's first bytes, through the point: count, width, levels, n, point. Not HEAD_SIZE: whatever section 0 has behind the point is not in an entry.
-pub const ENTRY_SIZE: usize = 4 + 1 + 1 + 4 + 4;
+// A file's first bytes, through the point, which both kinds have: count, width, levels, n, point. The rate is not in an entry.
+pub const ENTRY_SIZE: usize = COMMON_SIZE;
 
 // Where the data's count stands, and where the data starts.
 pub const TOTAL_AT: usize = 4 + ENTRY_SIZE * MOST;
@@ -22,7 +23,7 @@ pub const DATA_AT: usize = TOTAL_AT + 4;
 pub fn entry(b: &[u8], i: usize) -> Head
     requires { ⌜ (i < most) × (dataAt ≤ length (now b)) ⌝ }
     ensures { λ r. ⌜ r ≡ headIn (entryAt (now (b .entry)) i) ⌝ }
-    ensures { λ r. ⌜ Read entrySize r ⌝ }
+    ensures { λ r. ⌜ Read r ⌝ }
 {
     let at = 4 + ENTRY_SIZE * i;
     let end = at + ENTRY_SIZE;
