@@ -32,7 +32,16 @@ pub extern "C" fn bk_pyramid_write_i8(
 ) -> Answer
     ensures { λ r. ⌜ Write Filter.Cdf53I8 levels point rate (now (x .entry)) (now (file .entry)) (now (one .entry)) (now (two .entry)) r (now (file .exit)) (now (one .exit)) (now (two .exit)) ⌝ }
 {
-    write(Filter::Cdf53I8, levels as usize, point, rate, x, file, one, two)
+    write(
+        Filter::Cdf53I8,
+        levels as usize,
+        point,
+        rate,
+        x,
+        file,
+        one,
+        two,
+    )
 }
 
 #[no_mangle]
@@ -47,7 +56,16 @@ pub extern "C" fn bk_pyramid_write_i16(
 ) -> Answer
     ensures { λ r. ⌜ Write Filter.Cdf53I16 levels point rate (now (x .entry)) (now (file .entry)) (now (one .entry)) (now (two .entry)) r (now (file .exit)) (now (one .exit)) (now (two .exit)) ⌝ }
 {
-    write(Filter::Cdf53I16, levels as usize, point, rate, x, file, one, two)
+    write(
+        Filter::Cdf53I16,
+        levels as usize,
+        point,
+        rate,
+        x,
+        file,
+        one,
+        two,
+    )
 }
 
 #[no_mangle]
@@ -62,7 +80,16 @@ pub extern "C" fn bk_pyramid_write_i32(
 ) -> Answer
     ensures { λ r. ⌜ Write Filter.Cdf53I32 levels point rate (now (x .entry)) (now (file .entry)) (now (one .entry)) (now (two .entry)) r (now (file .exit)) (now (one .exit)) (now (two .exit)) ⌝ }
 {
-    write(Filter::Cdf53I32, levels as usize, point, rate, x, file, one, two)
+    write(
+        Filter::Cdf53I32,
+        levels as usize,
+        point,
+        rate,
+        x,
+        file,
+        one,
+        two,
+    )
 }
 
 #[no_mangle]

@@ -39,7 +39,7 @@ file : fileOf Cdf53I8 2 14 0 five ≡ thirtyOne
 unfolding fileOf laidOut leAt leBytes tabulate wordAt wordsOf bytesOf val residue wrap decode encode detail details approx approxs low high
 file = refl
 
-new-bytes : fileOf Cdf53I8 2 14 1000 five ≡ thirtyFive
+pub new-bytes : fileOf Cdf53I8 2 14 1000 five ≡ thirtyFive
 unfolding fileOf laidOut leAt leBytes tabulate wordAt wordsOf bytesOf val residue wrap decode encode detail details approx approxs low high
 new-bytes = refl
 

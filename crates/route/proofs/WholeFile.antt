@@ -81,9 +81,10 @@ rate-back s bs known long c =
     (λ (e : leAt 4 s 0 ≡ newCount).
     let q = leAt 4 s commonSize in
     let stored : rateIn s ≡ q = ap (λ (n : ℕ). cond (eqb n newCount) q 0) e in
-    let some : eqb q 0 ≡ false = sym (ap₂ (λ (n r : ℕ). eqb n newCount && eqb r 0) e stored) ∙ c .0 in
-    (ap countBy stored ∙ ap (λ (b : Bool). cond b oldCount newCount) some ∙ sym e,
-    ap₂ (λ (r n : ℕ). rateOf r ++ drop (4 + n) s) stored e ∙ ap (λ (b : Bool). cond b [] (leBytes 4 q) ++ drop newSize s) some ∙ number-back s bs 4 commonSize (drop newSize s) (omega arith) refl))
+    let some : eqb q 0 ≡ false = sym (ap₂ (λ (n r : ℕ). eqb n newCount && eqb r 0) e stored) ∙ c .0 in (
+      ap countBy stored ∙ ap (λ (b : Bool). cond b oldCount newCount) some ∙ sym e,
+      ap₂ (λ (r n : ℕ). rateOf r ++ drop (4 + n) s) stored e ∙ ap (λ (b : Bool). cond b [] (leBytes 4 q) ++ drop newSize s) some ∙ number-back s bs 4 commonSize (drop newSize s) (omega arith) refl,
+    ))
     (which-count (leAt 4 s 0) known)
 
 -- section 0 is what it says
