@@ -470,11 +470,12 @@ static void compare_refused(uint32_t kind, uint32_t width) {
             ask_add(&f, 14);
             if (slot_of(14) >= 0) ask_withdraw(14);
         }
-    // 0, 2 and 16,777,217 samples, 0 levels and one too many, and another point, where the point asked is held; each also with a rate
-    // of 0, where an old file has its first count
-    for (int rate = 1; rate >= 0; rate--) {
+    // 0, 2 and 16,777,217 samples, 0 levels and one too many, another point where the point asked is held, and every cut; then all this
+    // with a rate of 0, where an old file has the count of section 1, and with a wrong count of section 0
+    for (int wrong = 0; wrong < 3; wrong++) {
         pyramid other = whole;
-        if (rate == 0) put_u32(other.bytes + 14, 0);
+        if (wrong == 1) put_u32(other.bytes + 14, 0);
+        if (wrong == 2) put_u32(other.bytes, kind + 1);
         for (uint32_t n = 0; n < 3; n++) {
             pyramid f = other;
             put_u32(f.bytes + 6, n == 0 ? 0 : n == 1 ? 2 : 16777217);
