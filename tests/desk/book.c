@@ -309,7 +309,7 @@ static void add_whole(const pyramid *f) { ask_add(f, f->point); }
 // ---- drawn calls
 
 // A file that is whole, or one that adding must refuse.
-static pyramid any_kind_of_file(uint32_t point) {
+static pyramid any_whole_or_wrong(uint32_t point) {
     pyramid f = any_file(MOST, point);
     uint32_t at = between(0, (uint32_t)f.length - 1);
     switch (drawn() % 8) {
@@ -337,7 +337,7 @@ static void compare_drawn(void) {
         case 4: case 5: case 6: case 7: ask_withdraw(point); break;
         case 8: if (drawn() % 40 == 0) ask_fresh(); break;
         default: {
-            pyramid f = any_kind_of_file(point);
+            pyramid f = any_whole_or_wrong(point);
             ask_add(&f, drawn() % 16 == 0 ? point + 1 : point);
         }
         }
@@ -566,14 +566,14 @@ static void compare_directory(void) {
     put_u32(book, POINTS);
     for (uint32_t i = 0; i < entries; i++) {
         uint8_t *e = book + 4 + ENTRY * i;
-        uint32_t n = between(3, 22), at = drawn() % 4, kind = i % 8 == wrong / 8 ? wrong % 8 : 8;
+        uint32_t n = between(3, 22), at = drawn() % 4, fault = i % 8 == wrong / 8 ? wrong % 8 : 8;
         e[0] = (uint8_t)any_kind();
-        e[4] = (uint8_t)(kind == 0 ? drawn() % 6 : any_width());
-        e[5] = (uint8_t)(kind == 1 ? drawn() % 2 * (depth_of(n) + 1) : between(1, depth_of(n)));
-        put_u32(e + 6, kind == 2 ? drawn() % 4 : n);
-        put_u32(e + 10, 14 + 3 * (kind == 3 ? drawn() % entries : i));
-        if (kind == 4) e[at] = (uint8_t)(drawn() % 16);
-        if (kind == 5) memset(e, 0, ENTRY);
+        e[4] = (uint8_t)(fault == 0 ? drawn() % 6 : any_width());
+        e[5] = (uint8_t)(fault == 1 ? drawn() % 2 * (depth_of(n) + 1) : between(1, depth_of(n)));
+        put_u32(e + 6, fault == 2 ? drawn() % 4 : n);
+        put_u32(e + 10, 14 + 3 * (fault == 3 ? drawn() % entries : i));
+        if (fault == 4) e[at] = (uint8_t)(drawn() % 16);
+        if (fault == 5) memset(e, 0, ENTRY);
         if (u32_at(e) != 0) sum += size_by(e) - (u32_at(e) - e[0]); // of a wrong count as its first byte tells it
     }
     if (wrong % 8 == 6) sum += drawn() % 3;
@@ -717,7 +717,7 @@ static void put_longest(uint8_t *book, uint32_t kind, uint32_t count, uint32_t n
 
 static void compare_longest(void) {
     static uint8_t front[LOOKED];
-    const uint64_t most_file = MOST_BYTES, sum = 63 * most_file;
+    const uint64_t most_file = MOST_BYTES, old_file = most_file - 4, sum = 63 * most_file;
     uint8_t *book = mmap(NULL, (size_t)MOST_AREA + LOOKED, READ_WRITE, PRIVATE_UNRESERVED, -1, 0);
     if (book == (uint8_t *)-1) {
         printf("there is no room for an area of 4,294,967,295 bytes and what is behind it\n");
@@ -743,8 +743,8 @@ static void compare_longest(void) {
     // 63 old files of the most bytes, then 63 new ones, whose samples are not looked at, and one behind them
     put_longest(book, OLD, 63, BK_MOST_SAMPLES);
     memcpy(front, book, DATA_AT);
-    compare_long("room, 63 old files", book, front, bk_book_room(book, MOST_AREA), say(BK_DONE, MOST_AREA - DATA_AT - sum + 63 * 4, 63));
-    compare_long("find, 63 old files", book, front, bk_book_find(book, MOST_AREA, 1), say(BK_DONE, DATA_AT + most_file - 4, most_file - 4));
+    compare_long("room, 63 old files", book, front, bk_book_room(book, MOST_AREA), say(BK_DONE, MOST_AREA - DATA_AT - 63 * old_file, 63));
+    compare_long("find, 63 old files", book, front, bk_book_find(book, MOST_AREA, 1), say(BK_DONE, DATA_AT + old_file, old_file));
     put_longest(book, NEW, 63, BK_MOST_SAMPLES);
     memcpy(front, book, DATA_AT);
     compare_long("room, 63 files", book, front, bk_book_room(book, MOST_AREA), say(BK_DONE, MOST_AREA - DATA_AT - sum, 63));

@@ -32,7 +32,8 @@ static int compare(const uint8_t *file, size_t bytes, uint32_t width, uint32_t p
     bk_opened opened = bk_pyramid_open(file, bytes, width, point, out, sizeof out, work1, sizeof work1, work2, sizeof work2);
     bk_answer r = opened.answer;
     uint64_t count = r.number == 0 ? r.second : 0;
-    if (opened.rate != (r.number == 0 ? rate_in(file) : 0)) return differs("another rate", width, bytes, 0, (bk_sample){r, opened.rate});
+    uint32_t rate = r.number == 0 ? rate_in(file) : 0;
+    if (opened.rate != rate) return differs("another rate", width, bytes, 0, (bk_sample){r, opened.rate});
     without_rate += r.number == BK_NO_RATE;
     const uint64_t past[] = {count, count + 1, UINT32_MAX, (uint64_t)UINT32_MAX + 1, UINT64_MAX};
     for (uint64_t i = 0; i < count + sizeof past / sizeof *past; i++) {
