@@ -7,14 +7,15 @@
 #include <stdlib.h>
 #include <string.h>
 
-TIMED(bk_answer, pyramid_write_i16, const uint8_t *, size_t, uint32_t, uint32_t, uint8_t *, size_t, uint8_t *, size_t, uint8_t *, size_t);
+TIMED(bk_answer, pyramid_write_i16, const uint8_t *, size_t, uint32_t, uint32_t, uint32_t, uint8_t *, size_t, uint8_t *, size_t, uint8_t *,
+      size_t);
 TIMED(bk_answer, book_fresh, uint8_t *, size_t);
 TIMED(bk_answer, book_add, uint8_t *, size_t, const uint8_t *, size_t, uint32_t);
 TIMED(bk_answer, book_find, const uint8_t *, size_t, uint32_t);
 TIMED(bk_answer, book_withdraw, uint8_t *, size_t, uint32_t);
 TIMED(bk_answer, book_room, const uint8_t *, size_t);
 
-enum { LEVELS = 10, FILES = 16, ROUNDS = 50, FINDS = 100000, FIND_ROUNDS = 7 };
+enum { LEVELS = 10, RATE = 25600000, FILES = 16, ROUNDS = 50, FINDS = 100000, FIND_ROUNDS = 7 };
 
 static const size_t MIB = 1 << 20, AREA = BK_BOOK_EMPTY + ((size_t)FILES << 20);
 
@@ -24,11 +25,11 @@ static void must(bk_answer r) {
 
 // A file of random samples of 16 bits, of so many bytes.
 static uint8_t *file_of(size_t bytes, uint32_t levels, uint32_t point) {
-    size_t area = bytes - 14 - 4 * (levels + 1);
+    size_t area = bytes - 18 - 4 * (levels + 1);
     uint8_t *x = malloc(area), *file = malloc(bytes), *work1 = malloc(area), *work2 = malloc(area);
     if (!x || !file || !work1 || !work2) exit(2);
     for (size_t i = 0; i < area; i++) x[i] = (uint8_t)drawn();
-    must(CALL(bk_answer, pyramid_write_i16, x, area, levels, point, file, bytes, work1, area, work2, area));
+    must(CALL(bk_answer, pyramid_write_i16, x, area, levels, point, RATE, file, bytes, work1, area, work2, area));
     free(x);
     free(work1);
     free(work2);
@@ -148,7 +149,7 @@ static double time_room(const uint8_t *area, size_t bytes) {
 }
 
 static void time_finding(void) {
-    const size_t size = 14 + 4 * 2 + 2 * 5, bytes = BK_BOOK_EMPTY + BK_BOOK_POINTS * size;
+    const size_t size = 18 + 4 * 2 + 2 * 5, bytes = BK_BOOK_EMPTY + BK_BOOK_POINTS * size;
     uint8_t *area = malloc(bytes);
     if (!area) exit(2);
     must(CALL(bk_answer, book_fresh, area, bytes));

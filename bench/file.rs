@@ -9,8 +9,9 @@ const SAMPLES: usize = 16_777_216;
 const LEVELS: u32 = 10;
 const POINT: u32 = 7;
 const WIDTH: u32 = 2;
+const RATE: u32 = 25_600_000;
 // docs/FORMAT.md: the head, then each section after its count.
-const BYTES: usize = 14 + 4 * (LEVELS as usize + 1) + WIDTH as usize * SAMPLES;
+const BYTES: usize = 18 + 4 * (LEVELS as usize + 1) + WIDTH as usize * SAMPLES;
 
 unsafe extern "C" {
     fn bk_pyramid_write_i16(
@@ -19,6 +20,7 @@ unsafe extern "C" {
         signal_length: usize,
         levels: u32,
         point: u32,
+        rate: u32,
         file: *mut u8,
         file_length: usize,
         work1: *mut i16,
@@ -27,7 +29,7 @@ unsafe extern "C" {
         work2_length: usize,
     ) -> *mut Answer;
     fn bk_pyramid_open(
-        answer: *mut Answer,
+        answer: *mut Opened,
         file: *const u8,
         file_length: usize,
         width: u32,
@@ -38,7 +40,24 @@ unsafe extern "C" {
         work1_length: usize,
         work2: *mut i16,
         work2_length: usize,
-    ) -> *mut Answer;
+    ) -> *mut Opened;
+}
+
+// What opening answers.
+#[repr(C)]
+#[derive(Default)]
+struct Opened {
+    answer: Answer,
+    rate: u32,
+}
+
+impl Opened {
+    fn done(self) -> Opened {
+        Opened {
+            answer: self.answer.done(),
+            rate: self.rate,
+        }
+    }
 }
 
 type Works<'a> = [&'a mut [i16]; 2];
@@ -46,11 +65,11 @@ type Works<'a> = [&'a mut [i16]; 2];
 fn write(signal: &[i16], file: &mut [u8], [from, to]: Works) -> Answer {
     lend!(
         bk_pyramid_write_i16,
-        from signal, number LEVELS, number POINT, into file, into from, into to
+        from signal, number LEVELS, number POINT, number RATE, into file, into from, into to
     )
 }
 
-fn open(file: &[u8], output: &mut [i16], [from, to]: Works) -> Answer {
+fn open(file: &[u8], output: &mut [i16], [from, to]: Works) -> Opened {
     lend!(
         bk_pyramid_open,
         from file, number WIDTH, number POINT, into output, into from, into to
@@ -96,7 +115,7 @@ pub fn cases() {
     );
     let opened = open(&file, &mut output, [&mut from, &mut to]);
     assert!(
-        (opened.first, opened.second) == (0, SAMPLES as u64),
-        "the file opens at another level"
+        (opened.answer.first, opened.answer.second, opened.rate) == (0, SAMPLES as u64, RATE),
+        "the file opens at another level, or with another rate"
     );
 }

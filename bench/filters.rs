@@ -29,10 +29,11 @@ impl Answer {
     }
 }
 
-// Calls an exported function, which must be done. A slice is lent as `from` it (read) or `into` it (written).
+// Calls an exported function, which must be done, and gives what it returns. A slice is lent as `from` it (read) or `into` it
+// (written).
 macro_rules! lend {
     ($call: ident, $($way: ident $argument: expr),*) => {{
-        let mut answer = $crate::filters::Answer::default();
+        let mut answer = Default::default();
         $crate::filters::lend!(@ $call, (&mut answer), $($way $argument,)*);
         answer.done()
     }};

@@ -5,11 +5,12 @@
 #include <stdlib.h>
 
 TIMED(bk_answer, pyramid_size, uint32_t, uint64_t, uint32_t);
-TIMED(bk_answer, pyramid_write_i16, const uint8_t *, size_t, uint32_t, uint32_t, uint8_t *, size_t, uint8_t *, size_t, uint8_t *, size_t);
-TIMED(bk_answer, pyramid_open, const uint8_t *, size_t, uint32_t, uint32_t, uint8_t *, size_t, uint8_t *, size_t, uint8_t *, size_t);
+TIMED(bk_answer, pyramid_write_i16, const uint8_t *, size_t, uint32_t, uint32_t, uint32_t, uint8_t *, size_t, uint8_t *, size_t, uint8_t *,
+      size_t);
+TIMED(bk_opened, pyramid_open, const uint8_t *, size_t, uint32_t, uint32_t, uint8_t *, size_t, uint8_t *, size_t, uint8_t *, size_t);
 TIMED(bk_sample, pyramid_sample, const uint8_t *, size_t, uint32_t, uint32_t, uint64_t);
 
-enum { WIDTH = 2, POINT = 14, READS = 20000, ROUNDS = 15 };
+enum { WIDTH = 2, POINT = 14, RATE = 25600000, READS = 20000, ROUNDS = 15 };
 
 static uint64_t places[READS];
 static int64_t read_there[READS];
@@ -45,11 +46,11 @@ int main(void) {
     printf("| levels | one sample, drawn places, ns | one sample, places in a row, ns | opening, ms | opening / one sample, drawn |\n|---|---|---|---|---|\n");
     for (size_t l = 0; l < sizeof levels / sizeof *levels; l++) {
         size_t bytes = (size_t)CALL(bk_answer, pyramid_size, WIDTH, n, levels[l]).first;
-        if (CALL(bk_answer, pyramid_write_i16, x, area, levels[l], POINT, file, bytes, work1, area, work2, area).number) return 2;
+        if (CALL(bk_answer, pyramid_write_i16, x, area, levels[l], POINT, RATE, file, bytes, work1, area, work2, area).number) return 2;
         double opening = 1e300;
         for (int round = 0; round < 5; round++) {
             double from = now();
-            if (CALL(bk_answer, pyramid_open, file, bytes, WIDTH, POINT, out, area, work1, area, work2, area).number) return 2;
+            if (CALL(bk_opened, pyramid_open, file, bytes, WIDTH, POINT, out, area, work1, area, work2, area).answer.number) return 2;
             if (now() - from < opening) opening = now() - from;
         }
         double far = time_reads(file, bytes, out, 0), near = time_reads(file, bytes, out, 1);

@@ -1,13 +1,14 @@
-// The route book beside a plain map: the points that are held and their files, in the order of adding. After every call the answer
-// and every byte of the area are what the map says, laid out anew; what is behind the data is as it was. Drawn calls on many
-// areas, most of them too small, with few points and whole, cut, longer and changed files; 64 points and one more; areas of 0 to 904
-// bytes, areas filled to the last byte, and areas at their limit; every cut of a file; each byte of a directory and the two counts
+// The route book beside a plain map: the points that are held and their files, of both kinds, in the order of adding. After every call
+// the answer and every byte of the area are what the map says, laid out anew; what is behind the data is as it was. Drawn calls on
+// many areas, most of them too small, with few points and whole, cut, longer and changed files; 64 points and one more; areas of 0 to
+// 904 bytes, areas filled to the last byte, and areas at their limit; every cut of a file; each byte of a directory and the two counts
 // changed, and directories that say other files, beside the rule for a book that no calls could have left; a file that was found,
 // cut everywhere, beside the same of the file that was added; files of up to 18,000,002 bytes, moved twice; and files of the most
 // bytes in the longest area. Says how many it asked, or the first that differs.
 // Call: tests/desk/program book
 #include "beksanour.h"
 #include "drawn.h"
+#include "files.h"
 #include <stdio.h>
 #include <stdlib.h>
 #include <string.h>
@@ -17,23 +18,15 @@ void *mmap(void *at, size_t bytes, int access, int kind, int file, long offset);
 enum { READ_WRITE = 3, PRIVATE_UNRESERVED = 0x4022 };
 
 enum { POINTS = 64, ENTRY = 14, TOTAL_AT = 900, DATA_AT = 904, MOST = 40, MOST_FILE = 256, GUARD = 16, AREA = 16384 };
-enum { MOST_BYTES = 67108974 }; // of any file
+enum { MOST_BYTES = 67108978 }; // of any file
 static const uint64_t MOST_AREA = 4294967295;
 
 // The header's numbers are the ones that this test writes out.
 typedef char points_are_64[BK_BOOK_POINTS == POINTS ? 1 : -1], empty_is_904[BK_BOOK_EMPTY == DATA_AT ? 1 : -1];
 
-static unsigned long asked[BK_NOT_HELD + 1], cuts;
-
-static uint32_t u32_at(const uint8_t *p) { return p[0] | (uint32_t)p[1] << 8 | (uint32_t)p[2] << 16 | (uint32_t)p[3] << 24; }
-
-static void put_u32(uint8_t *p, uint32_t v) {
-    for (int i = 0; i < 4; i++) p[i] = (uint8_t)(v >> 8 * i);
-}
+static unsigned long asked[BK_NO_RATE + 1], cuts;
 
 static bk_answer say(uint32_t number, uint64_t first, uint64_t second) { return (bk_answer){number, first, second}; }
-
-static int same(bk_answer a, bk_answer b) { return a.number == b.number && a.first == b.first && a.second == b.second; }
 
 // ---- files
 
@@ -48,25 +41,26 @@ static uint32_t between(uint32_t a, uint32_t b) { return a + drawn() % (b - a + 
 
 static uint32_t any_width(void) { return (uint32_t)1 << drawn() % 3; }
 
-static pyramid file_of(uint32_t width, uint32_t n, uint32_t levels, uint32_t point) {
+static uint32_t any_kind(void) { return drawn() % 2 ? OLD : NEW; }
+
+static pyramid file_of(uint32_t kind, uint32_t width, uint32_t n, uint32_t levels, uint32_t point) {
     uint8_t x[4 * MOST], work1[4 * MOST], work2[4 * MOST];
     pyramid f = {{0}, (size_t)bk_pyramid_size(width, n, levels).first, point};
     size_t bytes = (size_t)n * width;
     for (size_t i = 0; i < bytes; i++) x[i] = (uint8_t)drawn();
-    bk_answer r = width == 1   ? bk_pyramid_write_i8(x, bytes, levels, point, f.bytes, MOST_FILE, work1, bytes, work2, bytes)
-                  : width == 2 ? bk_pyramid_write_i16(x, bytes, levels, point, f.bytes, MOST_FILE, work1, bytes, work2, bytes)
-                               : bk_pyramid_write_i32(x, bytes, levels, point, f.bytes, MOST_FILE, work1, bytes, work2, bytes);
+    bk_answer r = write_file(width, x, bytes, levels, point, any_rate(), f.bytes, MOST_FILE, work1, work2);
     if (r.number) {
         printf("a file was not written: %u\n", (unsigned)r.number);
         exit(1);
     }
+    if (kind == OLD) f.length = make_old(f.bytes, f.length);
     return f;
 }
 
 // Of at most so many samples.
 static pyramid any_file(uint32_t most, uint32_t point) {
     uint32_t width = any_width(), n = between(3, most), levels = between(1, (uint32_t)bk_cdf53_depth(n).first);
-    return file_of(width, n, levels, point);
+    return file_of(any_kind(), width, n, levels, point);
 }
 
 // ---- what the header says
@@ -88,12 +82,15 @@ static uint64_t count_of(uint64_t n, uint32_t levels, uint32_t section) {
     return section == 1 ? approximations(n, levels) : approximations(n, levels + 1 - section) / 2;
 }
 
-static uint64_t size_by(const uint8_t *head) { return ENTRY + 4 * ((uint64_t)head[5] + 1) + head[4] * (uint64_t)u32_at(head + 6); }
+static uint64_t size_by(const uint8_t *head) {
+    return 4 + (uint64_t)u32_at(head) + 4 * ((uint64_t)head[5] + 1) + head[4] * (uint64_t)u32_at(head + 6);
+}
 
-// What is said of the 14 bytes that a file begins with, for its own width, before its point.
-static bk_answer of_head(const uint8_t *head) {
+static int is_kind(uint32_t count) { return count == OLD || count == NEW; }
+
+// What is said of the fields that both kinds have, for the file's own width, before its point.
+static bk_answer of_fields(const uint8_t *head) {
     uint32_t width = head[4], levels = head[5], n = u32_at(head + 6);
-    if (u32_at(head) != 10) return say(BK_BAD_COUNT, 0, u32_at(head));
     if (width != 1 && width != 2 && width != 4) return say(BK_OTHER_WIDTH, width, width);
     if (n < 3) return say(BK_MIN_FILTER_SIZE, n, 3);
     if (n > 16777216) return say(BK_TOO_LONG, 0, 0);
@@ -104,12 +101,15 @@ static bk_answer of_head(const uint8_t *head) {
 // What adding says of a file alone: only a whole one is done.
 static bk_answer of_file(const uint8_t *file, size_t length, uint32_t point) {
     if (length > MOST_BYTES) return say(BK_TOO_LONG, 0, 0);
-    if (length < ENTRY) return say(BK_CUT_SHORT, length, 0);
-    bk_answer head = of_head(file);
-    if (head.number) return head;
+    if (length < 4) return say(BK_CUT_SHORT, length, 0);
+    if (!is_kind(u32_at(file))) return say(BK_BAD_COUNT, 0, u32_at(file));
+    size_t at = 4 + u32_at(file);
+    if (length < at) return say(BK_CUT_SHORT, length, 0);
+    bk_answer fields = of_fields(file);
+    if (fields.number) return fields;
     if (u32_at(file + 10) != point) return say(BK_OTHER_POINT, u32_at(file + 10), point);
+    if (u32_at(file) == NEW && u32_at(file + 14) == 0) return say(BK_NO_RATE, 0, 0);
     uint32_t width = file[4], levels = file[5], n = u32_at(file + 6);
-    size_t at = ENTRY;
     for (uint32_t section = 1; section <= levels + 1; section++) {
         uint64_t count = count_of(n, levels, section);
         if (length - at < 4) return say(BK_CUT_SHORT, length, 0);
@@ -128,7 +128,7 @@ static int could_be(const uint8_t *area, uint64_t length) {
     while (held < POINTS && u32_at(area + 4 + ENTRY * held) != 0) held++;
     for (int i = 0; i < held; i++) {
         const uint8_t *entry = area + 4 + ENTRY * i;
-        if (of_head(entry).number) return 0;
+        if (!is_kind(u32_at(entry)) || of_fields(entry).number) return 0;
         for (int j = 0; j < i; j++)
             if (u32_at(area + 4 + ENTRY * j + 10) == u32_at(entry + 10)) return 0;
         sum += size_by(entry);
@@ -299,7 +299,7 @@ static void ask_add(const pyramid *f, uint32_t point) {
     for (size_t i = 0; i < f->length; i++)
         if (lent[i] != f->bytes[i]) failed("the file was written to", point, wanted, wanted);
     uint32_t width = f->length < ENTRY ? 1 : f->bytes[4];
-    bk_answer r = bk_pyramid_open(lent, f->length, width, point, out, sizeof out, work1, sizeof work1, work2, sizeof work2);
+    bk_answer r = bk_pyramid_open(lent, f->length, width, point, out, sizeof out, work1, sizeof work1, work2, sizeof work2).answer;
     if (r.number == BK_DONE) r = r.first == 0 ? say(BK_DONE, 0, 0) : say(BK_CUT_SHORT, f->length, 0);
     if (!same(r, of)) failed("opening the file", point, r, of);
 }
@@ -309,13 +309,14 @@ static void add_whole(const pyramid *f) { ask_add(f, f->point); }
 // ---- drawn calls
 
 // A file that is whole, or one that adding must refuse.
-static pyramid any_kind_of_file(uint32_t point) {
+static pyramid any_whole_or_wrong(uint32_t point) {
     pyramid f = any_file(MOST, point);
     uint32_t at = between(0, (uint32_t)f.length - 1);
     switch (drawn() % 8) {
     case 0: f.length = at; break;
     case 1: f.length += between(1, 8); break;
     case 2: f.bytes[at] ^= (uint8_t)(1 << drawn() % 8); break;
+    case 3: if (drawn() % 4 == 0) put_u32(f.bytes + 14, 0); break; // a rate of 0, or of an old file a wrong count
     default: break;
     }
     return f;
@@ -336,7 +337,7 @@ static void compare_drawn(void) {
         case 4: case 5: case 6: case 7: ask_withdraw(point); break;
         case 8: if (drawn() % 40 == 0) ask_fresh(); break;
         default: {
-            pyramid f = any_kind_of_file(point);
+            pyramid f = any_whole_or_wrong(point);
             ask_add(&f, drawn() % 16 == 0 ? point + 1 : point);
         }
         }
@@ -385,15 +386,18 @@ static void compare_full(void) {
     ask_room();
 }
 
-// A file of so many bytes, 25 to 62.
-static pyramid file_of_size(size_t bytes, uint32_t point) { return file_of(1, (uint32_t)bytes - 22, 1, point); }
+// A file of so many bytes, 29 to 62.
+static pyramid file_of_size(size_t bytes, uint32_t point) {
+    uint32_t kind = any_kind();
+    return file_of(kind, 1, (uint32_t)bytes - 12 - kind, 1, point);
+}
 
 // An area for exactly these files, and the same with a byte more or a byte less.
 static void compare_filled(int count) {
     pyramid files[4];
     size_t sum = 0;
     for (int i = 0; i < count; i++) {
-        files[i] = file_of_size(between(26, 30), 14 + (uint32_t)i);
+        files[i] = file_of_size(between(30, 34), 14 + (uint32_t)i);
         sum += files[i].length;
     }
     for (int more = -1; more <= 1; more++) {
@@ -430,7 +434,7 @@ static void compare_lengths(void) {
     lend(DATA_AT + 400);
     ask_fresh();
     for (uint32_t i = 0; i < 3; i++) {
-        pyramid f = file_of(1, 5 + i, 2, 14 + i);
+        pyramid f = file_of(i == 1 ? OLD : NEW, 1, 5 + i, 2, 14 + i);
         add_whole(&f);
     }
     uint8_t book[DATA_AT + 400];
@@ -447,17 +451,12 @@ static void compare_lengths(void) {
 
 // ---- files that adding refuses
 
-static void compare_refused(uint32_t width) {
-    const pyramid whole = file_of(width, 11, 3, 14);
+static void compare_refused(uint32_t kind, uint32_t width) {
+    const pyramid whole = file_of(kind, width, 11, 3, 14);
     pyramid held = any_file(MOST, 15);
     lend(DATA_AT + 600);
     ask_fresh();
     add_whole(&held);
-    for (size_t cut = 0; cut < whole.length; cut++) {
-        pyramid f = whole;
-        f.length = cut;
-        ask_add(&f, 14);
-    }
     for (size_t more = 1; more <= 8; more++) {
         pyramid f = whole;
         f.length += more;
@@ -465,24 +464,36 @@ static void compare_refused(uint32_t width) {
     }
     ask_add(&whole, 13);
     for (size_t at = 0; at < whole.length; at++)
-        for (uint32_t to = 0; to < 256; to += at < ENTRY ? 1 : between(1, 40)) {
+        for (uint32_t to = 0; to < 256; to += at < 18 ? 1 : between(1, 40)) {
             pyramid f = whole;
             f.bytes[at] = (uint8_t)to;
             ask_add(&f, 14);
             if (slot_of(14) >= 0) ask_withdraw(14);
         }
-    // 0, 2 and 16,777,217 samples, 0 levels and one too many, and another point, where the point asked is held
-    for (uint32_t n = 0; n < 3; n++) {
-        pyramid f = whole;
-        put_u32(f.bytes + 6, n == 0 ? 0 : n == 1 ? 2 : 16777217);
-        ask_add(&f, 15);
+    // 0, 2 and 16,777,217 samples, 0 levels and one too many, another point where the point asked is held, and every cut; then all this
+    // with a rate of 0, where an old file has the count of section 1, and with a wrong count of section 0
+    for (int wrong = 0; wrong < 3; wrong++) {
+        pyramid other = whole;
+        if (wrong == 1) put_u32(other.bytes + 14, 0);
+        if (wrong == 2) put_u32(other.bytes, kind + 1);
+        for (uint32_t n = 0; n < 3; n++) {
+            pyramid f = other;
+            put_u32(f.bytes + 6, n == 0 ? 0 : n == 1 ? 2 : 16777217);
+            ask_add(&f, 15);
+        }
+        for (int levels = 0; levels < 2; levels++) {
+            pyramid f = other;
+            f.bytes[5] = levels ? 4 : 0;
+            ask_add(&f, 15);
+        }
+        ask_add(&other, 15);
+        for (size_t cut = 0; cut <= other.length; cut++) {
+            pyramid f = other;
+            f.length = cut;
+            ask_add(&f, 14);
+        }
+        if (slot_of(14) >= 0) ask_withdraw(14);
     }
-    for (int levels = 0; levels < 2; levels++) {
-        pyramid f = whole;
-        f.bytes[5] = levels ? 4 : 0;
-        ask_add(&f, 15);
-    }
-    ask_add(&whole, 15);
     ask_room();
 }
 
@@ -495,16 +506,18 @@ static void compare_too_long(void) {
     ask_fresh();
     compare("add", 14, bk_book_add(area, map.length, longest, sizeof longest, 14), say(BK_TOO_LONG, 0, 0));
     compare("add", 14, bk_book_add(area, map.length, longest, sizeof longest - 1, 14), say(BK_BAD_COUNT, 0, 0));
-    longest[0] = 10;
-    compare("add", 14, bk_book_add(area, map.length, longest, sizeof longest, 14), say(BK_TOO_LONG, 0, 0));
-    compare("add", 14, bk_book_add(area, map.length, longest, sizeof longest - 1, 14), say(BK_OTHER_WIDTH, 0, 0));
+    for (int i = 0; i < 2; i++) {
+        longest[0] = i ? OLD : NEW;
+        compare("add", 14, bk_book_add(area, map.length, longest, sizeof longest, 14), say(BK_TOO_LONG, 0, 0));
+        compare("add", 14, bk_book_add(area, map.length, longest, sizeof longest - 1, 14), say(BK_OTHER_WIDTH, 0, 0));
+    }
 }
 
 // ---- damaged books
 
 // Every call on what stands in `book`, the area put back before each.
 static void ask_damaged(const uint8_t *book, uint32_t point) {
-    pyramid held = file_of(1, 3, 1, point), other = file_of(1, 3, 1, point + 100000), cut = other;
+    pyramid held = file_of(NEW, 1, 3, 1, point), other = file_of(any_kind(), 1, 3, 1, point + 100000), cut = other;
     cut.length--;
     for (int call = 0; call < 7; call++) {
         memcpy(area, book, map.length);
@@ -533,7 +546,7 @@ static void compare_damaged(int count) {
     if (map.count != count) failed("a book that does not hold all", 0, say(0, 0, 0), say(0, 0, 0));
     memcpy(book, area, map.length);
     for (int at = 0; at < DATA_AT; at++) {
-        const uint8_t was = book[at], to[] = {was ^ 1, (uint8_t)(was + 1), (uint8_t)(was - 1), 0, 1, 10, 15, 255, (uint8_t)drawn()};
+        const uint8_t was = book[at], to[] = {was ^ 1, (uint8_t)(was + 1), (uint8_t)(was - 1), 0, 1, 10, 14, 255, (uint8_t)drawn()};
         uint32_t own = at < 4 || at >= TOTAL_AT || count == 0 ? 14 : u32_at(book + 4 + (at - 4) / ENTRY * ENTRY + 10);
         for (size_t i = 0; i < sizeof to; i++)
             if (to[i] != was) {
@@ -553,15 +566,15 @@ static void compare_directory(void) {
     put_u32(book, POINTS);
     for (uint32_t i = 0; i < entries; i++) {
         uint8_t *e = book + 4 + ENTRY * i;
-        uint32_t n = between(3, 22), at = drawn() % 4, kind = i % 8 == wrong / 8 ? wrong % 8 : 8;
-        e[0] = 10;
-        e[4] = (uint8_t)(kind == 0 ? drawn() % 6 : any_width());
-        e[5] = (uint8_t)(kind == 1 ? drawn() % 2 * (depth_of(n) + 1) : between(1, depth_of(n)));
-        put_u32(e + 6, kind == 2 ? drawn() % 4 : n);
-        put_u32(e + 10, 14 + 3 * (kind == 3 ? drawn() % entries : i));
-        if (kind == 4) e[at] = (uint8_t)(drawn() % 16);
-        if (kind == 5) memset(e, 0, ENTRY);
-        if (u32_at(e) != 0) sum += size_by(e);
+        uint32_t n = between(3, 22), at = drawn() % 4, fault = i % 8 == wrong / 8 ? wrong % 8 : 8;
+        e[0] = (uint8_t)any_kind();
+        e[4] = (uint8_t)(fault == 0 ? drawn() % 6 : any_width());
+        e[5] = (uint8_t)(fault == 1 ? drawn() % 2 * (depth_of(n) + 1) : between(1, depth_of(n)));
+        put_u32(e + 6, fault == 2 ? drawn() % 4 : n);
+        put_u32(e + 10, 14 + 3 * (fault == 3 ? drawn() % entries : i));
+        if (fault == 4) e[at] = (uint8_t)(drawn() % 16);
+        if (fault == 5) memset(e, 0, ENTRY);
+        if (u32_at(e) != 0) sum += size_by(e) - (u32_at(e) - e[0]); // of a wrong count as its first byte tells it
     }
     if (wrong % 8 == 6) sum += drawn() % 3;
     if (wrong % 8 == 7) book[between(4, TOTAL_AT - 1)] ^= 1;
@@ -575,7 +588,10 @@ static void compare_directory(void) {
 // The front of what must be the file f.
 static bk_answer opened(const pyramid *f, const uint8_t *bytes, size_t cut, uint8_t *out) {
     static uint8_t work1[4 * MOST], work2[4 * MOST];
-    return bk_pyramid_open(bytes, cut, f->bytes[4], f->point, out, 4 * MOST, work1, sizeof work1, work2, sizeof work2);
+    bk_opened r = bk_pyramid_open(bytes, cut, f->bytes[4], f->point, out, 4 * MOST, work1, sizeof work1, work2, sizeof work2);
+    uint32_t rate = r.answer.number ? 0 : rate_in(f->bytes);
+    if (r.rate != rate) failed("the rate of a file found and cut", f->point, say(0, r.rate, 0), say(0, rate, 0));
+    return r.answer;
 }
 
 // A file in the book, cut everywhere, opens as the file that was added, cut there.
@@ -625,13 +641,14 @@ static void compare_bytes(const char *what, const uint8_t *book, uint64_t from, 
 }
 
 // Makes a whole file by its head and its counts alone; its samples are the bytes that stand there. How many bytes it has.
-static size_t make_whole(uint8_t *file, uint32_t width, uint32_t n, uint32_t levels, uint32_t point) {
-    size_t at = ENTRY;
-    put_u32(file, 10);
+static size_t make_whole(uint8_t *file, uint32_t kind, uint32_t width, uint32_t n, uint32_t levels, uint32_t point) {
+    size_t at = 4 + kind;
+    put_u32(file, kind);
     file[4] = (uint8_t)width;
     file[5] = (uint8_t)levels;
     put_u32(file + 6, n);
     put_u32(file + 10, point);
+    if (kind == NEW) put_u32(file + 14, 1000);
     for (uint32_t section = 1; section <= levels + 1; section++) {
         put_u32(file + at, (uint32_t)count_of(n, levels, section));
         at += 4 + (size_t)(width * count_of(n, levels, section));
@@ -643,7 +660,8 @@ static size_t make_whole(uint8_t *file, uint32_t width, uint32_t n, uint32_t lev
 // at, also what a withdrawal leaves behind the data. `wanted` is the area that must be, and the files are added from there.
 static void compare_large(void) {
     enum { FILES = 3, FREE = 5000, SUM = 200000 + 3000001 + 18000002, LENGTH = DATA_AT + SUM + FREE };
-    static const struct { uint32_t width, n, levels; } files[FILES] = {{2, 99983, 4}, {1, 2999971, 3}, {4, 4499992, 4}};
+    static const struct { uint32_t kind, width, n, levels; } files[FILES] = {
+        {NEW, 2, 99981, 4}, {OLD, 1, 2999971, 3}, {NEW, 4, 4499991, 4}};
     static uint8_t book[LENGTH], wanted[LENGTH];
     size_t size[FILES], at = DATA_AT;
     for (size_t i = DATA_AT; i < LENGTH; i++) wanted[i] = (uint8_t)drawn();
@@ -652,7 +670,7 @@ static void compare_large(void) {
     put_u32(wanted + TOTAL_AT, SUM);
     compare_answer("large: fresh", bk_book_fresh(book, LENGTH), say(BK_DONE, 0, 0));
     for (uint32_t i = 0; i < FILES; i++) {
-        size[i] = make_whole(wanted + at, files[i].width, files[i].n, files[i].levels, 14 + i);
+        size[i] = make_whole(wanted + at, files[i].kind, files[i].width, files[i].n, files[i].levels, 14 + i);
         memcpy(wanted + 4 + ENTRY * i, wanted + at, ENTRY);
         compare_answer("large: add", bk_book_add(book, LENGTH, wanted + at, size[i], 14 + i), say(BK_DONE, 0, 0));
         at += size[i];
@@ -673,7 +691,7 @@ static void compare_large(void) {
 // ---- areas at their limit
 
 // Of a long area its first bytes are looked at, its last, and as many behind it.
-enum { LOOKED = 8192 };
+enum { LOOKED = 16384 };
 
 static void compare_long(const char *what, const uint8_t *book, const uint8_t *front, bk_answer r, bk_answer wanted) {
     static const uint8_t zeros[2 * LOOKED];
@@ -682,30 +700,30 @@ static void compare_long(const char *what, const uint8_t *book, const uint8_t *f
     compare_bytes(what, book, MOST_AREA - LOOKED, zeros, sizeof zeros);
 }
 
-// A directory of so many files of the most bytes, and their sum as far as four bytes tell it.
-static void put_longest(uint8_t *book, uint32_t count, uint32_t n) {
+// A directory of so many files of the most bytes of a kind, and their sum as far as four bytes tell it.
+static void put_longest(uint8_t *book, uint32_t kind, uint32_t count, uint32_t n) {
     memset(book, 0, DATA_AT);
     put_u32(book, POINTS);
     for (uint32_t i = 0; i < count; i++) {
         uint8_t *e = book + 4 + ENTRY * i;
-        e[0] = 10;
+        e[0] = (uint8_t)kind;
         e[4] = 4;
         e[5] = 23;
         put_u32(e + 6, n);
         put_u32(e + 10, i);
     }
-    put_u32(book + TOTAL_AT, (uint32_t)(count * (14 + 4 * 24 + 4 * (uint64_t)n)));
+    put_u32(book + TOTAL_AT, (uint32_t)(count * (4 + kind + 4 * 24 + 4 * (uint64_t)n)));
 }
 
 static void compare_longest(void) {
     static uint8_t front[LOOKED];
-    const uint64_t most_file = MOST_BYTES, sum = 63 * most_file;
+    const uint64_t most_file = MOST_BYTES, old_file = most_file - 4, sum = 63 * most_file;
     uint8_t *book = mmap(NULL, (size_t)MOST_AREA + LOOKED, READ_WRITE, PRIVATE_UNRESERVED, -1, 0);
     if (book == (uint8_t *)-1) {
         printf("there is no room for an area of 4,294,967,295 bytes and what is behind it\n");
         exit(1);
     }
-    pyramid f = file_of(1, 5, 2, 14), last = file_of(2, 5, 2, 63);
+    pyramid f = file_of(NEW, 1, 5, 2, 14), last = file_of(OLD, 2, 5, 2, 63);
     const bk_answer done = {BK_DONE, 0, 0}, too_long = {BK_TOO_LONG, 0, 0}, bad = {BK_BAD_COUNT, 0, 0}, full = {BK_BOOK_FULL, 0, 0};
     compare_long("fresh, too long", book, front, bk_book_fresh(book, MOST_AREA + 1), too_long);
     compare_long("room, too long", book, front, bk_book_room(book, MOST_AREA + 1), too_long);
@@ -722,8 +740,12 @@ static void compare_longest(void) {
     memcpy(front + DATA_AT, f.bytes, f.length);
     put_u32(front + TOTAL_AT, (uint32_t)f.length);
     compare_long("add, the longest", book, front, bk_book_add(book, MOST_AREA, f.bytes, f.length, 14), done);
-    // 63 files of the most bytes, whose samples are not looked at, and one behind them
-    put_longest(book, 63, BK_MOST_SAMPLES);
+    // 63 old files of the most bytes, then 63 new ones, whose samples are not looked at, and one behind them
+    put_longest(book, OLD, 63, BK_MOST_SAMPLES);
+    memcpy(front, book, DATA_AT);
+    compare_long("room, 63 old files", book, front, bk_book_room(book, MOST_AREA), say(BK_DONE, MOST_AREA - DATA_AT - 63 * old_file, 63));
+    compare_long("find, 63 old files", book, front, bk_book_find(book, MOST_AREA, 1), say(BK_DONE, DATA_AT + old_file, old_file));
+    put_longest(book, NEW, 63, BK_MOST_SAMPLES);
     memcpy(front, book, DATA_AT);
     compare_long("room, 63 files", book, front, bk_book_room(book, MOST_AREA), say(BK_DONE, MOST_AREA - DATA_AT - sum, 63));
     compare_long("find, 63 files", book, front, bk_book_find(book, MOST_AREA, 62), say(BK_DONE, DATA_AT + sum - most_file, most_file));
@@ -740,19 +762,19 @@ static void compare_longest(void) {
     compare_long("withdraw, 64 files", book, front, bk_book_withdraw(book, MOST_AREA, 62), done);
     compare_bytes("withdraw, 64 files", book, DATA_AT + sum - most_file, last.bytes, last.length);
     // as many bytes as four bytes cannot tell, and files of too many samples
-    put_longest(book, 64, BK_MOST_SAMPLES);
+    put_longest(book, NEW, 64, BK_MOST_SAMPLES);
     memcpy(front, book, DATA_AT);
     compare_long("room, 64 files of the most bytes", book, front, bk_book_room(book, MOST_AREA), bad);
     compare_long("find, 64 files of the most bytes", book, front, bk_book_find(book, MOST_AREA, 0), bad);
     compare_long("room, the same in few bytes", book, front, bk_book_room(book, LOOKED), bad);
-    put_longest(book, 1, BK_MOST_SAMPLES + 1);
+    put_longest(book, NEW, 1, BK_MOST_SAMPLES + 1);
     memcpy(front, book, DATA_AT);
     compare_long("room, a file of too many samples", book, front, bk_book_room(book, MOST_AREA), bad);
     // 62 files of the most bytes, and a 63rd, for which the area is a byte too short, then just long enough; a 64th would end past
-    // 2^32, at 7,944 as far as four bytes tell it
-    make_whole(longest, 4, BK_MOST_SAMPLES, 23, 62);
+    // 2^32, at 8,200 as far as four bytes tell it
+    make_whole(longest, NEW, 4, BK_MOST_SAMPLES, 23, 62);
     memset(longest + MOST_BYTES - LOOKED, 0xa5, LOOKED);
-    put_longest(book, 62, BK_MOST_SAMPLES);
+    put_longest(book, NEW, 62, BK_MOST_SAMPLES);
     memcpy(front, book, DATA_AT);
     compare_long("add, a byte too short", book, front, bk_book_add(book, DATA_AT + sum - 1, longest, MOST_BYTES, 62), full);
     memcpy(front + 4 + 62 * ENTRY, longest, ENTRY);
@@ -772,7 +794,10 @@ int main(void) {
         for (int i = 0; i < 20; i++) compare_filled(count);
     compare_short();
     compare_lengths();
-    for (uint32_t width = 1; width <= 4; width *= 2) compare_refused(width);
+    for (uint32_t width = 1; width <= 4; width *= 2) {
+        compare_refused(OLD, width);
+        compare_refused(NEW, width);
+    }
     compare_too_long();
     compare_damaged(0);
     compare_damaged(3);
@@ -783,7 +808,7 @@ int main(void) {
     compare_longest();
     static const uint32_t numbers[] = {BK_DONE, BK_MIN_FILTER_SIZE, BK_BUFFER_WAS_TOO_SMALL_FOR_LEVEL, BK_TOO_LONG, BK_NO_ROOM,
                                        BK_OTHER_WIDTH, BK_BAD_COUNT, BK_CUT_SHORT, BK_OTHER_POINT, BK_TRAILING, BK_BOOK_FULL,
-                                       BK_ALREADY_HELD, BK_NOT_HELD};
+                                       BK_ALREADY_HELD, BK_NOT_HELD, BK_NO_RATE};
     unsigned long refused = 0;
     for (size_t i = 0; i < sizeof numbers / sizeof *numbers; i++) {
         if (asked[numbers[i]] == 0) {

@@ -3,8 +3,8 @@
 //
 // A request is `NAME arg arg ..`, one space between. A number is decimal; a slice is `x` and its bytes
 // in lowercase hex, for a lent slice those it has before the call. The answer is `number first second`,
-// then for pyramid_head its five fields, for pyramid_sample the sample, then ` x..` for each lent slice
-// after the call, in order. Else one of
+// then for pyramid_head its five fields, for pyramid_open the rate, for pyramid_sample the sample, then
+// ` x..` for each lent slice after the call, in order. Else one of
 //   unknown NAME     no such function
 //   malformed NAME   the arguments are not of the function's shape
 //   broken NAME      the call wrote beside a slice, or into one that it may only read
@@ -26,7 +26,7 @@ void exit(int status);
 
 // ---- the functions
 
-enum { MOST_ARGS = 6, GUARD = 64 };
+enum { MOST_ARGS = 7, GUARD = 64 };
 
 // A word of the request, and what it says: a number, or the place and length of a slice.
 struct arg {
@@ -80,11 +80,11 @@ static bk_answer call_rwmmmm(function f, const struct arg *a) {
         a[4].count, a[5].bytes, a[5].count);
 }
 
-static bk_answer call_rwwmmm(function f, const struct arg *a) {
-    return ((bk_answer(*)(const uint8_t *, size_t, uint32_t, uint32_t, uint8_t *, size_t, uint8_t *, size_t, uint8_t *,
-                          size_t))f)(
-        a[0].bytes, a[0].count, (uint32_t)a[1].number, (uint32_t)a[2].number, a[3].bytes, a[3].count, a[4].bytes,
-        a[4].count, a[5].bytes, a[5].count);
+static bk_answer call_rwwwmmm(function f, const struct arg *a) {
+    return ((bk_answer(*)(const uint8_t *, size_t, uint32_t, uint32_t, uint32_t, uint8_t *, size_t, uint8_t *, size_t,
+                          uint8_t *, size_t))f)(
+        a[0].bytes, a[0].count, (uint32_t)a[1].number, (uint32_t)a[2].number, (uint32_t)a[3].number, a[4].bytes,
+        a[4].count, a[5].bytes, a[5].count, a[6].bytes, a[6].count);
 }
 
 static bk_answer call_rwww(function f, const struct arg *a) {
@@ -151,6 +151,16 @@ static bk_answer call_r(function f, const struct arg *a) {
     return h.answer;
 }
 
+static bk_answer call_rwwmmm(function f, const struct arg *a) {
+    bk_opened o = ((bk_opened(*)(const uint8_t *, size_t, uint32_t, uint32_t, uint8_t *, size_t, uint8_t *, size_t,
+                                 uint8_t *, size_t))f)(
+        a[0].bytes, a[0].count, (uint32_t)a[1].number, (uint32_t)a[2].number, a[3].bytes, a[3].count, a[4].bytes,
+        a[4].count, a[5].bytes, a[5].count);
+    fields[0] = o.rate;
+    fields_used = 1;
+    return o.answer;
+}
+
 static bk_answer call_rwwn(function f, const struct arg *a) {
     bk_sample s = ((bk_sample(*)(const uint8_t *, size_t, uint32_t, uint32_t, uint64_t))f)(
         a[0].bytes, a[0].count, (uint32_t)a[1].number, (uint32_t)a[2].number, a[3].number);
@@ -164,6 +174,7 @@ static const struct shape shape_rmm = {"rmm", call_rmm};
 static const struct shape shape_rrm = {"rrm", call_rrm};
 static const struct shape shape_rwmmm = {"rwmmm", call_rwmmm};
 static const struct shape shape_rwmmmm = {"rwmmmm", call_rwmmmm};
+static const struct shape shape_rwwwmmm = {"rwwwmmm", call_rwwwmmm};
 static const struct shape shape_rwwmmm = {"rwwmmm", call_rwwmmm};
 static const struct shape shape_rrrmmm = {"rrrmmm", call_rrrmmm};
 static const struct shape shape_rwww = {"rwww", call_rwww};
@@ -228,9 +239,9 @@ static const struct row {
     {"stream_finish_i8", &shape_mmm, (function)bk_stream_finish_i8},
     {"stream_finish_i16", &shape_mmm, (function)bk_stream_finish_i16},
     {"stream_finish_i32", &shape_mmm, (function)bk_stream_finish_i32},
-    {"pyramid_write_i8", &shape_rwwmmm, (function)bk_pyramid_write_i8},
-    {"pyramid_write_i16", &shape_rwwmmm, (function)bk_pyramid_write_i16},
-    {"pyramid_write_i32", &shape_rwwmmm, (function)bk_pyramid_write_i32},
+    {"pyramid_write_i8", &shape_rwwwmmm, (function)bk_pyramid_write_i8},
+    {"pyramid_write_i16", &shape_rwwwmmm, (function)bk_pyramid_write_i16},
+    {"pyramid_write_i32", &shape_rwwwmmm, (function)bk_pyramid_write_i32},
     {"pyramid_size", &shape_wnw, (function)bk_pyramid_size},
     {"pyramid_head", &shape_r, (function)bk_pyramid_head},
     {"pyramid_open", &shape_rwwmmm, (function)bk_pyramid_open},
