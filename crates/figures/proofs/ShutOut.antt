@@ -92,7 +92,7 @@ says-head : sayHead thirtyOne ≡ Done 0 0
 unfolding sayHead leAt
 says-head = refl
 
-says-size : saySize 1 5 2 ≡ Done 31 0
+says-size : saySize 1 5 2 ≡ Done 35 0
 unfolding saySize depthFrom depthWithin
 says-size = refl
 
