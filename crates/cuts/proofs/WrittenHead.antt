@@ -1,6 +1,6 @@
 -- A file, of either kind, is a file of its recording: section 0 is read back from any part of it that has section 0 whole, and the checks that opening makes of it pass.
 use mathlib.Core.Bool.{Bool, true, false, cond, not, _&&_}
-use mathlib.Core.List.{List, [], _∷_, _++_}
+use mathlib.Core.List.{List, [], _∷_, _++_, append-assoc}
 use mathlib.Core.Logic.{⊎-elim}
 use mathlib.Core.Path.{_≡_, refl, sym, ap, subst, _∙_}
 use Prim.Native.Nat.{ℕ, _+_, _^_, _≤_, _<_}
@@ -25,24 +25,20 @@ use Rattle.dwt.specs.declared.filter.Filter.{Filter}
 use Rattle.dwt.specs.Filters.{widthOf, waveletOf}
 use Rattle.dwt.proofs.Cuts.{few-levels}
 use Rattle.pyramid.specs.declared.head.Head.{Head}
-use Rattle.pyramid.specs.Files.{mostBytes, oldCount, newCount, isCount, countBy, sectionOf, headOf, headSize, commonSize, bodyOf, fileOf, fileSize}
+use Rattle.pyramid.specs.Files.{mostBytes, oldCount, newCount, isCount, countBy, commonOf, rateOf, headOf, headSize, commonSize, bodyOf, fileOf, fileSize}
 use Rattle.pyramid.specs.Opens.{headIn, isNew, rateIn, startChecks, fieldChecks, rateChecks, headChecks}
-use Rattle.pyramid.proofs.Writing.{head-length, size-most, file-most, file-parts}
+use Rattle.pyramid.proofs.Writing.{head-length, new-size, size-most, file-most, file-parts}
 use Rattle.cuts.proofs.Sized.{file-length}
 use Rattle.cuts.proofs.Filed.{Recording, Filed}
 
--- section 0 by its kind, and what stands behind it
-abbrev kindOf : Bool → ℕ → ℕ → ℕ → ℕ → ℕ → List ℕ → List ℕ
-kindOf old k l n p r m = sectionOf (cond old oldCount newCount) (leBytes 1 k ++ (leBytes 1 l ++ (leBytes 4 n ++ (leBytes 4 p ++ cond old [] (leBytes 4 r))))) ++ m
-
-kind-count : (old : Bool) (k l n p r : ℕ) (m : List ℕ) → leAt 4 (kindOf old k l n p r m) 0 ≡ cond old oldCount newCount
+-- the count and the rate, in section 0 and what stands behind it
+count-in : (c k l n p : ℕ) (m : List ℕ) → c < 2 ^ 32 → leAt 4 (commonOf c k l n p ++ m) 0 ≡ c
 unfolding leAt leBytes
-kind-count true k l n p r m = refl
-kind-count false k l n p r m = refl
+count-in c k l n p m h = omega (arith, h)
 
-kind-rate : (k l n p r : ℕ) (m : List ℕ) → r < 2 ^ 32 → leAt 4 (kindOf false k l n p r m) commonSize ≡ r
+rate-in : (c k l n p r : ℕ) (m : List ℕ) → r < 2 ^ 32 → leAt 4 (commonOf c k l n p ++ (leBytes 4 r ++ m)) commonSize ≡ r
 unfolding leAt leBytes
-kind-rate k l n p r m h = omega (arith, h)
+rate-in c k l n p r m h = omega (arith, h)
 
 count-known : (r : ℕ) → isCount (countBy r) ≡ true
 count-known r = pick (eqb r 0)
@@ -89,21 +85,21 @@ module _ {f : Filter} {l n p : ℕ} {x : List ℕ} (d : Recording f l n p x) {ra
   size b e = length-take-le b s (omega (arith, file-length f l n z x (headOf k l n p rate) s (d .size) (head-length k l n p rate) parts))
 
   -- a number of j bytes at q, of the first b bytes
-  number-read : (j q b : ℕ) → q + j ≤ b → leAt j (take b s) q ≡ leAt j (kindOf (eqb rate 0) k l n p rate (bodyOf f l n x)) q
-  number-read j q b h = leAt-take j b s q h ∙ ap (λ (t : List ℕ). leAt j t q) parts
+  number-read : (j q b : ℕ) → q + j ≤ b → leAt j (take b s) q ≡ leAt j (commonOf (countBy rate) k l n p ++ (rateOf rate ++ bodyOf f l n x)) q
+  number-read j q b h =
+      leAt-take j b s q h ∙ ap (λ (t : List ℕ). leAt j t q) (parts ∙ append-assoc (commonOf (countBy rate) k l n p) (rateOf rate) (bodyOf f l n x))
 
   -- the count, of any four bytes or more
   pub count-read : (b : ℕ) → 4 ≤ b → leAt 4 (take b s) 0 ≡ countBy rate
-  count-read b c = number-read 4 0 b (omega arith) ∙ kind-count (eqb rate 0) k l n p rate (bodyOf f l n x)
+  count-read b c = number-read 4 0 b (omega arith) ∙ count-in (countBy rate) k l n p (rateOf rate ++ bodyOf f l n x) (omega (arith, size-most rate))
 
   -- the rate, where the file has one
   stored-read : (b : ℕ) → z ≤ b → 0 < rate → leAt 4 (take b s) commonSize ≡ rate
   stored-read b c some =
-      let new = ne-eqb rate 0 (λ e. omega arith) in
-      let long = ap (λ (b : Bool). 4 + cond b oldCount newCount) new in
-      number-read 4 commonSize b (omega (arith, long))
-      ∙ ap (λ (b : Bool). leAt 4 (kindOf b k l n p rate (bodyOf f l n x)) commonSize) new
-      ∙ kind-rate k l n p rate (bodyOf f l n x) hr
+      let rest : ℕ → List ℕ → List ℕ = λ q m. commonOf q k l n p ++ (m ++ bodyOf f l n x) in
+      number-read 4 commonSize b (omega (arith, new-size rate some))
+      ∙ ap (λ (o : Bool). leAt 4 (rest (countBy rate) (cond o [] (leBytes 4 rate))) commonSize) (ne-eqb rate 0 (λ e. omega arith))
+      ∙ rate-in (countBy rate) k l n p rate (bodyOf f l n x) hr
 
   has : (b : ℕ) → z ≤ b → (rateIn (take b s) ≡ rate) × ((isNew (take b s) && eqb (rateIn (take b s)) 0) ≡ false)
   has b c = told rate (leAt 4 (take b s) 0) (leAt 4 (take b s) commonSize) (count-read b (omega arith)) (stored-read b c)

@@ -30,7 +30,7 @@ use Rattle.dwt.proofs.Cuts.{width-pos}
 use Rattle.dwt.proofs.Integers.{common}
 use Rattle.dwt.proofs.Multi.{shallow-refused, checked-ready}
 use Rattle.dwt.proofs.Lists.{later}
-use Rattle.pyramid.specs.Files.{mostBytes, oldCount, newCount, countBy, sectionOf, rateOf, headOf, headSize, newSize, bodyOf, bodySize, fileSize, fileOf}
+use Rattle.pyramid.specs.Files.{mostBytes, oldCount, newCount, countBy, commonOf, rateOf, headOf, headSize, newSize, commonSize, bodyOf, bodySize, fileSize, fileOf}
 use Rattle.pyramid.specs.Writes.{writeChecks, sayWrite}
 
 -- ---- numbers that fit
@@ -80,7 +80,7 @@ size-most r = pick (eqb r 0)
 
 -- six numbers one after the other
 head-laid : (s : List ℕ) (w l n p r : ℕ) → w < 256 → l < 256 → newSize ≤ length s
-    → stored 4 (stored 4 (stored 4 (set (set (stored 4 s 0 newCount) 4 w) 5 l) 6 n) 10 p) 14 r ≡ sectionOf newCount (leBytes 1 w ++ (leBytes 1 l ++ (leBytes 4 n ++ (leBytes 4 p ++ leBytes 4 r)))) ++ drop newSize s
+    → stored 4 (stored 4 (stored 4 (set (set (stored 4 s 0 newCount) 4 w) 5 l) 6 n) 10 p) 14 r ≡ (commonOf newCount w l n p ++ leBytes 4 r) ++ drop newSize s
 head-laid s w l n p r hw hl h =
     let s₁ = stored 4 s 0 newCount in
     let s₂ = set s₁ 4 w in
@@ -118,13 +118,17 @@ pub new-laid : (s : List ℕ) (w l n p r : ℕ) → w < 256 → l < 256 → 0 < 
     → stored 4 (stored 4 (stored 4 (set (set (stored 4 s 0 newCount) 4 w) 5 l) 6 n) 10 p) 14 r ≡ headOf w l n p r ++ drop newSize s
 new-laid s w l n p r hw hl hr h =
     head-laid s w l n p r hw hl h
-    ∙ ap (λ (b : Bool). sectionOf (cond b oldCount newCount) (leBytes 1 w ++ (leBytes 1 l ++ (leBytes 4 n ++ (leBytes 4 p ++ cond b [] (leBytes 4 r))))) ++ drop newSize s) (sym (ne-eqb r 0 (λ z. omega arith)))
+    ∙ ap (λ (b : Bool). (commonOf (cond b oldCount newCount) w l n p ++ cond b [] (leBytes 4 r)) ++ drop newSize s) (sym (ne-eqb r 0 (λ z. omega arith)))
+
+pub common-length : (c w l n p : ℕ) → length (commonOf c w l n p) ≡ commonSize
+unfolding leBytes
+common-length c w l n p = refl
 
 pub head-length : (w l n p r : ℕ) → length (headOf w l n p r) ≡ headSize r
 unfolding leBytes
-head-length w l n p r = pick (eqb r 0)
+head-length w l n p r = length-append (commonOf (countBy r) w l n p) (rateOf r) ∙ ap (λ (m : ℕ). m + length (rateOf r)) (common-length (countBy r) w l n p) ∙ pick (eqb r 0)
   where
-    pick : (b : Bool) → length (sectionOf (cond b oldCount newCount) (leBytes 1 w ++ (leBytes 1 l ++ (leBytes 4 n ++ (leBytes 4 p ++ cond b [] (leBytes 4 r)))))) ≡ 4 + cond b oldCount newCount
+    pick : (b : Bool) → commonSize + length (cond b [] (leBytes 4 r)) ≡ 4 + cond b oldCount newCount
     pick true = refl
     pick false = refl
 

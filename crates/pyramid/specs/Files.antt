@@ -32,14 +32,17 @@ isCount c = eqb c oldCount || eqb c newCount
 abbrev pub countBy : ℕ → ℕ
 countBy r = cond (eqb r 0) oldCount newCount
 
--- behind the point
+-- what both kinds begin with, from a count through the point; and the rate behind it
+abbrev pub commonOf : ℕ → ℕ → ℕ → ℕ → ℕ → List ℕ
+commonOf c k l n p = sectionOf c (leBytes 1 k ++ (leBytes 1 l ++ (leBytes 4 n ++ leBytes 4 p)))
+
 abbrev pub rateOf : ℕ → List ℕ
 rateOf r = cond (eqb r 0) [] (leBytes 4 r)
 
 abbrev pub headOf : ℕ → ℕ → ℕ → ℕ → ℕ → List ℕ
-headOf k l n p r = sectionOf (countBy r) (leBytes 1 k ++ (leBytes 1 l ++ (leBytes 4 n ++ (leBytes 4 p ++ rateOf r))))
+headOf k l n p r = commonOf (countBy r) k l n p ++ rateOf r
 
--- the bytes of section 0, of either kind and of the new one; and those that both kinds have, from the count through the point
+-- how many bytes section 0 has, of either kind and of the new one, and how many both kinds begin with
 abbrev pub headSize : ℕ → ℕ
 headSize r = 4 + countBy r
 

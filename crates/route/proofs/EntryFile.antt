@@ -21,17 +21,17 @@ use Rattle.samples.proofs.LeLaws.{leAt-lt}
 use Rattle.samples.specs.Integers.{isWidth}
 use Rattle.dwt.specs.declared.filter.Filter.{Filter}
 use Rattle.dwt.specs.Filters.{widthOf}
-use Rattle.pyramid.specs.Files.{oldCount, newCount, isCount, countBy, rateOf, bodyOf, fileOf, fileSize}
+use Rattle.pyramid.specs.Files.{oldCount, newCount, isCount, countBy, commonOf, rateOf, bodyOf, fileOf, fileSize}
 use Rattle.pyramid.specs.Opens.{filterOf, headIn, isNew, fieldChecks}
 use Rattle.pyramid.proofs.Opening.{filter-width, filter-integers, which-count, fields-refuse}
-use Rattle.pyramid.proofs.Writing.{file-parts}
+use Rattle.pyramid.proofs.Writing.{common-length, file-parts}
 use Rattle.cuts.proofs.Filed.{Recording, all-length}
 use Rattle.cuts.proofs.WrittenHead.{filed}
 use Rattle.entries.specs.Books.{entrySize, pointBy, sizeBy, isHead}
 use Rattle.entries.specs.Checks.{wholeChecks}
 use Rattle.route.proofs.ByteParts.{bytes-zeros}
 use Rattle.route.proofs.FileBytes.{file-bytes}
-use Rattle.route.proofs.WholeFile.{commonOf, head-common, common-length, common-back}
+use Rattle.route.proofs.WholeFile.{common-back}
 use Rattle.route.proofs.TakenOpens.{filed-taken}
 
 -- ---- the file of an entry
@@ -119,7 +119,7 @@ module _ (e : List ℕ) (he : isHead e ≡ true) (be : Bytes e) (long : length e
   from-entry =
       let r = rateFor e in
       let front = commonOf (countBy r) (widthOf f) l n p in
-      ap (take entrySize) (file-parts f l p r n x (recording .size) ∙ ap (λ (t : List ℕ). t ++ bodyOf f l n x) (head-common (widthOf f) l n p r) ∙ append-assoc front (rateOf r) (bodyOf f l n x))
+      ap (take entrySize) (file-parts f l p r n x (recording .size) ∙ append-assoc front (rateOf r) (bodyOf f l n x))
       ∙ take-at front (rateOf r ++ bodyOf f l n x) entrySize (common-length (countBy r) (widthOf f) l n p)
       ∙ ap₂ (λ (c k : ℕ). commonOf c k l n p) count width
       ∙ whole-entry

@@ -18,7 +18,7 @@ use Rattle.samples.proofs.LeLaws.{leAt-take, leBytes-at}
 use Rattle.pyramid.specs.declared.head.Head.{Head}
 use Rattle.pyramid.specs.declared.walk.Way.{Way}
 use Rattle.pyramid.specs.declared.walk.Way.the-variants.{Went, Short, Wrong}
-use Rattle.pyramid.specs.Files.{oldCount, newCount, isCount, countBy, rateOf, headOf, headSize, newSize, commonSize, fileSize}
+use Rattle.pyramid.specs.Files.{oldCount, newCount, isCount, countBy, commonOf, rateOf, headOf, headSize, newSize, commonSize, fileSize}
 use Rattle.pyramid.specs.Walks.{walkOf}
 use Rattle.pyramid.specs.Opens.{headIn, rateIn, startChecks, fieldChecks, rateChecks, headChecks, wayIn, wayChecks, fileChecks, wholeDetails, levelIn, ownWidth}
 use Rattle.pyramid.proofs.Ways.{walk-size, walk-short}
@@ -44,17 +44,6 @@ head-in s =
       point = field 4 10 (omega arith) i;
       body = 4 + field 4 0 (omega arith) i;
     }
-
--- what both kinds of section 0 begin with: a count, and the fields through the point
-abbrev pub commonOf : ℕ → ℕ → ℕ → ℕ → ℕ → List ℕ
-commonOf c w l n p = leBytes 4 c ++ (leBytes 1 w ++ (leBytes 1 l ++ (leBytes 4 n ++ leBytes 4 p)))
-
-pub head-common : (w l n p r : ℕ) → headOf w l n p r ≡ commonOf (countBy r) w l n p ++ rateOf r
-head-common w l n p r = simp append-assoc
-
-pub common-length : (c w l n p : ℕ) → length (commonOf c w l n p) ≡ commonSize
-unfolding leBytes
-common-length c w l n p = refl
 
 -- a number that stands at i, and what is behind it
 number-back : (s : List ℕ) → Bytes s → (k i : ℕ) (t : List ℕ) → i + k ≤ length s → t ≡ drop (i + k) s → leBytes k (leAt k s i) ++ t ≡ drop i s
@@ -93,8 +82,7 @@ head-back s bs c q =
     let h = headIn s in
     let there = start-passes s c in
     let r = rate-back s bs (start-count s c) (there .1) q in
-    ap (λ (t : List ℕ). t ++ drop (h .body) s) (head-common (h .width) (h .levels) (h .samples) (h .point) (rateIn s))
-    ∙ append-assoc (commonOf (countBy (rateIn s)) (h .width) (h .levels) (h .samples) (h .point)) (rateOf (rateIn s)) (drop (h .body) s)
+    append-assoc (commonOf (countBy (rateIn s)) (h .width) (h .levels) (h .samples) (h .point)) (rateOf (rateIn s)) (drop (h .body) s)
     ∙ ap₂ (λ (n : ℕ) (t : List ℕ). commonOf n (h .width) (h .levels) (h .samples) (h .point) ++ t) (r .0) (r .1)
     ∙ common-back s bs (there .0)
 
