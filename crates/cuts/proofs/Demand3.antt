@@ -23,6 +23,7 @@ use Rattle.dwt.proofs.Integers.{lent-ready}
 use Rattle.pyramid.specs.Files.{newSize, fileOf, fileSize}
 use Rattle.pyramid.specs.Writes.{sayWrite, Write}
 use Rattle.cuts.specs.Sees.{Openings}
+use Rattle.cuts.proofs.Filed.{Filed}
 use Rattle.cuts.proofs.WrittenHead.{filed}
 use Rattle.cuts.proofs.Opened.{openings}
 use Rattle.cuts.proofs.Kept.{kept}
@@ -51,8 +52,13 @@ demand3-calls f i L n p rate some deep most hp hy hr x bx size b u v file first 
     (subst (λ (m : ℕ). fileSize newSize (widthOf f) m n ≤ length b) (sym el) file) first second a b′ u′ v′ w in
     (t .0, subst (λ (m : ℕ). Openings newSize f m n p x b′) el (t .1))
 
--- demand 3 for old files, whose section 0 has 14 bytes
+-- an old file, whose section 0 has 14 bytes
+pub old-filed : (f : Filter) → Integers f → (L n p : ℕ) → 1 ≤ L → L ≤ depthOf Cdf53 n → n ≤ mostSamples → p < 2 ^ 32 → (x : List ℕ) → Bytes x → length x ≡ widthOf f * n
+    → Filed 14 f L n p x (fileOf f L p 0 x)
+old-filed f i L n p some deep most hp x bx size =
+    filed (record { integers = i; bytes = bx; size = size; least = step 3 (omega arith) 0 n (omega (arith, some, deep)) .0; most = most; some = some; deep = deep; point = hp }) {rate = 0} (omega arith)
+
+-- demand 3 for old files
 pub demand3-old : (f : Filter) → Integers f → (L n p : ℕ) → 1 ≤ L → L ≤ depthOf Cdf53 n → n ≤ mostSamples → p < 2 ^ 32 → (x : List ℕ) → Bytes x → length x ≡ widthOf f * n
     → Openings 14 f L n p x (fileOf f L p 0 x)
-demand3-old f i L n p some deep most hp x bx size =
-    openings (filed (record { integers = i; bytes = bx; size = size; least = step 3 (omega arith) 0 n (omega (arith, some, deep)) .0; most = most; some = some; deep = deep; point = hp }) {rate = 0} (omega arith))
+demand3-old f i L n p some deep most hp x bx size = openings (old-filed f i L n p some deep most hp x bx size)

@@ -19,12 +19,12 @@ use Rattle.dwt.proofs.Integers.{wavelet-is}
 use Rattle.dwt.specs.declared.filter.Filter.{Filter}
 use Rattle.dwt.specs.Filters.{widthOf, Integers}
 use Rattle.pyramid.specs.Files.{newSize, fileOf, fileSize}
-use Rattle.pyramid.specs.Opens.{rateIn, Open}
+use Rattle.pyramid.specs.Opens.{Open}
 use Rattle.pyramid.specs.Writes.{sayWrite, Write}
-use Rattle.pyramid.proofs.Writing.{new-size, size-most, write-ready}
+use Rattle.pyramid.proofs.Writing.{new-size, write-ready}
 use Rattle.cuts.specs.Sees.{Openings}
 use Rattle.cuts.proofs.Filed.{Recording, Filed, all-length}
-use Rattle.cuts.proofs.WrittenHead.{filed, rate-read}
+use Rattle.cuts.proofs.WrittenHead.{filed}
 use Rattle.cuts.proofs.Opened.{openings}
 
 -- samples that were written are a recording
@@ -55,13 +55,6 @@ module _ (f : Filter) (l p rate : ℕ) (x : List ℕ) (i : Integers f) (bx : Byt
       let d = is-done (sayWrite f l rate (length x) (length b) (length u) (length v)) a (w .answer) z in
       subst (λ (y : ℕ). Filed y f (levelsOf l) (length x / widthOf f) p x (fileOf f (levelsOf l) p rate x)) (new-size rate (write-ready f l rate (length x) (length b) (length u) (length v) d .rate))
       (filed (recorded f l p rate x (length b) (length u) (length v) i bx hp d) hr)
-
-  -- and says the rate, cut as it may be after section 0
-  pub written-rate : (b u v : List ℕ) (a : Answer) (b′ u′ v′ : List ℕ) → Write f l p rate x b u v a b′ u′ v′ → a .number ≡ 0
-      → (c : ℕ) → newSize ≤ c → rateIn (take c (fileOf f (levelsOf l) p rate x)) ≡ rate
-  written-rate b u v a b′ u′ v′ w z c h =
-      let d = is-done (sayWrite f l rate (length x) (length b) (length u) (length v)) a (w .answer) z in
-      rate-read (recorded f l p rate x (length b) (length u) (length v) i bx hp d) hr c (omega (arith, size-most rate))
 
   -- the file is at the front of the file area
   pub file-in : (b u v : List ℕ) (a : Answer) (b′ u′ v′ : List ℕ) → Write f l p rate x b u v a b′ u′ v′ → a .number ≡ 0

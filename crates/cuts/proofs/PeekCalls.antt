@@ -26,7 +26,7 @@ use Rattle.dwt.specs.Filters.{widthOf, Integers}
 use Rattle.dwt.specs.Pyramids.{approxAt}
 use Rattle.dwt.specs.Backward.{Area}
 use Rattle.dwt.proofs.Cuts.{width-pos}
-use Rattle.pyramid.specs.Files.{newSize, fileSize}
+use Rattle.pyramid.specs.Files.{newSize, fileOf, fileSize}
 use Rattle.pyramid.specs.Opens.{fileChecks, levelIn, countIn, sayFile}
 use Rattle.pyramid.specs.Writes.{Write}
 use Rattle.peek.specs.declared.PeekAnswer.{PeekAnswer}
@@ -38,7 +38,7 @@ use Rattle.cuts.proofs.Whole.{first-most}
 use Rattle.cuts.proofs.Survives.{count-left, samples-are, file-short, file-passes}
 use Rattle.cuts.proofs.Answers.{all-whole}
 use Rattle.cuts.proofs.Kept.{written, front-in}
-use Rattle.cuts.proofs.Demand3.{demand3-calls}
+use Rattle.cuts.proofs.Demand3.{old-filed, demand3-calls}
 
 -- in the first c bytes of a recording's file
 module _ {z : ℕ} {f : Filter} {l n p : ℕ} {x s : List ℕ} (d : Filed z f l n p x s) (c : ℕ) (most : c ≤ fileSize z (widthOf f) l n) (j : ℕ) (q : PeekAnswer) (m : Peek (take c s) (widthOf f) p j q) where
@@ -94,11 +94,15 @@ module _ {z : ℕ} {f : Filter} {l n p : ℕ} {x s : List ℕ} (d : Filed z f l 
         all = whole-file;
       }
 
+-- every asking
+pub peekings : {z : ℕ} {f : Filter} {l n p : ℕ} {x s : List ℕ} → Filed z f l n p x s → Peekings z f l n p x s
+peekings d = λ c e j q m. peeked d c e j q m
+
 -- the first bytes of what a done write left
 pub written-peeks : (f : Filter) (l p rate : ℕ) (x : List ℕ) → Integers f → Bytes x → p < 2 ^ 32 → rate < 2 ^ 32 → (b u v : List ℕ) (a : Answer) (b′ u′ v′ : List ℕ)
     → Write f l p rate x b u v a b′ u′ v′ → a .number ≡ 0 → Peekings newSize f (levelsOf l) (length x / widthOf f) p x b′
 written-peeks f l p rate x i bx hp hr b u v a b′ u′ v′ w z = λ c e j q m.
-    peeked (written f l p rate x i bx hp hr b u v a b′ u′ v′ w z) c e j q (subst (λ (s : List ℕ). Peek s (widthOf f) p j q) (front-in f l p rate x i bx hp hr b u v a b′ u′ v′ w z c e) m)
+    peekings (written f l p rate x i bx hp hr b u v a b′ u′ v′ w z) c e j q (subst (λ (s : List ℕ). Peek s (widthOf f) p j q) (front-in f l p rate x i bx hp hr b u v a b′ u′ v′ w z c e) m)
 
 -- demand 3, one sample at a time: with room the write is done, and each front of what it wrote is asked as `Peekings` says
 pub demand3-peeks : (f : Filter) → Integers f → (L n p rate : ℕ) → 1 ≤ L → L ≤ depthOf Cdf53 n → n ≤ mostSamples → p < 2 ^ 32 → 1 ≤ rate → rate < 2 ^ 32 → (x : List ℕ) → Bytes x → length x ≡ widthOf f * n
@@ -110,3 +114,8 @@ demand3-peeks f i L n p rate some deep most hp hy hr x bx size b u v file first 
     let t = demand3-calls f i L n p rate some deep most hp hy hr x bx size b u v file first second a b′ u′ v′ w .0 in
     let all = written-peeks f L p rate x i bx hp hr b u v a b′ u′ v′ w (ap (λ (q : Answer). q .number) t) in
     (t, subst (λ (m : ℕ). Peekings newSize f L m p x b′) en (subst (λ (m : ℕ). Peekings newSize f m (length x / widthOf f) p x b′) el all))
+
+-- the same for old files, as a law about their bytes
+pub demand3-old-peeks : (f : Filter) → Integers f → (L n p : ℕ) → 1 ≤ L → L ≤ depthOf Cdf53 n → n ≤ mostSamples → p < 2 ^ 32 → (x : List ℕ) → Bytes x → length x ≡ widthOf f * n
+    → Peekings 14 f L n p x (fileOf f L p 0 x)
+demand3-old-peeks f i L n p some deep most hp x bx size = peekings (old-filed f i L n p some deep most hp x bx size)
