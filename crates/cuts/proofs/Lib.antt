@@ -9,6 +9,7 @@ pub mod Survives
 pub mod Answers
 pub mod Opened
 pub mod CutSections
+pub mod Behind
 pub mod Kept
 pub mod WriteFits
 pub mod Demand3
