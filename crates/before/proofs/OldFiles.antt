@@ -8,20 +8,28 @@ use Prim.Native.Nat.{ℕ, _+_, _-_, _≤_, _<_}
 use native.Mathlib.Omega.{arith}
 use borrow.Author.Tests.{lt-ltb, le-ltb, ne-eqb}
 use lib.Dec.{eqb}
-use lib.ListN.{length}
+use lib.ListN.{length, length-append}
 use Rattle.answers.specs.declared.err.Refusal.{Refusal}
-use Rattle.answers.specs.declared.err.Refusal.the-variants.{Done, BadCount, CutShort}
+use Rattle.answers.specs.declared.err.Refusal.the-variants.{Done, TooLong, BadCount, CutShort, Trailing}
 use Rattle.answers.specs.Answers.{done}
 use Rattle.answers.specs.Checks.{Check, firstOf}
 use Rattle.answers.proofs.Chain.{by, stop, same}
 use Rattle.answers.proofs.Passed.{Passing, pass-on}
 use Rattle.sizes.specs.Levels.{countAt}
 use Rattle.samples.specs.Le.{leAt}
+use Rattle.dwt.specs.declared.filter.Filter.{Filter}
+use Rattle.dwt.specs.Filters.{widthOf}
+use Rattle.dwt.proofs.Integers.{own-depth}
 use Rattle.pyramid.specs.declared.head.Head.{Head}
-use Rattle.pyramid.specs.Files.{mostBytes, oldCount, newCount, isCount}
+use Rattle.pyramid.specs.Files.{mostBytes, oldCount, newCount, isCount, fileOf}
 use Rattle.pyramid.specs.Walks.{restoredAt}
 use Rattle.pyramid.specs.Opens.{headIn, rateIn, startChecks, fieldChecks, rateChecks, wayIn, wayChecks, fileChecks, wholeDetails, levelIn, countIn, samplesIn, areaChecks, roomsFor, sayOpen, rateOpened}
 use Rattle.pyramid.proofs.Opening.{which-count, whole-areas-pass}
+use Rattle.pyramid.proofs.Writing.{file-most}
+use Rattle.cuts.specs.Sees.{Sampled}
+use Rattle.cuts.proofs.Filed.{Recording, all-length}
+use Rattle.cuts.proofs.WrittenHead.{filed}
+use Rattle.cuts.proofs.Behind.{behind-file}
 use Rattle.before.specs.Openers.{mostBefore, headBefore, startBefore, fileBefore, levelBefore, countBefore, samplesBefore, sayBefore, Whole}
 
 -- two lists behind the same part
@@ -98,6 +106,17 @@ module _ (s : List ℕ) (w p o u v : ℕ) where
   pub long-says : mostBytes < length s → sayOpen s w p o u v ≡ sayBefore s w p o u v
   long-says long =
       alike (sym (stop _ (lt-ltb mostBytes (length s) long) refl) ∙ stop _ (lt-ltb mostBefore (length s) (omega arith)) refl)
+
+-- an old file with bytes behind it, over the limit of before and within that of now: 12, and how many, where it was 6
+pub limit-changed : {f : Filter} {l n p : ℕ} {x : List ℕ} → Recording f l n p x → (t : List ℕ) → let s = fileOf f l p 0 x ++ t in mostBefore < length s → length s ≤ mostBytes
+    → (o u v : ℕ) → Sampled (widthOf f) o u v → (sayOpen s (widthOf f) p o u v ≡ Trailing (length t)) × (sayBefore s (widthOf f) p o u v ≡ TooLong)
+limit-changed {f} {l} {n} {p} {x} d t over within o u v a =
+    let s = fileOf f l p 0 x ++ t in
+    let size = length-append (fileOf f l p 0 x) t ∙ ap (λ (j : ℕ). j + length t) (all-length (filed d {rate = 0} (omega arith))) in
+    let most = file-most f (d .integers) l n (own-depth f (d .integers) l n (d .deep)) (d .most) in (
+      behind-file d {rate = 0} (omega arith) t (omega (arith, size, most)) (omega (arith, size)) o u v a,
+      past-areas s (widthOf f) p o u v (λ _. (a .output, a .first, a .second)) .1 ∙ sym (stop _ (lt-ltb mostBefore (length s) over) refl),
+    )
 
 -- ---- what opens
 

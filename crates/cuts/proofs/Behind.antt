@@ -56,9 +56,9 @@ module _ {f : Filter} {l n p : ℕ} {x : List ℕ} (d : Recording f l n p x) {ra
       (walk-cut f l n x (headOf k l n p rate) t (length rest) (d .size) (omega (arith, d .most)) (omega arith))
       ∙ sym (within-whole k l n z (length rest) (omega (arith, rest-long)))
 
-  pub behind : (o u v : ℕ) → Sampled k o u v → sayOpen (fileOf f l p rate x ++ t) k p o u v ≡ Trailing (length t)
+  pub behind-file : (o u v : ℕ) → Sampled k o u v → sayOpen (fileOf f l p rate x ++ t) k p o u v ≡ Trailing (length t)
   unfolding sayOpen
-  behind o u v a =
+  behind-file o u v a =
       let end = Done (levelIn y) (countIn y) in
       let rooms = roomsFor k (countIn y) o u v in
       let heads = headChecks y k p in

@@ -47,4 +47,5 @@ unfolding fileOf
 file-bytes f i l p r x h =
     let n = length x / widthOf f in
     let join : (s t : List ℕ) → Bytes s → Bytes t → Bytes (s ++ t) = bytes-join in
-    join _ _ (section-bytes (countBy r) _ (join _ _ (bytes-number 1 (widthOf f)) (join _ _ (bytes-number 1 l) (join _ _ (bytes-number 4 n) (join _ _ (bytes-number 4 p) (rate-bytes r)))))) (body-bytes f i l n x h)
+    let common = section-bytes (countBy r) _ (join _ _ (bytes-number 1 (widthOf f)) (join _ _ (bytes-number 1 l) (join _ _ (bytes-number 4 n) (bytes-number 4 p)))) in
+    join _ _ (join _ _ common (rate-bytes r)) (body-bytes f i l n x h)
