@@ -29,7 +29,7 @@ use Rattle.pyramid.proofs.Writing.{new-count, write-ready}
 use Rattle.cuts.proofs.Filed.{cut-length}
 use Rattle.cuts.proofs.WrittenHead.{count-read}
 use Rattle.cuts.proofs.Kept.{recorded, written, front-in}
-use Rattle.before.specs.Openers.{mostBefore, headBefore, startBefore, fileBefore, levelBefore, countBefore, samplesBefore, sayBefore, OpenBefore, Whole, Met}
+use Rattle.before.specs.Openers.{mostBefore, headBefore, startBefore, levelBefore, countBefore, sayBefore, OpenBefore, Whole, Met}
 
 -- c bytes that begin with the count 14, as far as they go
 module _ (s : List ℕ) (c : ℕ) (size : length s ≡ c) (count : 4 ≤ c → leAt 4 s 0 ≡ newCount) (m : List Check) (e : Refusal) where

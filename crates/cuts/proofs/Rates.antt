@@ -2,7 +2,7 @@
 -- it was given. Each of the integer filters.
 use mathlib.Core.Bool.{true}
 use mathlib.Core.List.{List}
-use mathlib.Core.Path.{_≡_, subst, _∙_}
+use mathlib.Core.Path.{_≡_, _∙_}
 use Prim.Native.Nat.{ℕ, _/_, _^_, _≤_, _<_}
 use native.Mathlib.Omega.{arith}
 use lib.ListN.{length, take}
@@ -17,7 +17,7 @@ use Rattle.pyramid.specs.Files.{headSize, newSize, fileOf, fileSize}
 use Rattle.pyramid.specs.Opens.{sayOpen, rateOpened, Open}
 use Rattle.pyramid.specs.Writes.{sayWrite, Write}
 use Rattle.pyramid.proofs.Opening.{head-passes, open-head, open-rate, refused-rate}
-use Rattle.pyramid.proofs.Writing.{size-most, new-size, write-ready}
+use Rattle.pyramid.proofs.Writing.{new-size, write-ready}
 use Rattle.cuts.proofs.Filed.{Recording, cut-length}
 use Rattle.cuts.proofs.WrittenHead.{filed, count-read, rate-read}
 use Rattle.cuts.proofs.Kept.{recorded, front-in}

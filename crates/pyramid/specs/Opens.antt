@@ -1,7 +1,7 @@
 -- Opening a file, from document 01, "Opening checks", and C-17, for both kinds: the checks as one list in their order, and what the call promises.
 use mathlib.Core.Bool.{Bool, true, cond, not, _&&_}
 use mathlib.Core.List.{List, [], _∷_, _++_}
-use Prim.Native.Nat.{ℕ, _+_, _-_, _*_, _/_, _≤_, _<_}
+use Prim.Native.Nat.{ℕ, _+_, _-_, _*_, _/_, _<_}
 use lib.Dec.{ltb, eqb}
 use lib.ListN.{length, take, drop}
 use denote.Ref.{RefT}

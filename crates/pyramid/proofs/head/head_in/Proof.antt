@@ -1,6 +1,6 @@
 -- `head_in` meets its contract.
-use mathlib.Core.Path.{_≡_, ap}
-use Prim.Native.Nat.{ℕ, _+_}
+use mathlib.Core.Path.{_≡_}
+use Prim.Native.Nat.{_+_}
 use native.Mathlib.Omega.{arith}
 use Rattle.samples.specs.Le.{leAt}
 use borrow.Author.Needs.{needs}

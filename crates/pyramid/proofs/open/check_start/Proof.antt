@@ -1,6 +1,6 @@
 -- `check_start` meets its contract: a link for each check.
 use borrow.Author.Tests.{lt-ltb, le-ltb}
-use mathlib.Core.Bool.{true, false, not}
+use mathlib.Core.Bool.{not}
 use mathlib.Core.Path.{_≡_, refl, sym, ap, _∙_}
 use Prim.Native.Nat.{ℕ, _+_}
 use lib.Dec.{ltb}
