@@ -3,17 +3,18 @@ use Rattle.answers.specs.declared.err.Refusal.{Refusal}
 use mathlib.Core.Bool.{Bool, true, false, cond, _||_}
 use mathlib.Core.List.{List, [], _∷_, _++_}
 use mathlib.Core.Logic.{_⊎_, inl, inr, ⊎-elim}
-use mathlib.Core.Path.{_≡_, refl, sym, ap}
+use mathlib.Core.Path.{_≡_, refl, sym, ap, _∙_}
 use Prim.Native.Nat.{ℕ, _+_, _-_, _*_, _/_, _%_, _≤_}
 use native.Mathlib.Nat.{mul-le-mul-left}
 use native.Mathlib.Omega.{arith}
 use borrow.Author.Tests.{eqb-true, eqb-false, not-false}
 use lib.Dec.{ltb, eqb}
-use lib.ListN.{length}
+use lib.ListN.{length, drop}
 use Rattle.answers.specs.declared.err.Refusal.the-variants.{Done, NoRoom}
 use Rattle.answers.specs.Answers.{answerOf, done}
 use Rattle.answers.specs.Checks.{ragged, Check, firstOf}
 use Rattle.answers.proofs.Chain.{same}
+use Rattle.answers.proofs.Endings.{call-decides}
 use Rattle.answers.proofs.Passed.{off, Refusing, Passing, passing, both-refuse, both-pass, whole, roomy, right, through, pass-on, stop-there}
 use Rattle.sizes.specs.declared.Wavelet.the-variants.{Cdf53}
 use Rattle.sizes.specs.Lengths.{mostSamples}
@@ -25,11 +26,12 @@ use Rattle.samples.specs.Integers.{isWidth}
 use Rattle.samples.proofs.IntegerLaws.{width-of}
 use Rattle.dwt.specs.declared.filter.Filter.the-variants.{Cdf53I8, Cdf53I16, Cdf53I32}
 use Rattle.dwt.specs.Filters.{widthOf, Integers}
+use Rattle.pyramid.specs.declared.open.OpenAnswer.{OpenAnswer}
 use Rattle.pyramid.specs.declared.walk.Way.{Way}
 use Rattle.pyramid.specs.declared.walk.Way.the-variants.{Went, Short, Wrong}
 use Rattle.pyramid.specs.Files.{oldCount, newCount, isCount, commonSize, bodySize}
 use Rattle.pyramid.specs.Walks.{walkOf}
-use Rattle.pyramid.specs.Opens.{filterOf, headIn, startChecks, fieldChecks, rateChecks, headChecks, wayIn, wayChecks, wholeDetails, levelIn, countIn, areaChecks, roomsFor, sayOpen, fileChecks, sayFile, rateIn, rateOpened}
+use Rattle.pyramid.specs.Opens.{filterOf, headIn, startChecks, fieldChecks, rateChecks, headChecks, wayIn, wayChecks, wholeDetails, levelIn, countIn, areaChecks, WholeAreas, roomsFor, sayOpen, fileChecks, sayFile, rateIn, rateOpened, OpenGives}
 use Rattle.pyramid.proofs.Ways.{walk-size, walk-short}
 
 -- the integer filter of a width has that width
@@ -190,7 +192,7 @@ area-refuses w o u v = pick (isWidth w)
 pub area-passes : (w o u v : ℕ) → isWidth w ≡ true → Passing (areaChecks w o u v) → (o ≡ w * (o / w)) × (u ≡ w * (u / w)) × (v ≡ w * (v / w))
 area-passes w o u v h q = let r = rw h at q in (whole w o (r .0), whole w u (r .1 .0), whole w v (r .1 .1 .0))
 
-pub whole-areas-pass : (w o u v : ℕ) → (isWidth w ≡ true → (o % w ≡ 0) × (u % w ≡ 0) × (v % w ≡ 0)) → Passing (areaChecks w o u v)
+pub whole-areas-pass : (w o u v : ℕ) → WholeAreas w o u v → Passing (areaChecks w o u v)
 whole-areas-pass w o u v h = pick (isWidth w) refl
   where
     pick : (b : Bool) → isWidth w ≡ b → Passing (cond b (ragged w o ∷ ragged w u ∷ ragged w v ∷ []) [])
@@ -273,3 +275,8 @@ module _ (s : List ℕ) (w p o u v : ℕ) (h : done (sayOpen s w p o u v) ≡ tr
 pub refused-rate : (s : List ℕ) (w p o u v : ℕ) → done (sayOpen s w p o u v) ≡ false → rateOpened s w p o u v ≡ 0
 unfolding rateOpened
 refused-rate s w p o u v h = rw h
+
+-- two results that the statement allows are equal, the fronts of the work areas apart
+pub open-decides : {s : List ℕ} {w p : ℕ} {o u v : List ℕ} {a b : OpenAnswer} {o₁ u₁ v₁ o₂ u₂ v₂ : List ℕ} → OpenGives s w p o u v a o₁ u₁ v₁ → OpenGives s w p o u v b o₂ u₂ v₂
+    → let m = cond (done (sayOpen s w p (length o) (length u) (length v))) (w * countIn s) 0 in (a ≡ b) × (o₁ ≡ o₂) × (drop m u₁ ≡ drop m u₂) × (drop m v₁ ≡ drop m v₂)
+open-decides g h = let c = call-decides (g .call) (h .call) in (λ i. record { answer = c .0 i; rate = (g .rate ∙ sym (h .rate)) i }, c .1, c .2, c .3)

@@ -6,7 +6,7 @@ use mathlib.Core.Path.{_≡_, refl, sym, ap, _∙_}
 use Prim.Native.Nat.{ℕ, zero, suc, _+_, _-_, _*_, _≤_, _<_}
 use native.Mathlib.Nat.{mul-le-mul-right}
 use native.Mathlib.Omega.{arith}
-use borrow.Author.Tests.{ltb-false}
+use borrow.Author.Tests.{ltb-true, ltb-false}
 use lib.Dec.{ltb, eqb}
 use lib.ListN.{length}
 use Rattle.samples.specs.Le.{leAt}
@@ -116,6 +116,37 @@ walk-short (suc l) s k n at j e =
       most = omega (arith, i .most);
       before = λ h. let t = i .before h in (t .0, ap (λ (r : ℕ). walkOf s k (j - 2) (countAt r n) at) b ∙ t .1);
     })
+    (go-short (walkOf s k l (approxLength n) at) (λ q. oneOf s k (detailsLength n) (suc l + 1) q) j e)
+
+-- a section that is cut ends behind the bytes
+one-below : (s : List ℕ) (k c i at j : ℕ) → oneOf s k c i at ≡ Short j → length s < at + (4 + k * c)
+unfolding oneOf
+one-below s k c i at j e = first (ltb (length s - at) 4) refl e
+  where
+    third : (b : Bool) → ltb (length s - at - 4) (k * c) ≡ b → cond b (Short i) (Went (at + 4 + k * c)) ≡ Short j → length s < at + (4 + k * c)
+    third true h e = omega (arith, ltb-true (length s - at - 4) (k * c) h)
+    third false h e = let z : _≡_ {A = ℕ} 0 1 = cc in absurd (let y : 1 ≤ 0 = omega arith in omega arith)
+
+    second : (b : Bool) → cond b (Wrong i (leAt 4 s at)) (cond (ltb (length s - at - 4) (k * c)) (Short i) (Went (at + 4 + k * c))) ≡ Short j → length s < at + (4 + k * c)
+    second true e = let z : _≡_ {A = ℕ} 0 1 = cc in absurd (let y : 1 ≤ 0 = omega arith in omega arith)
+    second false e = third (ltb (length s - at - 4) (k * c)) refl e
+
+    first : (b : Bool) → ltb (length s - at) 4 ≡ b
+        → cond b (Short i) (cond (not (eqb (leAt 4 s at) c)) (Wrong i (leAt 4 s at)) (cond (ltb (length s - at - 4) (k * c)) (Short i) (Went (at + 4 + k * c)))) ≡ Short j
+        → length s < at + (4 + k * c)
+    first true h e = omega (arith, ltb-true (length s - at) 4 h)
+    first false h e = second (not (eqb (leAt 4 s at) c)) e
+
+-- so do the sections of a walk that is cut
+pub walk-below : (l : ℕ) (s : List ℕ) (k n at j : ℕ) → at ≤ length s → walkOf s k l n at ≡ Short j → length s < at + bodySize k l n
+unfolding walkOf
+walk-below zero s k n at j h e = omega (arith, one-below s k n 1 at j e)
+walk-below (suc l) s k n at j h e =
+    ⊎-elim
+    (λ g.
+    let i = walk-size l s k (approxLength n) at (g .0) h (g .1) in
+    omega (arith, i .0, one-below s k (detailsLength n) (suc l + 1) (g .0) j (g .2), split-width k n))
+    (λ g. omega (arith, walk-below l s k (approxLength n) at j h g, split-width k n))
     (go-short (walkOf s k l (approxLength n) at) (λ q. oneOf s k (detailsLength n) (suc l + 1) q) j e)
 
 -- the walk of the code

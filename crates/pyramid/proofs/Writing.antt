@@ -1,8 +1,9 @@
 -- Writing a file: numbers stored one after the other, section 0, the whole file, and what a done call has passed. Section 0 is laid in the new kind; how long it
 -- is, and what a file is made of, holds of both.
 -- Looks into no filter but for its width.
-use mathlib.Core.Bool.{Bool, true, false, cond}
-use mathlib.Core.Path.{_≡_, refl, sym, ap, _∙_}
+use mathlib.Core.Bool.{true}
+use mathlib.Core.Logic.{_⊎_, inl, inr, ⊎-elim}
+use mathlib.Core.Path.{_≡_, refl, sym, ap, ap₂, _∙_}
 use mathlib.Core.List.{List, [], _∷_, _++_, append-assoc}
 use Prim.Native.Nat.{ℕ, _+_, _*_, _/_, _≤_, _<_}
 use native.Mathlib.Nat.{mod-eq-of-lt, mul-le-mul-right}
@@ -19,6 +20,7 @@ use Rattle.answers.proofs.Passed.{passing, roomy}
 use Rattle.samples.specs.Le.{leBytes, stored}
 use Rattle.samples.proofs.Words.{holds}
 use Rattle.samples.proofs.LeLaws.{length-leBytes, length-stored, stored-is}
+use Rattle.order.proofs.Order.{lt-or-le}
 use Rattle.sizes.specs.Lengths.{mostSamples}
 use Rattle.sizes.specs.Levels.{depthOf, levelsOf}
 use Rattle.sizes.proofs.Depths.{depth-at-most}
@@ -30,7 +32,7 @@ use Rattle.dwt.proofs.Cuts.{width-pos}
 use Rattle.dwt.proofs.Integers.{common}
 use Rattle.dwt.proofs.Multi.{shallow-refused, checked-ready}
 use Rattle.dwt.proofs.Lists.{later}
-use Rattle.pyramid.specs.Files.{mostBytes, oldCount, newCount, countBy, commonOf, rateOf, headOf, headSize, newSize, commonSize, bodyOf, bodySize, fileSize, fileOf}
+use Rattle.pyramid.specs.Files.{oldCount, newCount, countBy, commonOf, rateOf, headOf, headSize, newSize, commonSize, bodyOf, bodySize, fileSize, fileOf}
 use Rattle.pyramid.specs.Writes.{writeChecks, sayWrite}
 
 -- ---- numbers that fit
@@ -63,20 +65,29 @@ lay-byte s s₀ a p n b e h q = sym (one-byte s p n b) ∙ lay-next 1 s s₀ a p
 
 -- ---- section 0
 
--- a rate makes it the new kind
-pub new-count : (r : ℕ) → 0 < r → countBy r ≡ newCount
-new-count r h = rw (ne-eqb r 0 (λ z. omega arith))
+-- the two kinds, by the rate
+pub record OldKind (r : ℕ) : Type 0 where
+  pub rate : r ≡ 0
+  pub count : countBy r ≡ oldCount
+  pub behind : rateOf r ≡ []
+
+pub record NewKind (r : ℕ) : Type 0 where
+  pub rate : 0 < r
+  pub count : countBy r ≡ newCount
+  pub behind : rateOf r ≡ leBytes 4 r
+
+pub new-kind : (r : ℕ) → 0 < r → NewKind r
+new-kind r h = let e = ne-eqb r 0 (λ z. omega arith) in record { rate = h; count = rw e; behind = rw e }
+
+pub either-kind : (r : ℕ) → OldKind r ⊎ NewKind r
+either-kind r = ⊎-elim (λ (h : r < 1). let z : r ≡ 0 = omega arith in inl (record { rate = z; count = rw z; behind = rw z })) (λ (h : 1 ≤ r). inr (new-kind r h)) (lt-or-le r 1)
 
 pub new-size : (r : ℕ) → 0 < r → headSize r ≡ newSize
-new-size r h = omega (arith, new-count r h)
+new-size r h = omega (arith, new-kind r h .count)
 
--- of either kind it is no longer than of the new one
+-- section 0 of either kind is no longer than of the new one
 pub size-most : (r : ℕ) → headSize r ≤ newSize
-size-most r = pick (eqb r 0)
-  where
-    pick : (b : Bool) → 4 + cond b oldCount newCount ≤ newSize
-    pick true = omega arith
-    pick false = omega arith
+size-most r = ⊎-elim (λ (o : OldKind r). omega (arith, o .count)) (λ (w : NewKind r). omega (arith, w .count)) (either-kind r)
 
 -- six numbers one after the other
 head-laid : (s : List ℕ) (w l n p r : ℕ) → w < 256 → l < 256 → newSize ≤ length s
@@ -117,20 +128,18 @@ head-laid s w l n p r hw hl h =
 pub new-laid : (s : List ℕ) (w l n p r : ℕ) → w < 256 → l < 256 → 0 < r → newSize ≤ length s
     → stored 4 (stored 4 (stored 4 (set (set (stored 4 s 0 newCount) 4 w) 5 l) 6 n) 10 p) 14 r ≡ headOf w l n p r ++ drop newSize s
 new-laid s w l n p r hw hl hr h =
-    head-laid s w l n p r hw hl h
-    ∙ ap (λ (b : Bool). (commonOf (cond b oldCount newCount) w l n p ++ cond b [] (leBytes 4 r)) ++ drop newSize s) (sym (ne-eqb r 0 (λ z. omega arith)))
+    let k = new-kind r hr in
+    head-laid s w l n p r hw hl h ∙ ap₂ (λ (c : ℕ) (m : List ℕ). (commonOf c w l n p ++ m) ++ drop newSize s) (sym (k .count)) (sym (k .behind))
 
 pub common-length : (c w l n p : ℕ) → length (commonOf c w l n p) ≡ commonSize
 unfolding leBytes
 common-length c w l n p = refl
 
+rate-length : (r : ℕ) → commonSize + length (rateOf r) ≡ headSize r
+rate-length r = ⊎-elim (λ (o : OldKind r). rw (o .count, o .behind)) (λ (w : NewKind r). rw (w .count, w .behind) (omega (arith, length-leBytes 4 r))) (either-kind r)
+
 pub head-length : (w l n p r : ℕ) → length (headOf w l n p r) ≡ headSize r
-unfolding leBytes
-head-length w l n p r = length-append (commonOf (countBy r) w l n p) (rateOf r) ∙ ap (λ (m : ℕ). m + length (rateOf r)) (common-length (countBy r) w l n p) ∙ pick (eqb r 0)
-  where
-    pick : (b : Bool) → commonSize + length (cond b [] (leBytes 4 r)) ≡ 4 + cond b oldCount newCount
-    pick true = refl
-    pick false = refl
+head-length w l n p r = length-append (commonOf (countBy r) w l n p) (rateOf r) ∙ ap (λ (m : ℕ). m + length (rateOf r)) (common-length (countBy r) w l n p) ∙ rate-length r
 
 -- ---- the whole file
 
@@ -141,9 +150,9 @@ part-laid a y b b₁ z m e q =
     let after : drop m (drop z b₁) ≡ drop (z + m) b = ap (drop m) (ap (drop z) q ∙ drop-at a (drop z b) z e) ∙ drop-drop m z b in
     rw (front, after) (sym (append-assoc a y (drop (z + m) b)))
 
--- "at most 67,108,974", and 4 more, of an integer filter
-pub file-most : (f : Filter) → Integers f → (l n : ℕ) → l ≤ depthOf (waveletOf f) n → n ≤ mostSamples → fileSize newSize (widthOf f) l n ≤ mostBytes
-file-most f i l n deep most = omega (arith, mul-le-mul-right n (common f i .narrow), depth-at-most (waveletOf f) 23 n most)
+-- "at most 67,108,974", of an integer filter, where section 0 has 14 bytes
+pub file-most : (f : Filter) → Integers f → (z l n : ℕ) → l ≤ depthOf (waveletOf f) n → n ≤ mostSamples → fileSize z (widthOf f) l n ≤ z + 67108960
+file-most f i z l n deep most = omega (arith, mul-le-mul-right n (common f i .narrow), depth-at-most (waveletOf f) 23 n most)
 
 -- a file of n samples is section 0 and the sections of its levels
 pub file-parts : (f : Filter) (l p r n : ℕ) (x : List ℕ) → length x ≡ widthOf f * n → fileOf f l p r x ≡ headOf (widthOf f) l n p r ++ bodyOf f l n x

@@ -1,7 +1,8 @@
 -- Opening a file, from document 01, "Opening checks", and C-17, for both kinds: the checks as one list in their order, and what the call promises.
 use mathlib.Core.Bool.{Bool, true, cond, not, _&&_}
 use mathlib.Core.List.{List, [], _∷_, _++_}
-use Prim.Native.Nat.{ℕ, _+_, _-_, _*_, _/_, _<_}
+use mathlib.Core.Path.{_≡_}
+use Prim.Native.Nat.{ℕ, _+_, _-_, _*_, _/_, _%_, _<_}
 use lib.Dec.{ltb, eqb}
 use lib.ListN.{length, take, drop}
 use denote.Ref.{RefT}
@@ -18,6 +19,7 @@ use Rattle.samples.specs.Integers.{isWidth}
 use Rattle.dwt.specs.declared.filter.Filter.{Filter}
 use Rattle.dwt.specs.declared.filter.Filter.the-variants.{Cdf53I8, Cdf53I16, Cdf53I32}
 use Rattle.pyramid.specs.declared.head.Head.{Head}
+use Rattle.pyramid.specs.declared.open.OpenAnswer.{OpenAnswer}
 use Rattle.pyramid.specs.declared.walk.Way.{Way}
 use Rattle.pyramid.specs.declared.walk.Way.the-variants.{Went, Short, Wrong}
 use Rattle.pyramid.specs.Files.{mostBytes, isCount, newCount, commonSize}
@@ -113,6 +115,10 @@ samplesIn s = let h = headIn s in restoredAt (h .width) s (wholeDetails (wayIn s
 abbrev pub areaChecks : ℕ → ℕ → ℕ → ℕ → List Check
 areaChecks w o u v = cond (isWidth w) (ragged w o ∷ ragged w u ∷ ragged w v ∷ []) []
 
+-- what passes them
+abbrev pub WholeAreas : ℕ → ℕ → ℕ → ℕ → Type 0
+WholeAreas w o u v = isWidth w ≡ true → (o % w ≡ 0) × (u % w ≡ 0) × (v % w ≡ 0)
+
 -- "then 7 for output and both work areas (need for each: the count of samples given back)"
 abbrev pub roomsFor : ℕ → ℕ → ℕ → ℕ → ℕ → List Check
 roomsFor w c o u v = tight (o / w) c ∷ twoAreas (u / w) (v / w) c
@@ -128,6 +134,11 @@ Open s w p o u v = Call (sayOpen s w p (length o) (length u) (length v)) (w * co
 -- "the opener gives the rate beside its numbers, 0 for an old file", and 0 where it is refused
 unfoldable pub rateOpened : List ℕ → ℕ → ℕ → ℕ → ℕ → ℕ → ℕ
 rateOpened s w p o u v = cond (done (sayOpen s w p o u v)) (rateIn s) 0
+
+-- all that opening gives: the answer with what it leaves of the areas, and the rate
+pub record OpenGives (s : List ℕ) (w p : ℕ) (o u v : List ℕ) (t : OpenAnswer) (o′ u′ v′ : List ℕ) : Type 0 where
+  pub call : Open s w p o u v (t .answer) o′ u′ v′
+  pub rate : t .rate ≡ rateOpened s w p (length o) (length u) (length v)
 
 -- a file's own width and point: what its section 0 says, and 1 and 0 where it is too short to
 unfoldable pub ownWidth : List ℕ → ℕ

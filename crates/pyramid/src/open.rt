@@ -4,7 +4,7 @@ ghost use Prim.Native.Nat.{_≤_, _<_};
 ghost use lib.ListN.{length};
 ghost use Rattle.answers.specs.Checks.{firstOf};
 ghost use Rattle.samples.specs.Integers.{isWidth};
-ghost use Rattle.pyramid.specs.Opens.{filterOf, headIn, Read, startChecks, fieldChecks, rateChecks, headChecks, wayIn, wayChecks, wholeDetails, sayFile, areaChecks, roomsFor, sayOpen, Open, rateOpened, ownWidth, ownPoint};
+ghost use Rattle.pyramid.specs.Opens.{filterOf, headIn, Read, startChecks, fieldChecks, rateChecks, headChecks, wayIn, wayChecks, wholeDetails, sayFile, areaChecks, roomsFor, sayOpen, OpenGives, ownWidth, ownPoint};
 use crate::MOST_BYTES;
 use crate::head::COMMON_SIZE;
 use crate::head::Head;
@@ -73,7 +73,7 @@ pub fn filter_of(w: usize) -> Filter
     Filter::Cdf53I32
 }
 
-// The length of the file, and the count of section 0, which says how long that is.
+// The length of the file, and the count of section 0, which says how long section 0 is.
 pub fn check_start(s: &[u8]) -> Refusal
     ensures { λ r. ⌜ r ≡ firstOf (startChecks (now (s .entry))) (Refusal.Done 0 0) ⌝ }
 {
@@ -269,8 +269,7 @@ pub fn open(
     one: &mut [u8],
     two: &mut [u8],
 ) -> OpenAnswer
-    ensures { λ r. ⌜ Open (now (s .entry)) w p (now (out .entry)) (now (one .entry)) (now (two .entry)) (r .answer) (now (out .exit)) (now (one .exit)) (now (two .exit)) ⌝ }
-    ensures { λ r. ⌜ r .rate ≡ rateOpened (now (s .entry)) w p (length (now (out .entry))) (length (now (one .entry))) (length (now (two .entry))) ⌝ }
+    ensures { λ r. ⌜ OpenGives (now (s .entry)) w p (now (out .entry)) (now (one .entry)) (now (two .entry)) r (now (out .exit)) (now (one .exit)) (now (two .exit)) ⌝ }
 {
     let said = check_open(s, w, p, out.len(), one.len(), two.len());
     let r = numbers(said);

@@ -62,18 +62,19 @@ returns c =
     let wide : widthOf (g .result) ≡ a .w = ap widthOf (g .ensures) ∙ filter-width (a .w) (r .file .head .known) in
     let size : widthOf (g .result) * n ≡ a .w * countIn s = ap₂ (λ (k j : ℕ). k * j) wide (count then) in
     let all : restoredAt (widthOf (g .result)) s m n (h .result .body) ≡ samplesIn s =
-    rw (wide ∙ sym (r .file .head .width), details (c .before .before .before .before .before .before .before .before .before .before), count then) (ap (λ (i : Head). restoredAt (headIn s .width) s (wholeDetails (wayIn s (headIn s)) (headIn s .levels)) (countIn s) (i .body)) (h .ensures .0)) in (
-      call-done (then .before .before .before .check-open .ensures) (then .before .before .numbers .ensures) (sym (then .before .is-done .ensures) ∙ then .if1 .taken)
+    rw (wide ∙ sym (r .file .head .width), details (c .before .before .before .before .before .before .before .before .before .before), count then) (ap (λ (i : Head). restoredAt (headIn s .width) s (wholeDetails (wayIn s (headIn s)) (headIn s .levels)) (countIn s) (i .body)) (h .ensures .0)) in
+    record {
+      call = call-done (then .before .before .before .check-open .ensures) (then .before .before .numbers .ensures) (sym (then .before .is-done .ensures) ∙ then .if1 .taken)
           (e .0 ∙ ap₂ (λ (x : List ℕ) (j : ℕ). x ++ drop j (a .out .now)) all size)
-          (rw size at (e .1 .0)) refl,
-      c .rate-in .ensures ∙ sym (open-rate s (a .w) (a .p) _ _ _ (isDone then)),
-    )
+          (rw size at (e .1 .0)) refl;
+      rate = c .rate-in .ensures ∙ sym (open-rate s (a .w) (a .p) _ _ _ (isDone then));
+    }
 
 returns-2 : tie.Need-returns-2
 returns-2 c =
     let a = c .before .before .before .before .before .before .before .before .args in
     let d = sym (c .before .is-done .ensures) ∙ c .if1 .left in
-    (call-refused (c .before .before .before .check-open .ensures) (c .before .before .numbers .ensures) d, sym (refused-rate (a .s .now) (a .w) (a .p) _ _ _ (rw (c .before .before .before .check-open .ensures) at d)))
+    record { call = call-refused (c .before .before .before .check-open .ensures) (c .before .before .numbers .ensures) d; rate = sym (refused-rate (a .s .now) (a .w) (a .p) _ _ _ (rw (c .before .before .before .check-open .ensures) at d)) }
 
 pub open-spec : {M : Type 1} → statement M
 open-spec =
