@@ -59,7 +59,7 @@ fn put_file(b: &mut [u8], total: usize, s: &[u8])
     write_u32(b, TOTAL_AT, (total + s.len()) as u32);
 }
 
-// The file behind the last one, and its head as the next entry.
+// The file behind the last one, and its first 14 bytes as the next entry.
 fn enter(b: &mut [u8], s: &[u8])
     requires { ⌜ Addable (now b) (now s) ⌝ }
     ensures { λ _. ⌜ now (b .exit) ≡ addedIn (now (b .entry)) (now (s .entry)) ⌝ }

@@ -1,5 +1,5 @@
 -- A file of a recording: a section 0 of z bytes that says so, and the sections of its levels. What the laws of a file that was cut ask of section 0 is here;
--- `WrittenHead` has that a written file is such a one.
+-- `WrittenHead` has that a file of either kind is such a one.
 use mathlib.Core.List.{List, [], _++_, append-nil}
 use mathlib.Core.Path.{_≡_, sym, ap, _∙_}
 use Prim.Native.Nat.{ℕ, _+_, _-_, _*_, _^_, _≤_, _<_}

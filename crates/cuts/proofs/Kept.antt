@@ -14,17 +14,18 @@ use Rattle.sizes.specs.declared.Wavelet.{Wavelet}
 use Rattle.sizes.specs.declared.Wavelet.the-variants.{Cdf53}
 use Rattle.sizes.specs.Levels.{depthOf, levelsOf}
 use Rattle.sizes.proofs.Depths.{step}
-use Rattle.samples.specs.Le.{Bytes}
+use Rattle.samples.specs.Le.{leAt, Bytes}
+use Rattle.samples.proofs.LeLaws.{leAt-take}
 use Rattle.dwt.proofs.Integers.{wavelet-is}
 use Rattle.dwt.specs.declared.filter.Filter.{Filter}
 use Rattle.dwt.specs.Filters.{widthOf, Integers}
-use Rattle.pyramid.specs.Files.{newSize, fileOf, fileSize}
+use Rattle.pyramid.specs.Files.{newCount, newSize, fileOf, fileSize}
 use Rattle.pyramid.specs.Opens.{Open}
 use Rattle.pyramid.specs.Writes.{sayWrite, Write}
-use Rattle.pyramid.proofs.Writing.{new-size, write-ready}
+use Rattle.pyramid.proofs.Writing.{new-kind, new-size, write-ready}
 use Rattle.cuts.specs.Sees.{Openings}
 use Rattle.cuts.proofs.Filed.{Recording, Filed, all-length}
-use Rattle.cuts.proofs.WrittenHead.{filed}
+use Rattle.cuts.proofs.WrittenHead.{filed, count-read}
 use Rattle.cuts.proofs.Opened.{openings}
 
 -- samples that were written are a recording
@@ -72,6 +73,16 @@ module _ (f : Filter) (l p rate : ℕ) (x : List ℕ) (i : Integers f) (bx : Byt
   pub front-in : (b u v : List ℕ) (a : Answer) (b′ u′ v′ : List ℕ) → Write f l p rate x b u v a b′ u′ v′ → a .number ≡ 0
       → (c : ℕ) → c ≤ fileSize newSize (widthOf f) (levelsOf l) (length x / widthOf f) → take c b′ ≡ take c (fileOf f (levelsOf l) p rate x)
   front-in b u v a b′ u′ v′ w z c e = let size = fileSize newSize (widthOf f) (levelsOf l) (length x / widthOf f) in sym (take-take c size b′ e) ∙ ap (take c) (file-in b u v a b′ u′ v′ w z)
+
+  -- "writes only the new kind": there is a rate, and the first four bytes are the new count
+  pub writes-new : (b u v : List ℕ) (a : Answer) (b′ u′ v′ : List ℕ) → Write f l p rate x b u v a b′ u′ v′ → a .number ≡ 0 → (0 < rate) × (leAt 4 b′ 0 ≡ newCount)
+  writes-new b u v a b′ u′ v′ w z =
+      let d = is-done (sayWrite f l rate (length x) (length b) (length u) (length v)) a (w .answer) z in
+      let some = write-ready f l rate (length x) (length b) (length u) (length v) d .rate in
+      let r = recorded f l p rate x (length b) (length u) (length v) i bx hp d in (
+        some,
+        sym (leAt-take 4 4 b′ 0 (omega arith)) ∙ ap (λ (s : List ℕ). leAt 4 s 0) (front-in b u v a b′ u′ v′ w z 4 (omega arith)) ∙ count-read r hr 4 (omega arith) ∙ new-kind rate some .count,
+      )
 
   -- "two writes of one recording are the same bytes", for one rate, whatever stood in what they were lent
   pub same-file : (b u v : List ℕ) (a : Answer) (b′ u′ v′ : List ℕ) → Write f l p rate x b u v a b′ u′ v′ → a .number ≡ 0

@@ -14,7 +14,8 @@ use Rattle.samples.specs.Le.{Bytes}
 use Rattle.dwt.specs.declared.filter.Filter.{Filter}
 use Rattle.dwt.specs.Filters.{widthOf, Integers}
 use Rattle.pyramid.specs.Files.{headSize, newSize, fileOf, fileSize}
-use Rattle.pyramid.specs.Opens.{sayOpen, rateOpened, Open}
+use Rattle.pyramid.specs.declared.open.OpenAnswer.{OpenAnswer}
+use Rattle.pyramid.specs.Opens.{sayOpen, rateOpened, OpenGives}
 use Rattle.pyramid.specs.Writes.{sayWrite, Write}
 use Rattle.pyramid.proofs.Opening.{head-passes, open-head, open-rate, refused-rate}
 use Rattle.pyramid.proofs.Writing.{new-size, write-ready}
@@ -36,15 +37,15 @@ file-rate {f} {l} {n} {p} {x} d {rate} hr c e w q o u v h =
 pub rate-kept : (f : Filter) (l p rate : ℕ) (x : List ℕ) → Integers f → Bytes x → p < 2 ^ 32 → rate < 2 ^ 32 → (b u v : List ℕ) (a : Answer) (b′ u′ v′ : List ℕ)
     → Write f l p rate x b u v a b′ u′ v′ → a .number ≡ 0
     → (c : ℕ) → c ≤ fileSize newSize (widthOf f) (levelsOf l) (length x / widthOf f)
-    → (w q : ℕ) (o g h : List ℕ) (r : Answer) (o′ g′ h′ : List ℕ) → Open (take c b′) w q o g h r o′ g′ h′
-    → let y = rateOpened (take c b′) w q (length o) (length g) (length h) in (r .number ≡ 0 → y ≡ rate) × ((r .number ≡ 0 → ⊥) → y ≡ 0)
-rate-kept f l p rate x i bx hp hr b u v a b′ u′ v′ w z c e k q o g h r o′ g′ h′ call =
+    → (w q : ℕ) (o g h : List ℕ) (r : OpenAnswer) (o′ g′ h′ : List ℕ) → OpenGives (take c b′) w q o g h r o′ g′ h′
+    → (r .answer .number ≡ 0 → r .rate ≡ rate) × ((r .answer .number ≡ 0 → ⊥) → r .rate ≡ 0)
+rate-kept f l p rate x i bx hp hr b u v a b′ u′ v′ w z c e k q o g h r o′ g′ h′ gives =
     let said = sayOpen (take c b′) k q (length o) (length g) (length h) in
     let d = is-done (sayWrite f l rate (length x) (length b) (length u) (length v)) a (w .answer) z in
     let file = recorded f l p rate x (length b) (length u) (length v) i bx hp d in
     let size = new-size rate (write-ready f l rate (length x) (length b) (length u) (length v) d .rate) in
     let all : (s : List ℕ) → s ≡ take c (fileOf f (levelsOf l) p rate x) → done (sayOpen s k q (length o) (length g) (length h)) ≡ true → rateOpened s k q (length o) (length g) (length h) ≡ rate =
     λ s es. rw es (file-rate file hr c (omega (arith, size)) k q (length o) (length g) (length h)) in (
-      λ zero. all (take c b′) (front-in f l p rate x i bx hp hr b u v a b′ u′ v′ w z c e) (is-done said r (call .answer) zero),
-      λ other. refused-rate (take c b′) k q (length o) (length g) (length h) (not-done said r (call .answer) other),
+      λ zero. gives .rate ∙ all (take c b′) (front-in f l p rate x i bx hp hr b u v a b′ u′ v′ w z c e) (is-done said (r .answer) (gives .call .answer) zero),
+      λ other. gives .rate ∙ refused-rate (take c b′) k q (length o) (length g) (length h) (not-done said (r .answer) (gives .call .answer) other),
     )

@@ -47,10 +47,11 @@ module _ {z : ℕ} {f : Filter} {l n p : ℕ} {x s : List ℕ} (d : Filed z f l 
       let h = headIn t in
       ap (λ (r : Refusal). cond (done r) (take (lengthOf h q) (drop (startOf t h q) t)) []) (section-found d c (headed q up) e q some most up)
 
-  file-first : sizeThrough z (widthOf f) l n 1 ≤ c → sectionIn (take c s) (widthOf f) p 1 ≡ approxAt f l x
+  -- section 1 is the deepest approximations, and section 1 + j the details of level L + 1 - j, of a file of either kind
+  pub file-first : sizeThrough z (widthOf f) l n 1 ≤ c → sectionIn (take c s) (widthOf f) p 1 ≡ approxAt f l x
   file-first up = found-bytes 1 (omega arith) (omega arith) up ∙ section-approx d c (headed 1 up) e up
 
-  file-later : (j : ℕ) → 1 ≤ j → j ≤ l → sizeThrough z (widthOf f) l n (1 + j) ≤ c → sectionIn (take c s) (widthOf f) p (1 + j) ≡ highOf f (approxAt f (l - j) x)
+  pub file-later : (j : ℕ) → 1 ≤ j → j ≤ l → sizeThrough z (widthOf f) l n (1 + j) ≤ c → sectionIn (take c s) (widthOf f) p (1 + j) ≡ highOf f (approxAt f (l - j) x)
   file-later j some most up =
       let t = take c s in
       let h = headIn t in

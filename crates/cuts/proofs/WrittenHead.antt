@@ -1,11 +1,11 @@
 -- A file, of either kind, is a file of its recording: section 0 is read back from any part of it that has section 0 whole, and the checks that opening makes of it pass.
-use mathlib.Core.Bool.{Bool, true, false, cond, not, _&&_}
+use mathlib.Core.Bool.{true, false, cond, not, _&&_}
 use mathlib.Core.List.{List, [], _++_, append-assoc}
 use mathlib.Core.Logic.{⊎-elim}
 use mathlib.Core.Path.{_≡_, refl, sym, ap, ap₂, subst, _∙_}
 use Prim.Native.Nat.{ℕ, _+_, _-_, _^_, _≤_, _<_}
 use native.Mathlib.Omega.{arith}
-use borrow.Author.Tests.{lt-ltb, le-ltb, eqb-true, eqb-false, ne-eqb}
+use borrow.Author.Tests.{lt-ltb, le-ltb, ne-eqb}
 use lib.Dec.{eqb}
 use lib.ListN.{length, take, length-append}
 use lib.Seq.{length-take-le, take-append-add}
@@ -25,9 +25,9 @@ use Rattle.dwt.specs.declared.filter.Filter.{Filter}
 use Rattle.dwt.specs.Filters.{widthOf, waveletOf}
 use Rattle.dwt.proofs.Cuts.{few-levels}
 use Rattle.pyramid.specs.declared.head.Head.{Head}
-use Rattle.pyramid.specs.Files.{mostBytes, oldCount, newCount, isCount, countBy, commonOf, rateOf, headOf, headSize, commonSize, bodyOf, fileOf, fileSize}
+use Rattle.pyramid.specs.Files.{mostBytes, newCount, isCount, countBy, commonOf, rateOf, headOf, headSize, commonSize, bodyOf, fileOf, fileSize}
 use Rattle.pyramid.specs.Opens.{headIn, rateIn, startChecks, fieldChecks, rateChecks, headChecks}
-use Rattle.pyramid.proofs.Writing.{head-length, size-most, file-most, file-parts}
+use Rattle.pyramid.proofs.Writing.{OldKind, NewKind, new-kind, either-kind, head-length, size-most, file-most, file-parts}
 use Rattle.cuts.proofs.Sized.{file-length}
 use Rattle.cuts.proofs.Filed.{Recording, Filed}
 
@@ -41,25 +41,15 @@ unfolding leAt leBytes
 rate-in c k l n p r m h = omega (arith, h)
 
 count-known : (r : ℕ) → isCount (countBy r) ≡ true
-count-known r = pick (eqb r 0)
-  where
-    pick : (old : Bool) → isCount (cond old oldCount newCount) ≡ true
-    pick true = refl
-    pick false = refl
+count-known r = ⊎-elim (λ (o : OldKind r). rw (o .count)) (λ (w : NewKind r). rw (w .count)) (either-kind r)
 
--- of a count c and a stored number q, which is the rate where there is one: the rate is told, and no file of a rate is refused for it
-told : (r c q : ℕ) → c ≡ countBy r → (0 < r → q ≡ r) → (cond (eqb c newCount) q 0 ≡ r) × ((eqb c newCount && eqb (cond (eqb c newCount) q 0) 0) ≡ false)
-told r c q e h = pick (eqb r 0) refl
-  where
-    pick : (old : Bool) → eqb r 0 ≡ old → (cond (eqb c newCount) q 0 ≡ r) × ((eqb c newCount && eqb (cond (eqb c newCount) q 0) 0) ≡ false)
-    pick true o =
-        let n : c ≡ oldCount = e ∙ ap (λ (b : Bool). cond b oldCount newCount) o in
-        rw n (sym (eqb-true r 0 o), refl)
-    pick false o =
-        let n : c ≡ newCount = e ∙ ap (λ (b : Bool). cond b oldCount newCount) o in
-        let z = eqb-false r 0 o in
-        let i : q ≡ r = h (omega (arith, z)) in
-        rw (n, i) (refl, o)
+-- of a count c and a stored number q, which is the rate where there is one: that is the rate, and no file of a rate is refused for it
+rate-by : (r c q : ℕ) → c ≡ countBy r → (0 < r → q ≡ r) → (cond (eqb c newCount) q 0 ≡ r) × ((eqb c newCount && eqb (cond (eqb c newCount) q 0) 0) ≡ false)
+rate-by r c q e h =
+    ⊎-elim
+    (λ (o : OldKind r). rw (e ∙ o .count) (sym (o .rate), refl))
+    (λ (w : NewKind r). rw (e ∙ w .count, h (w .rate)) (refl, ne-eqb r 0 (λ z. omega (arith, w .rate))))
+    (either-kind r)
 
 -- section 0 of a recording, and whatever stands behind it
 module _ {f : Filter} {l n p : ℕ} {x : List ℕ} (d : Recording f l n p x) {rate : ℕ} (hr : rate < 2 ^ 32) (m : List ℕ) where
@@ -87,12 +77,12 @@ module _ {f : Filter} {l n p : ℕ} {x : List ℕ} (d : Recording f l n p x) {ra
   stored-of : 0 < rate → leAt 4 y commonSize ≡ rate
   stored-of some =
       number-of 4 commonSize
-      ∙ ap (λ (o : Bool). leAt 4 (commonOf (countBy rate) k l n p ++ (cond o [] (leBytes 4 rate) ++ m)) commonSize) (ne-eqb rate 0 (λ e. omega arith))
+      ∙ ap (λ (b : List ℕ). leAt 4 (commonOf (countBy rate) k l n p ++ (b ++ m)) commonSize) (new-kind rate some .behind)
       ∙ rate-in (countBy rate) k l n p rate m hr
 
   -- it says the rate
   pub rate-of : rateIn y ≡ rate
-  rate-of = told rate (leAt 4 y 0) (leAt 4 y commonSize) count-of stored-of .0
+  rate-of = rate-by rate (leAt 4 y 0) (leAt 4 y commonSize) count-of stored-of .0
 
   -- and what was recorded
   pub head-of : headIn y ≡ record { width = k; levels = l; samples = n; point = p; body = z }
@@ -118,7 +108,7 @@ module _ {f : Filter} {l n p : ℕ} {x : List ℕ} (d : Recording f l n p x) {ra
   head-passes short =
       pass-both (startChecks y) (fieldChecks (headIn y) k p ++ rateChecks y)
       (le-ltb mostBytes (length y) short, (le-ltb (length y) 4 (omega (arith, long)), (ap not (ap isCount count-of ∙ count-known rate), (le-ltb (length y) (headIn y .body) (omega (arith, long, count-of)), tt))))
-      (pass-both (fieldChecks (headIn y) k p) (rateChecks y) (subst (λ (h : Head). Passing (fieldChecks h k p)) (sym head-of) fields-pass) (told rate (leAt 4 y 0) (leAt 4 y commonSize) count-of stored-of .1, tt))
+      (pass-both (fieldChecks (headIn y) k p) (rateChecks y) (subst (λ (h : Head). Passing (fieldChecks h k p)) (sym head-of) fields-pass) (rate-by rate (leAt 4 y 0) (leAt 4 y commonSize) count-of stored-of .1, tt))
 
 -- a file of a recording, and its first b bytes
 module _ {f : Filter} {l n p : ℕ} {x : List ℕ} (d : Recording f l n p x) {rate : ℕ} (hr : rate < 2 ^ 32) where
@@ -133,7 +123,7 @@ module _ {f : Filter} {l n p : ℕ} {x : List ℕ} (d : Recording f l n p x) {ra
 
   -- it is not too long
   pub most : size ≤ mostBytes
-  most = omega (arith, size-most rate, file-most f (d .integers) l n (deep d hr []) (d .most))
+  most = omega (arith, size-most rate, file-most f (d .integers) (headSize rate) l n (deep d hr []) (d .most))
 
   cut-long : (b : ℕ) → b ≤ size → length (take b s) ≡ b
   cut-long b e = length-take-le b s (omega (arith, file-length f l n (headSize rate) x (headOf (widthOf f) l n p rate) s (d .size) (head-length (widthOf f) l n p rate) parts))
@@ -159,7 +149,8 @@ module _ {f : Filter} {l n p : ℕ} {x : List ℕ} (d : Recording f l n p x) {ra
       let short : length (y d hr rest) ≤ mostBytes = omega (arith, ap length (cut-is b c), cut-long b e, most) in
       subst (λ (t : List ℕ). Passing (headChecks t (widthOf f) p)) (sym (cut-is b c)) (head-passes d hr rest short)
 
-  early : (b : ℕ) → b < headSize rate → (m : List Check) (e : Refusal) → firstOf (headChecks (take b s) (widthOf f) p ++ m) e ≡ CutShort b
+  -- cut in section 0: 10, whatever is checked after the start
+  pub early : (b : ℕ) → b < headSize rate → (m : List Check) (e : Refusal) → firstOf (startChecks (take b s) ++ m) e ≡ CutShort b
   early b h m e =
       let t = take b s in
       let all = cut-long b (omega arith) in
@@ -179,5 +170,5 @@ module _ {f : Filter} {l n p : ℕ} {x : List ℕ} (d : Recording f l n p x) {ra
     parts = parts;
     head = λ b c. ap headIn (cut-is b c) ∙ head-of d hr (take (b - headSize rate) (bodyOf f l n x));
     passes = heads-pass;
-    early = early;
+    early = λ b h m. early b h ((fieldChecks (headIn (take b s)) (widthOf f) p ++ rateChecks (take b s)) ++ m);
   }

@@ -1,9 +1,8 @@
 // Pyramid files: writing, opening, one sample, where a section is, what a file says of itself, and its size.
 ghost use mathlib.Core.Path.{_≡_};
-ghost use lib.ListN.{length};
 ghost use Rattle.answers.specs.Answers.{answerOf};
 ghost use Rattle.pyramid.specs.Writes.{Write};
-ghost use Rattle.pyramid.specs.Opens.{Open, rateOpened, saySection};
+ghost use Rattle.pyramid.specs.Opens.{OpenGives, saySection};
 ghost use Rattle.heads.specs.Heads.{Told, saySize};
 ghost use Rattle.peek.specs.Peeks.{Peek};
 use answers::err::Answer;
@@ -101,8 +100,7 @@ pub extern "C" fn bk_pyramid_open(
     one: &mut [u8],
     two: &mut [u8],
 ) -> OpenAnswer
-    ensures { λ r. ⌜ Open (now (file .entry)) width point (now (out .entry)) (now (one .entry)) (now (two .entry)) (r .answer) (now (out .exit)) (now (one .exit)) (now (two .exit)) ⌝ }
-    ensures { λ r. ⌜ r .rate ≡ rateOpened (now (file .entry)) width point (length (now (out .entry))) (length (now (one .entry))) (length (now (two .entry))) ⌝ }
+    ensures { λ r. ⌜ OpenGives (now (file .entry)) width point (now (out .entry)) (now (one .entry)) (now (two .entry)) r (now (out .exit)) (now (one .exit)) (now (two .exit)) ⌝ }
 {
     open(file, width as usize, point as usize, out, one, two)
 }

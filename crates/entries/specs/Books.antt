@@ -103,7 +103,7 @@ sizeAt i es = sizeBy (getD es i [])
 
 -- ---- "a directory or section count that no calls could have left"
 
--- what some file begins with: what opening asks of section 0, for its own width and point
+-- what some file begins with: what opening asks of the count and the fields, for their own width and point; the rate is not among them
 abbrev pub isHead : List ℕ → Bool
 isHead e = let h = headIn e in isCount (leAt 4 e 0) && done (firstOf (fieldChecks h (h .width) (h .point)) (Done 0 0))
 

@@ -56,7 +56,7 @@ module _ (f : Filter) (i : Integers f) (l n : ℕ) where
   size-told {s} told z =
       let p = size-passes (is-done (saySize (widthOf f) n l) s told z) in
       let e = told ∙ ap answerOf (size-says ∙ through (depthChecks f l n) (Done (fileSize newSize (widthOf f) (levelsOf l) n) 0) p) in
-      let most = file-most f i (levelsOf l) n (roomy (depthOf (waveletOf f) n) (levelsOf l) (p .1 .0)) (roomy mostSamples n (p .0)) in
+      let most = file-most f i newSize (levelsOf l) n (roomy (depthOf (waveletOf f) n) (levelsOf l) (p .1 .0)) (roomy mostSamples n (p .0)) in
       (e, omega (arith, ap (λ (a : Answer). a .first) e, most))
 
 -- n samples in x, a rate y, a file area b, and work areas u and v of p and q samples

@@ -10,12 +10,11 @@ use Rattle.answers.specs.Checks.{firstOf}
 use Rattle.sizes.specs.Levels.{levelsOf}
 use Rattle.samples.specs.Integers.{isWidth}
 use Rattle.dwt.specs.Calls.{depthChecks}
-use Rattle.pyramid.specs.declared.head.Head.{Head}
 use Rattle.pyramid.specs.Files.{newSize, fileSize}
 use Rattle.pyramid.specs.Opens.{headIn, rateIn, filterOf, startChecks}
 use Rattle.heads.specs.declared.HeadAnswer.{HeadAnswer}
 
--- "refusals 6 (over the limit), 10 (under 14 bytes), 9 at section 0, and no more", the start of C-17: so never 18
+-- "6, 10 (under 4), 9, 10 (section 0 not whole), never 18": what opening tests before the width
 unfoldable pub sayHead : List ℕ → Refusal
 sayHead s = firstOf (startChecks s) (Done 0 0)
 
@@ -31,12 +30,12 @@ pub record Told (s : List ℕ) (r : HeadAnswer) : Type 0 where
   pub point : r .point ≡ toldOf s (headIn s .point)
   pub rate : r .rate ≡ toldOf s (rateIn s)
 
--- a done answer t tells what h says, and the rate r
-pub record Tells (t : HeadAnswer) (h : Head) (r : ℕ) : Type 0 where
-  pub width : t .width ≡ h .width
-  pub levels : t .levels ≡ h .levels
-  pub samples : t .samples ≡ h .samples
-  pub point : t .point ≡ h .point
+-- an answer t tells k bytes a sample, l levels, n samples, point p and rate r
+pub record Tells (t : HeadAnswer) (k l n p r : ℕ) : Type 0 where
+  pub width : t .width ≡ k
+  pub levels : t .levels ≡ l
+  pub samples : t .samples ≡ n
+  pub point : t .point ≡ p
   pub rate : t .rate ≡ r
 
 -- "first is the file's size in bytes; refusals as writing's for that n and levels, and 8 (0, width) first where the width is not 1, 2 or 4"

@@ -23,7 +23,7 @@ use Rattle.samples.specs.Integers.{isWidth, val}
 use Rattle.samples.proofs.Words.{word-take}
 use Rattle.pyramid.specs.declared.walk.Way.{Way}
 use Rattle.pyramid.specs.declared.walk.Way.the-variants.{Went, Short, Wrong}
-use Rattle.pyramid.specs.Opens.{headIn, headChecks, wayIn, wayChecks, levelIn, countIn, samplesIn, areaChecks, fileChecks, roomsFor, sayFile, sayOpen, Open}
+use Rattle.pyramid.specs.Opens.{headIn, headChecks, wayIn, wayChecks, levelIn, countIn, samplesIn, areaChecks, WholeAreas, fileChecks, roomsFor, sayFile, sayOpen, Open}
 use Rattle.pyramid.proofs.Opening.{whole-areas-pass, rooms-say, rooms-count, file-rest, file-stop, open-taken, open-says}
 use Rattle.peek.specs.declared.PeekAnswer.{PeekAnswer}
 use Rattle.peek.specs.Peeks.{Peek}
@@ -166,7 +166,7 @@ module _ (s : List ℕ) (w p : ℕ) {o u v : List ℕ} {r : Answer} {o′ u′ v
     past-probed j h q m = past (probed .0) (probed .1) j h q m
 
   -- opening is refused, its areas being whole samples where the width is one, and not with 7: the same refusal, and no sample
-  pub as-refused : (isWidth w ≡ true → (length o % w ≡ 0) × (length u % w ≡ 0) × (length v % w ≡ 0)) → (r .number ≡ 0 → ⊥) → (r .number ≡ 7 → ⊥)
+  pub as-refused : WholeAreas w (length o) (length u) (length v) → (r .number ≡ 0 → ⊥) → (r .number ≡ 7 → ⊥)
       → (j : ℕ) (q : PeekAnswer) → Peek s w p j q → (q .answer ≡ r) × (q .sample ≡ pos 0)
   as-refused a z n j q m =
       let h = not-done said r (call .answer) z in

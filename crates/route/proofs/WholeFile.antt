@@ -33,7 +33,7 @@ pub record Whole (s : List ℕ) (p : ℕ) : Type 0 where
   pub point : pointBy (take entrySize s) ≡ p
   pub size : length s ≡ sizeBy (take entrySize s)
 
--- section 0 is in the first bytes
+-- what `headIn` reads is in the first 14 bytes
 head-in : (s : List ℕ) → headIn (take entrySize s) ≡ headIn s
 head-in s =
     let field : (k p : ℕ) → p + k ≤ entrySize → leAt k (take entrySize s) p ≡ leAt k s p = λ k p h. leAt-take k entrySize s p h in

@@ -1,9 +1,8 @@
 // A pyramid file on standard input: what its section 0 says, and the samples that opening it for its own width and point gives.
-ghost use mathlib.Core.Path.{_≡_};
 ghost use Prim.Native.Nat.{_/_, _≤_};
 ghost use lib.ListN.{length};
 ghost use Rattle.samples.specs.Integers.{Width};
-ghost use Rattle.pyramid.specs.Opens.{Open, rateOpened, ownWidth, ownPoint};
+ghost use Rattle.pyramid.specs.Opens.{OpenGives, ownWidth, ownPoint};
 use libc::STDIN_FILENO;
 use libc::STDOUT_FILENO;
 use pyramid::head::Head;
@@ -67,10 +66,9 @@ fn print_samples(k: usize, s: &[u8], n: usize)
     }
 }
 
-// The file s, opened for the width and the point that its section 0 says, and for 1 and 0 where it has none.
+// The file s, opened for the width and the point that its section 0 says, and for 1 and 0 where it is too short to say.
 fn open_own(s: &[u8], out: &mut [u8], one: &mut [u8], two: &mut [u8]) -> OpenAnswer
-    ensures { λ r. ⌜ Open (now (s .entry)) (ownWidth (now (s .entry))) (ownPoint (now (s .entry))) (now (out .entry)) (now (one .entry)) (now (two .entry)) (r .answer) (now (out .exit)) (now (one .exit)) (now (two .exit)) ⌝ }
-    ensures { λ r. ⌜ r .rate ≡ rateOpened (now (s .entry)) (ownWidth (now (s .entry))) (ownPoint (now (s .entry))) (length (now (out .entry))) (length (now (one .entry))) (length (now (two .entry))) ⌝ }
+    ensures { λ r. ⌜ OpenGives (now (s .entry)) (ownWidth (now (s .entry))) (ownPoint (now (s .entry))) (now (out .entry)) (now (one .entry)) (now (two .entry)) r (now (out .exit)) (now (one .exit)) (now (two .exit)) ⌝ }
 {
     open(s, own_width(s), own_point(s), out, one, two)
 }

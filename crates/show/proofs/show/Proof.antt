@@ -11,7 +11,7 @@ opened : (c : tie.Else1) → let d = c .before .before .before .before .before .
 opened c =
     let d = c .before .before .before .before .before .before .before .before .before in
     let s = d .before .before .before .before .before .before .before .before .args .s .now in
-    shown s (ownWidth s) (ownPoint s) (d .open-own .ensures .0) (c .if1 .left)
+    shown s (ownWidth s) (ownPoint s) (d .open-own .ensures .call) (c .if1 .left)
 
 print-samples-requires : tie.Need-print-samples-requires
 print-samples-requires c κs =
