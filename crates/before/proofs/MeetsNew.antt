@@ -1,4 +1,4 @@
--- How the opener of before meets what a done write leaves now, whole or cut: it is refused, and gives no sample. Each of the integer filters.
+-- How the opener of before meets new files, whole or cut: it refuses them, and gives no sample. Each of the integer filters.
 use mathlib.Core.Bool.{Bool, true, false, not}
 use mathlib.Core.List.{List, _++_}
 use mathlib.Core.Logic.{⊎-elim}
@@ -22,14 +22,14 @@ use Rattle.samples.specs.Le.{leAt, Bytes}
 use Rattle.dwt.specs.declared.filter.Filter.{Filter}
 use Rattle.dwt.specs.Filters.{widthOf, Integers}
 use Rattle.pyramid.specs.Files.{newCount, newSize, fileOf, fileSize}
-use Rattle.pyramid.specs.Opens.{areaChecks, wayIn, wayChecks, fieldChecks, roomsFor}
+use Rattle.pyramid.specs.Opens.{areaChecks, WholeAreas, wayIn, wayChecks, fieldChecks, roomsFor}
 use Rattle.pyramid.specs.Writes.{sayWrite, Write}
 use Rattle.pyramid.proofs.Opening.{area-refuses, whole-areas-pass}
-use Rattle.pyramid.proofs.Writing.{new-count, write-ready}
+use Rattle.pyramid.proofs.Writing.{new-kind, write-ready}
 use Rattle.cuts.proofs.Filed.{cut-length}
 use Rattle.cuts.proofs.WrittenHead.{count-read}
 use Rattle.cuts.proofs.Kept.{recorded, written, front-in}
-use Rattle.before.specs.Openers.{mostBefore, headBefore, startBefore, levelBefore, countBefore, sayBefore, OpenBefore, Whole, Met}
+use Rattle.before.specs.Openers.{mostBefore, headBefore, startBefore, levelBefore, countBefore, sayBefore, OpenBefore, Met}
 
 -- c bytes that begin with the count 14, as far as they go
 module _ (s : List ℕ) (c : ℕ) (size : length s ≡ c) (count : 4 ≤ c → leAt 4 s 0 ≡ newCount) (m : List Check) (e : Refusal) where
@@ -60,17 +60,17 @@ refused-past l m e r h = pick (done (firstOf (l ++ m) e)) refl
     pick true q = off h (passed-before 0 l m e r q .1)
     pick false q = refl
 
--- the opener's answer
-met : (s : List ℕ) (c : ℕ) → length s ≡ c → (4 ≤ c → leAt 4 s 0 ≡ newCount) → (w q : ℕ) (o g h : List ℕ) (r : Answer) (o′ g′ h′ : List ℕ) → OpenBefore s w q o g h r o′ g′ h′ → Met c w o g h r o′ g′ h′
+-- the opener's answer to any c bytes that begin with the count 14, as far as they go: whoever wrote them, and whatever is behind
+pub old-meets : (s : List ℕ) (c : ℕ) → length s ≡ c → (4 ≤ c → leAt 4 s 0 ≡ newCount) → (w q : ℕ) (o g h : List ℕ) (r : Answer) (o′ g′ h′ : List ℕ) → OpenBefore s w q o g h r o′ g′ h′ → Met c w o g h r o′ g′ h′
 unfolding sayBefore
-met s c size count w q o g h r o′ g′ h′ call =
+old-meets s c size count w q o g h r o′ g′ h′ call =
     let k = headBefore s in
     let areas = areaChecks w (length o) (length g) (length h) in
     let end = Done (levelBefore s) (countBefore s) in
     let said = sayBefore s w q (length o) (length g) (length h) in
     let rest = (fieldChecks k w q ++ wayChecks (wayIn s k) (length s)) ++ roomsFor w (countBefore s) (length o) (length g) (length h) in
     let start = startBefore s ++ rest in
-    let past : Whole w (length o) (length g) (length h) → said ≡ firstOf start end = λ a. pass-on areas start end (whole-areas-pass w (length o) (length g) (length h) a) in
+    let past : WholeAreas w (length o) (length g) (length h) → said ≡ firstOf start end = λ a. pass-on areas start end (whole-areas-pass w (length o) (length g) (length h) a) in
     let no : done said ≡ false = refused-past areas start end (area-refuses w (length o) (length g) (length h)) (never s c size count rest end) in
     record {
       nine = λ a u v. call .answer ∙ ap answerOf (past a ∙ wrong s c size count rest end u v);
@@ -94,4 +94,4 @@ old-meets-new f l p rate x i bx hp hr b u v a b′ u′ v′ w z c e k q o g h r
     let some = write-ready f l rate (length x) (length b) (length u) (length v) d .rate in
     let front = front-in f l p rate x i bx hp hr b u v a b′ u′ v′ w z c e in
     let size = cut-length (written f l p rate x i bx hp hr b u v a b′ u′ v′ w z) c e in
-    met s c size (λ n. count-read file hr c n ∙ new-count rate some) k q o g h r o′ g′ h′ (subst (λ (t : List ℕ). OpenBefore t k q o g h r o′ g′ h′) front call)
+    old-meets s c size (λ n. count-read file hr c n ∙ new-kind rate some .count) k q o g h r o′ g′ h′ (subst (λ (t : List ℕ). OpenBefore t k q o g h r o′ g′ h′) front call)

@@ -3,34 +3,38 @@
 use mathlib.Core.Bool.{Bool, true, false, cond, not, _||_, _&&_}
 use mathlib.Core.List.{List, [], _∷_, _++_}
 use mathlib.Core.Logic.{⊎-elim}
-use mathlib.Core.Path.{_≡_, refl, sym, ap, _∙_}
-use Prim.Native.Nat.{ℕ, _+_, _-_, _≤_, _<_}
+use mathlib.Core.Path.{_≡_, refl, sym, ap, ap₂, subst, _∙_}
+use Prim.Native.Nat.{ℕ, _+_, _-_, _*_, _≤_, _<_}
 use native.Mathlib.Omega.{arith}
 use borrow.Author.Tests.{lt-ltb, le-ltb}
 use lib.Dec.{eqb}
-use lib.ListN.{length, length-append}
+use lib.ListN.{length, drop, length-append}
+use Rattle.answers.specs.declared.err.Answer.{Answer}
 use Rattle.answers.specs.declared.err.Refusal.{Refusal}
 use Rattle.answers.specs.declared.err.Refusal.the-variants.{Done, TooLong, BadCount, CutShort, Trailing}
-use Rattle.answers.specs.Answers.{done}
-use Rattle.answers.specs.Checks.{Check, firstOf}
+use Rattle.answers.specs.Answers.{answerOf, done}
+use Rattle.answers.specs.Checks.{Check, firstOf, left}
 use Rattle.answers.proofs.Chain.{by, stop, same}
-use Rattle.answers.proofs.Passed.{Passing, pass-on}
+use Rattle.answers.proofs.Passed.{Passing, off, both-pass, pass-on, roomy}
 use Rattle.sizes.specs.Levels.{countAt}
 use Rattle.samples.specs.Le.{leAt}
 use Rattle.dwt.specs.declared.filter.Filter.{Filter}
 use Rattle.dwt.specs.Filters.{widthOf}
 use Rattle.dwt.proofs.Integers.{own-depth}
 use Rattle.pyramid.specs.declared.head.Head.{Head}
-use Rattle.pyramid.specs.Files.{mostBytes, oldCount, newCount, isCount, fileOf}
-use Rattle.pyramid.specs.Walks.{restoredAt}
-use Rattle.pyramid.specs.Opens.{headIn, rateIn, startChecks, fieldChecks, rateChecks, wayIn, wayChecks, fileChecks, wholeDetails, levelIn, countIn, samplesIn, areaChecks, roomsFor, sayOpen, rateOpened}
-use Rattle.pyramid.proofs.Opening.{which-count, whole-areas-pass}
+use Rattle.pyramid.specs.Files.{mostBytes, oldCount, newCount, isCount, bodySize, fileSize, fileOf}
+use Rattle.pyramid.specs.declared.walk.Way.{Way}
+use Rattle.pyramid.specs.declared.walk.Way.the-variants.{Went, Short, Wrong}
+use Rattle.pyramid.specs.Walks.{walkOf, restoredAt}
+use Rattle.pyramid.specs.Opens.{filterOf, headIn, rateIn, startChecks, fieldChecks, rateChecks, headChecks, wayIn, wayChecks, fileChecks, wholeDetails, levelIn, countIn, samplesIn, areaChecks, WholeAreas, roomsFor, sayOpen, rateOpened, Open}
+use Rattle.pyramid.proofs.Ways.{walk-size, walk-below}
+use Rattle.pyramid.proofs.Opening.{filter-width, filter-integers, which-count, whole-areas-pass, open-ready, open-file}
 use Rattle.pyramid.proofs.Writing.{file-most}
 use Rattle.cuts.specs.Sees.{Sampled}
 use Rattle.cuts.proofs.Filed.{Recording, all-length}
 use Rattle.cuts.proofs.WrittenHead.{filed}
 use Rattle.cuts.proofs.Behind.{behind-file}
-use Rattle.before.specs.Openers.{mostBefore, headBefore, startBefore, fileBefore, levelBefore, countBefore, samplesBefore, sayBefore, Whole}
+use Rattle.before.specs.Openers.{mostBefore, headBefore, startBefore, fileBefore, levelBefore, countBefore, samplesBefore, sayBefore, OpenBefore}
 
 -- two lists behind the same part
 behind : (l m₁ m₂ : List Check) (e₁ e₂ : Refusal) → firstOf m₁ e₁ ≡ firstOf m₂ e₂ → firstOf (l ++ m₁) e₁ ≡ firstOf (l ++ m₂) e₂
@@ -45,21 +49,27 @@ neither c = pick (eqb c oldCount)
     pick true h = h
     pick false h = refl
 
+-- bytes that a walk passes are no more than its sections
+way-long : (s : List ℕ) (k l n at : ℕ) (v : Way) → v ≡ walkOf s k l n at → at ≤ length s → Passing (wayChecks v (length s)) → length s ≤ at + bodySize k l n
+way-long s k l n at (Went q) e h c = omega (arith, walk-size l s k n at q h (sym e) .0, roomy q (length s) (c .0))
+way-long s k l n at (Short j) e h c = omega (arith, walk-below l s k n at j h (sym e))
+way-long s k l n at (Wrong j found) e h c = off (c .0) refl
+
 -- what both openers say, behind the areas
 module _ (s : List ℕ) (w p o u v : ℕ) where
-  abbrev now : Refusal
-  now = firstOf (fileChecks s w p ++ roomsFor w (countIn s) o u v) (Done (levelIn s) (countIn s))
+  abbrev saysNow : Refusal
+  saysNow = firstOf (fileChecks s w p ++ roomsFor w (countIn s) o u v) (Done (levelIn s) (countIn s))
 
-  abbrev then : Refusal
-  then = firstOf (fileBefore s w p ++ roomsFor w (countBefore s) o u v) (Done (levelBefore s) (countBefore s))
+  abbrev saidBefore : Refusal
+  saidBefore = firstOf (fileBefore s w p ++ roomsFor w (countBefore s) o u v) (Done (levelBefore s) (countBefore s))
 
-  alike : now ≡ then → sayOpen s w p o u v ≡ sayBefore s w p o u v
+  alike : saysNow ≡ saidBefore → sayOpen s w p o u v ≡ sayBefore s w p o u v
   unfolding sayOpen sayBefore
   alike h =
       behind (areaChecks w o u v) (fileChecks s w p ++ roomsFor w (countIn s) o u v) (fileBefore s w p ++ roomsFor w (countBefore s) o u v) (Done (levelIn s) (countIn s))
       (Done (levelBefore s) (countBefore s)) h
 
-  past-areas : Whole w o u v → (sayOpen s w p o u v ≡ now) × (sayBefore s w p o u v ≡ then)
+  past-areas : WholeAreas w o u v → (sayOpen s w p o u v ≡ saysNow) × (sayBefore s w p o u v ≡ saidBefore)
   unfolding sayOpen sayBefore
   past-areas a =
       let q = whole-areas-pass w o u v a in (
@@ -94,7 +104,7 @@ module _ (s : List ℕ) (w p o u v : ℕ) where
       ∙ by _ (le-ltb mostBefore (length s) (omega arith)) (stop _ (lt-ltb (length s) 14 short) refl))
 
   -- and with any other count, which is what changed: 9 now, 10 before
-  pub short-changed : 4 ≤ length s → length s < 14 → isCount (leAt 4 s 0) ≡ false → Whole w o u v
+  pub short-changed : 4 ≤ length s → length s < 14 → isCount (leAt 4 s 0) ≡ false → WholeAreas w o u v
       → (sayOpen s w p o u v ≡ BadCount 0 (leAt 4 s 0)) × (sayBefore s w p o u v ≡ CutShort (length s))
   short-changed four short none a =
       let q = past-areas a in (
@@ -107,59 +117,42 @@ module _ (s : List ℕ) (w p o u v : ℕ) where
   long-says long =
       alike (sym (stop _ (lt-ltb mostBytes (length s) long) refl) ∙ stop _ (lt-ltb mostBefore (length s) (omega arith)) refl)
 
+  -- over the limit of before: 6 then, whatever it is now
+  pub over-said : mostBefore < length s → WholeAreas w o u v → sayBefore s w p o u v ≡ TooLong
+  over-said over a = past-areas a .1 ∙ sym (stop _ (lt-ltb mostBefore (length s) over) refl)
+
+-- and bytes with the count 10 never open there: no old file is so long
+pub over-never : (s : List ℕ) → leAt 4 s 0 ≡ oldCount → mostBefore < length s → (w p o u v : ℕ) → done (sayOpen s w p o u v) ≡ true → ⊥
+over-never s count over w p o u v d =
+    let r = open-ready s w p o u v d .file .head in
+    let l = headIn s .levels in
+    let n = headIn s .samples in
+    let k = headIn s .width in
+    let parts = both-pass (headChecks s w p) (wayChecks (wayIn s (headIn s)) (length s)) (open-file s w p o u v d) in
+    let width : widthOf (filterOf w) ≡ k = filter-width w (r .known) ∙ sym (r .width) in
+    let most = file-most (filterOf w) (filter-integers w) 14 l n (own-depth (filterOf w) (filter-integers w) l n (r .deep)) (r .short) in
+    let size : fileSize 14 k l n ≤ mostBefore = subst (λ (j : ℕ). fileSize 14 j l n ≤ mostBefore) width most in
+    omega (arith, size, count, way-long s k l n (headIn s .body) (wayIn s (headIn s)) refl (r .there) (parts .1))
+
 -- an old file with bytes behind it, over the limit of before and within that of now: 12, and how many, where it was 6
 pub limit-changed : {f : Filter} {l n p : ℕ} {x : List ℕ} → Recording f l n p x → (t : List ℕ) → let s = fileOf f l p 0 x ++ t in mostBefore < length s → length s ≤ mostBytes
     → (o u v : ℕ) → Sampled (widthOf f) o u v → (sayOpen s (widthOf f) p o u v ≡ Trailing (length t)) × (sayBefore s (widthOf f) p o u v ≡ TooLong)
 limit-changed {f} {l} {n} {p} {x} d t over within o u v a =
     let s = fileOf f l p 0 x ++ t in
     let size = length-append (fileOf f l p 0 x) t ∙ ap (λ (j : ℕ). j + length t) (all-length (filed d {rate = 0} (omega arith))) in
-    let most = file-most f (d .integers) l n (own-depth f (d .integers) l n (d .deep)) (d .most) in (
+    let most = file-most f (d .integers) 14 l n (own-depth f (d .integers) l n (d .deep)) (d .most) in (
       behind-file d {rate = 0} (omega arith) t (omega (arith, size, most)) (omega (arith, size)) o u v a,
-      past-areas s (widthOf f) p o u v (λ _. (a .output, a .first, a .second)) .1 ∙ sym (stop _ (lt-ltb mostBefore (length s) over) refl),
+      over-said s (widthOf f) p o u v over (λ _. (a .output, a .first, a .second)),
     )
 
 -- ---- what opens
 
--- a file of 14 bytes or more, and no more than the limit of before, with the count 10
-module _ (s : List ℕ) (long : 14 ≤ length s) (short : length s ≤ mostBefore) (count : leAt 4 s 0 ≡ oldCount) where
+-- bytes with the count 10
+module _ (s : List ℕ) (count : leAt 4 s 0 ≡ oldCount) where
   head-same : headIn s ≡ headBefore s
   head-same = ap (λ (c : ℕ). record { width = leAt 1 s 4; levels = leAt 1 s 5; samples = leAt 4 s 6; point = leAt 4 s 10; body = 4 + c }) count
 
-  start-passes : Passing (startChecks s)
-  start-passes = (
-    le-ltb mostBytes (length s) (omega arith),
-    (le-ltb (length s) 4 (omega arith), (ap (λ (c : ℕ). not (isCount c)) count, (le-ltb (length s) (headIn s .body) (omega (arith, count)), tt))),
-  )
-
-  before-passes : Passing (startBefore s)
-  before-passes = (le-ltb mostBefore (length s) short, (le-ltb (length s) 14 long, (same (leAt 4 s 0) oldCount count, tt)))
-
-  rate-passes : Passing (rateChecks s)
-  rate-passes = (ap (λ (c : ℕ). eqb c newCount && eqb (cond (eqb c newCount) (leAt 4 s 14) 0) 0) count, tt)
-
-  -- all that is said from section 0's fields on
-  abbrev after : Head → ℕ → ℕ → ℕ → ℕ → ℕ → Refusal
-  after h w p o u v =
-      let m = wholeDetails (wayIn s h) (h .levels) in
-      let n = countAt (h .levels - m) (h .samples) in
-      firstOf (fieldChecks h w p ++ (wayChecks (wayIn s h) (length s) ++ roomsFor w n o u v)) (Done (h .levels - m) n)
-
-  now-says : (w p o u v : ℕ) → now s w p o u v ≡ after (headIn s) w p o u v
-  now-says w p o u v =
-      let way = wayChecks (wayIn s (headIn s)) (length s) ++ roomsFor w (countIn s) o u v in
-      let end = Done (levelIn s) (countIn s) in
-      pass-on (startChecks s) (fieldChecks (headIn s) w p ++ (rateChecks s ++ way)) end start-passes
-      ∙ behind (fieldChecks (headIn s) w p) (rateChecks s ++ way) way end end (pass-on (rateChecks s) way end rate-passes)
-
-  before-says : (w p o u v : ℕ) → then s w p o u v ≡ after (headBefore s) w p o u v
-  before-says w p o u v =
-      pass-on (startBefore s) (fieldChecks (headBefore s) w p ++ (wayChecks (wayIn s (headBefore s)) (length s) ++ roomsFor w (countBefore s) o u v)) (Done (levelBefore s) (countBefore s)) before-passes
-
-  -- it says what it said
-  pub old-says : (w p o u v : ℕ) → sayOpen s w p o u v ≡ sayBefore s w p o u v
-  old-says w p o u v = alike s w p o u v (now-says w p o u v ∙ ap (λ (h : Head). after h w p o u v) head-same ∙ sym (before-says w p o u v))
-
-  -- gives the samples that it gave, as many
+  -- they give the samples that they gave, as many
   pub old-samples : (samplesIn s ≡ samplesBefore s) × (countIn s ≡ countBefore s)
   unfolding samplesIn samplesBefore
   old-samples =
@@ -177,3 +170,46 @@ module _ (s : List ℕ) (long : 14 ≤ length s) (short : length s ≤ mostBefor
       pick : (b : Bool) → cond b (rateIn s) 0 ≡ 0
       pick true = none
       pick false = refl
+
+  -- 14 bytes of them or more, and no more than the limit of before
+  module _ (long : 14 ≤ length s) (short : length s ≤ mostBefore) where
+    start-passes : Passing (startChecks s)
+    start-passes = (
+      le-ltb mostBytes (length s) (omega arith),
+      (le-ltb (length s) 4 (omega arith), (ap (λ (c : ℕ). not (isCount c)) count, (le-ltb (length s) (headIn s .body) (omega (arith, count)), tt))),
+    )
+
+    before-passes : Passing (startBefore s)
+    before-passes = (le-ltb mostBefore (length s) short, (le-ltb (length s) 14 long, (same (leAt 4 s 0) oldCount count, tt)))
+
+    rate-passes : Passing (rateChecks s)
+    rate-passes = (ap (λ (c : ℕ). eqb c newCount && eqb (cond (eqb c newCount) (leAt 4 s 14) 0) 0) count, tt)
+
+    -- all that is said from section 0's fields on
+    abbrev after : Head → ℕ → ℕ → ℕ → ℕ → ℕ → Refusal
+    after h w p o u v =
+        let m = wholeDetails (wayIn s h) (h .levels) in
+        let n = countAt (h .levels - m) (h .samples) in
+        firstOf (fieldChecks h w p ++ (wayChecks (wayIn s h) (length s) ++ roomsFor w n o u v)) (Done (h .levels - m) n)
+
+    now-says : (w p o u v : ℕ) → saysNow s w p o u v ≡ after (headIn s) w p o u v
+    now-says w p o u v =
+        let way = wayChecks (wayIn s (headIn s)) (length s) ++ roomsFor w (countIn s) o u v in
+        let end = Done (levelIn s) (countIn s) in
+        pass-on (startChecks s) (fieldChecks (headIn s) w p ++ (rateChecks s ++ way)) end start-passes
+        ∙ behind (fieldChecks (headIn s) w p) (rateChecks s ++ way) way end end (pass-on (rateChecks s) way end rate-passes)
+
+    before-says : (w p o u v : ℕ) → saidBefore s w p o u v ≡ after (headBefore s) w p o u v
+    before-says w p o u v =
+        pass-on (startBefore s) (fieldChecks (headBefore s) w p ++ (wayChecks (wayIn s (headBefore s)) (length s) ++ roomsFor w (countBefore s) o u v)) (Done (levelBefore s) (countBefore s)) before-passes
+
+    -- the opener says what it said
+    pub old-says : (w p o u v : ℕ) → sayOpen s w p o u v ≡ sayBefore s w p o u v
+    old-says w p o u v = alike s w p o u v (now-says w p o u v ∙ ap (λ (h : Head). after h w p o u v) head-same ∙ sym (before-says w p o u v))
+
+    -- so the two calls, on the same areas, answer the same and leave the same output
+    pub old-opens : (w p : ℕ) (o u v : List ℕ) (r q : Answer) (o₁ u₁ v₁ o₂ u₂ v₂ : List ℕ) → Open s w p o u v r o₁ u₁ v₁ → OpenBefore s w p o u v q o₂ u₂ v₂ → (r ≡ q) × (o₁ ≡ o₂)
+    old-opens w p o u v r q o₁ u₁ v₁ o₂ u₂ v₂ now then =
+        let e = old-says w p (length o) (length u) (length v) in
+        let new : (samplesIn s ++ drop (w * countIn s) o) ≡ (samplesBefore s ++ drop (w * countBefore s) o) = ap₂ (λ (x : List ℕ) (n : ℕ). x ++ drop (w * n) o) (old-samples .0) (old-samples .1) in
+        (now .answer ∙ ap answerOf e ∙ sym (then .answer), now .output ∙ ap₂ (λ (t : Refusal) (x : List ℕ). left t x o) e new ∙ sym (then .output))

@@ -1,8 +1,8 @@
 -- The opener as it was before C-17, when no file had a rate: document 01's opening checks, by that document's numbers. What C-17 did not change is pyramid's.
-use mathlib.Core.Bool.{true, not}
+use mathlib.Core.Bool.{not}
 use mathlib.Core.List.{List, [], _∷_, _++_}
 use mathlib.Core.Path.{_≡_}
-use Prim.Native.Nat.{ℕ, _-_, _*_, _%_, _≤_, _<_}
+use Prim.Native.Nat.{ℕ, _-_, _*_, _≤_, _<_}
 use lib.Dec.{ltb, eqb}
 use lib.ListN.{length, drop}
 use Rattle.answers.specs.declared.err.Answer.{Answer}
@@ -12,10 +12,9 @@ use Rattle.answers.specs.Answers.{say}
 use Rattle.answers.specs.Checks.{Check, firstOf, Call}
 use Rattle.sizes.specs.Levels.{countAt}
 use Rattle.samples.specs.Le.{leAt}
-use Rattle.samples.specs.Integers.{isWidth}
 use Rattle.pyramid.specs.declared.head.Head.{Head}
 use Rattle.pyramid.specs.Walks.{restoredAt}
-use Rattle.pyramid.specs.Opens.{fieldChecks, wayIn, wayChecks, wholeDetails, areaChecks, roomsFor}
+use Rattle.pyramid.specs.Opens.{fieldChecks, wayIn, wayChecks, wholeDetails, areaChecks, WholeAreas, roomsFor}
 
 -- "at most 67,108,974"
 abbrev pub mostBefore : ℕ
@@ -54,16 +53,12 @@ sayBefore s w p o u v = firstOf (areaChecks w o u v ++ (fileBefore s w p ++ room
 abbrev pub OpenBefore : List ℕ → ℕ → ℕ → List ℕ → List ℕ → List ℕ → Answer → List ℕ → List ℕ → List ℕ → Type 0
 OpenBefore s w p o u v = Call (sayBefore s w p (length o) (length u) (length v)) (w * countBefore s) (samplesBefore s ++ drop (w * countBefore s) o) o u v
 
--- areas of whole samples; a width asked that is none has no sample size
-abbrev pub Whole : ℕ → ℕ → ℕ → ℕ → Type 0
-Whole w o u v = isWidth w ≡ true → (o % w ≡ 0) × (u % w ≡ 0) × (v % w ≡ 0)
-
--- "an old opener meets a new file with refusal 9 (10 under 14 bytes, 6 over 67,108,974) and never a wrong sample": the answer r to the first c bytes of one, asked for
--- the width w, and what is left of the areas
+-- "an old opener meets a new file with refusal 9 (10 under 14 bytes, 6 over 67,108,974) and never a wrong sample": the answer r to c bytes of one, or to as
+-- many of its first, asked for the width w, and what is left of the areas
 pub record Met (c w : ℕ) (o g h : List ℕ) (r : Answer) (o′ g′ h′ : List ℕ) : Type 0 where
-  pub nine : Whole w (length o) (length g) (length h) → 14 ≤ c → c ≤ mostBefore → r ≡ say 9 0 14
-  pub ten : Whole w (length o) (length g) (length h) → c < 14 → r ≡ say 10 c 0
-  pub six : Whole w (length o) (length g) (length h) → mostBefore < c → r ≡ say 6 0 0
+  pub nine : WholeAreas w (length o) (length g) (length h) → 14 ≤ c → c ≤ mostBefore → r ≡ say 9 0 14
+  pub ten : WholeAreas w (length o) (length g) (length h) → c < 14 → r ≡ say 10 c 0
+  pub six : WholeAreas w (length o) (length g) (length h) → mostBefore < c → r ≡ say 6 0 0
   -- whatever the areas are, it is refused, and no byte of them changes
   pub refused : r .number ≡ 0 → ⊥
   pub output : o′ ≡ o

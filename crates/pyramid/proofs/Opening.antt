@@ -232,15 +232,19 @@ module _ (s : List ℕ) (w p o u v : ℕ) (h : done (sayOpen s w p o u v) ≡ tr
   abbrev rooms : List Check
   rooms = roomsFor w (countIn s) o u v
 
+  -- all checks pass
   passed : Passing (areas ++ (file ++ rooms))
   unfolding sayOpen
   passed =
       passing (areas ++ (file ++ rooms)) (Done (levelIn s) (countIn s))
       (both-refuse areas (file ++ rooms) (area-refuses w o u v) (both-refuse file rooms (file-refuses s w p) (refl, (refl, (refl, tt))))) h
 
-  -- the checks of section 0 pass
+  -- so do those of the file, and those of section 0
+  pub open-file : Passing (fileChecks s w p)
+  open-file = both-pass file rooms (both-pass areas (file ++ rooms) passed .1) .0
+
   pub open-head : Passing (headChecks s w p)
-  open-head = both-pass (headChecks s w p) (wayChecks (wayIn s (headIn s)) (length s)) (both-pass file rooms (both-pass areas (file ++ rooms) passed .1) .0) .0
+  open-head = both-pass (headChecks s w p) (wayChecks (wayIn s (headIn s)) (length s)) open-file .0
 
   pub open-ready : Opening s w o u v
   open-ready =
@@ -257,7 +261,7 @@ module _ (s : List ℕ) (w p o u v : ℕ) (h : done (sayOpen s w p o u v) ≡ tr
   -- the file is taken
   pub open-taken : sayFile s w p ≡ Done (levelIn s) (countIn s)
   unfolding sayFile
-  open-taken = through file (Done (levelIn s) (countIn s)) (both-pass file rooms (both-pass areas (file ++ rooms) passed .1) .0)
+  open-taken = through file (Done (levelIn s) (countIn s)) open-file
 
   -- a call that is done says the level and the count, for which there is room
   pub open-says : (sayOpen s w p o u v ≡ Done (levelIn s) (countIn s)) × (countIn s ≤ o / w)
