@@ -7,8 +7,9 @@ use Prim.Native.Nat.{ℕ, _-_, _≤_}
 use lib.ListN.{length, take, drop}
 use Rattle.answers.specs.declared.err.Answer.{Answer}
 use Rattle.answers.specs.declared.err.Refusal.the-variants.{Done}
+use Rattle.answers.specs.Answers.{done}
 use Rattle.samples.specs.Le.{Bytes}
-use Rattle.pyramid.specs.Opens.{filterOf, headIn, samplesIn}
+use Rattle.pyramid.specs.Opens.{filterOf, headIn, rateIn, samplesIn, sayOpen, rateOpened}
 use Rattle.cuts.specs.Sees.{Openings}
 use Rattle.cuts.proofs.Opened.{openings}
 use Rattle.entries.specs.Books.{dataAt}
@@ -17,9 +18,9 @@ use Rattle.book.specs.Calls.{Fresh}
 use Rattle.route.specs.Maps.{BookCall, Ran, AllLent, has, fileFor, placeFor, mapAfter}
 use Rattle.route.proofs.IsMap.{is-map}
 use Rattle.route.proofs.HeldWhole.{held-whole}
-use Rattle.route.proofs.WholeWritten.{whole-filed}
+use Rattle.route.proofs.WholeWritten.{whole-filed, whole-rate}
 
--- each point that the map has is found, at the bytes of its file, and every front of them opens as `Openings` says
+-- each point that the map has is found, at the bytes of its file, and every front of them opens as `Openings` says, with the rate that the file stores
 pub each-opens : (b : List ℕ) → Bytes b → dataAt ≤ length b → length b ≤ mostArea → (r : Answer) (b₀ : List ℕ) → Fresh b r b₀
     → (cs : List BookCall) → AllLent cs → (rs : List Answer) (b′ : List ℕ) → Ran b₀ cs rs b′
     → let m = mapAfter (length b - dataAt) [] cs in (q : ℕ) → has q m ≡ true
@@ -28,8 +29,10 @@ pub each-opens : (b : List ℕ) → Bytes b → dataAt ≤ length b → length b
     (sayFind b′ q ≡ Done (placeFor q m) (length s))
     × (take (length s) (drop (placeFor q m) b′) ≡ s)
     × Openings (h .body) (filterOf (h .width)) (h .levels) (h .samples) q (samplesIn s) s
+    × ((c : ℕ) → c ≤ length s → (k p o u v : ℕ) → done (sayOpen (take c s) k p o u v) ≡ true → rateOpened (take c s) k p o u v ≡ rateIn s)
 each-opens b bytes long short r b₀ f cs l rs b′ ran q held =
     let n = length b - dataAt in
     let named = is-map b bytes long short r b₀ f cs l rs b′ ran .2 .present q held in
     let file = held-whole n cs l q held in
-    (named .0, named .1, openings (whole-filed (fileFor q (mapAfter n [] cs)) q (file .0) (file .1)))
+    let s = fileFor q (mapAfter n [] cs) in
+    (named .0, named .1, openings (whole-filed s q (file .0) (file .1)), whole-rate s q (file .0) (file .1))

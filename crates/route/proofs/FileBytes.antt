@@ -1,8 +1,7 @@
 -- A file of any samples is bytes. Each of the integer filters.
-use mathlib.Core.Bool.{Bool, true, false, cond}
-use mathlib.Core.List.{List, [], _++_}
+use mathlib.Core.List.{List, _++_}
+use mathlib.Core.Logic.{⊎-elim}
 use Prim.Native.Nat.{ℕ, zero, suc, _/_}
-use lib.Dec.{eqb}
 use lib.ListN.{length}
 use Rattle.sizes.specs.Lengths.{approxLength, detailsLength}
 use Rattle.samples.specs.Le.{leBytes, Bytes}
@@ -14,6 +13,7 @@ use Rattle.dwt.specs.Filters.{widthOf, lowOf, highOf, Integers}
 use Rattle.dwt.specs.Pyramids.{laidOut}
 use Rattle.dwt.proofs.Integers.{each-width}
 use Rattle.pyramid.specs.Files.{sectionOf, countBy, rateOf, bodyOf, fileOf}
+use Rattle.pyramid.proofs.Writing.{OldKind, NewKind, either-kind}
 use Rattle.route.proofs.ByteParts.{bytes-zeros, bytes-number}
 
 -- both bands are
@@ -36,11 +36,7 @@ body-bytes f i (suc l) n x h =
     (body-bytes f i l (approxLength n) (lowOf f x) (bands-bytes f i .0 x)) (section-bytes (detailsLength n) (highOf f x) (bands-bytes f i .1 x))
 
 rate-bytes : (r : ℕ) → Bytes (rateOf r)
-rate-bytes r = pick (eqb r 0)
-  where
-    pick : (b : Bool) → Bytes (cond b [] (leBytes 4 r))
-    pick true = bytes-zeros 0
-    pick false = bytes-number 4 r
+rate-bytes r = ⊎-elim (λ (o : OldKind r). rw (o .behind) (bytes-zeros 0)) (λ (w : NewKind r). rw (w .behind) (bytes-number 4 r)) (either-kind r)
 
 pub file-bytes : (f : Filter) → Integers f → (l p r : ℕ) (x : List ℕ) → Bytes x → Bytes (fileOf f l p r x)
 unfolding fileOf

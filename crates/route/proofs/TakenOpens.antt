@@ -18,7 +18,7 @@ use Rattle.samples.specs.Le.{Bytes}
 use Rattle.dwt.specs.declared.filter.Filter.{Filter}
 use Rattle.dwt.specs.Filters.{widthOf, Integers}
 use Rattle.pyramid.specs.declared.head.Head.{Head}
-use Rattle.pyramid.specs.Files.{newSize, commonSize, fileSize}
+use Rattle.pyramid.specs.Files.{newSize, commonSize, fileOf, fileSize}
 use Rattle.pyramid.specs.Writes.{Write}
 use Rattle.pyramid.specs.Opens.{headIn, headChecks, fileChecks, levelIn, ownWidth}
 use Rattle.pyramid.proofs.Opening.{head-passes}
@@ -35,10 +35,6 @@ use Rattle.route.specs.Maps.{Standing, Finds, AllSpare, BookCall, Ran, A
 use Rattle.route.proofs.FileBytes.{file-bytes}
 use Rattle.route.proofs.Found.{added-found}
 use Rattle.route.proofs.Others.{others-stay}
-
--- the bytes of the file that writing x at l levels gives
-abbrev pub writtenSize : Filter → ℕ → List ℕ → ℕ
-writtenSize f l x = fileSize newSize (widthOf f) (levelsOf l) (length x / widthOf f)
 
 -- a file of a recording is whole, and passes for its own width and its point
 module _ {f : Filter} {l n p : ℕ} {x s : List ℕ} {z : ℕ} (d : Filed z f l n p x s) where
@@ -69,45 +65,54 @@ module _ {f : Filter} {l n p : ℕ} {x s : List ℕ} {z : ℕ} (d : Filed z f l 
       (subst (λ (w : ℕ). Passing (fileChecks s w p)) (sym own-width) (subst (λ (t : List ℕ). Passing (fileChecks t k p)) all (file-passes d size most (omega arith))))
       (le-ltb 0 (levelIn s) (omega (arith, level-none)), tt)
 
--- a done write: f, l, p, the rate and x are what it was given, and fb′ is the file area that it left
-module _ (f : Filter) (l p rate : ℕ) (x : List ℕ) (i : Integers f) (bx : Bytes x) (hp : p < 2 ^ 32) (hr : rate < 2 ^ 32) (fb u v : List ℕ) (a : Answer) (fb′ u′ v′ : List ℕ) (w : Write f l p rate x fb u v a fb′ u′ v′)
-    (z : a .number ≡ 0) where
-  -- what it wrote is a whole file for its point, so adding it is refused with 15 or 14 only: `whole-answers`
-  pub written-taken : Passing (wholeChecks (take (writtenSize f l x) fb′) p)
-  written-taken =
-      subst (λ (s : List ℕ). Passing (wholeChecks s p)) (sym (file-in f l p rate x i bx hp hr fb u v a fb′ u′ v′ w z)) (filed-taken (written f l p rate x i bx hp hr fb u v a fb′ u′ v′ w z))
-
+-- a file s of a recording, of either kind
+module _ {f : Filter} {l n p : ℕ} {x s : List ℕ} {z : ℕ} (d : Filed z f l n p x s) where
   -- where finding names it, every front of what it names opens as `Openings` says
-  found-opens : (b : List ℕ) (m : Finds b p (take (writtenSize f l x) fb′))
-      → Openings newSize f (levelsOf l) (length x / widthOf f) p x (take (length (take (writtenSize f l x) fb′)) (drop (m .place) b))
-  found-opens b m =
-      subst (Openings newSize f (levelsOf l) (length x / widthOf f) p x) (sym (m .there ∙ file-in f l p rate x i bx hp hr fb u v a fb′ u′ v′ w z))
-      (openings (written f l p rate x i bx hp hr fb u v a fb′ u′ v′ w z))
+  found-opens : (b : List ℕ) (m : Finds b p s) → Openings z f l n p x (take (length s) (drop (m .place) b))
+  found-opens b m = subst (Openings z f l n p x) (sym (m .there)) (openings d)
 
   -- so it does from any area that shows a map with it
-  pub taken-opens : (b : List ℕ) (n : ℕ) (hs : Map) → Shows b n hs → has p hs ≡ true → fileFor p hs ≡ take (writtenSize f l x) fb′
-      → (place len : ℕ) → sayFind b p ≡ Done place len → Openings newSize f (levelsOf l) (length x / widthOf f) p x (take len (drop place b))
-  taken-opens b n hs shows held file place len says =
+  pub taken-opens : (b : List ℕ) (m : ℕ) (hs : Map) → Shows b m hs → has p hs ≡ true → fileFor p hs ≡ s
+      → (place len : ℕ) → sayFind b p ≡ Done place len → Openings z f l n p x (take len (drop place b))
+  taken-opens b m hs shows held file place len says =
       let named = shows .present p held in
       let found : Finds b p (fileFor p hs) = record { place = placeFor p hs; says = named .0; there = named .1 } in
-      let here : Finds b p (take (writtenSize f l x) fb′) = subst (Finds b p) file found in
+      let here : Finds b p s = subst (Finds b p) file found in
       let same = sym (here .says) ∙ says in
-      subst (Openings newSize f (levelsOf l) (length x / widthOf f) p x)
+      subst (Openings z f l n p x)
       (ap₂ (λ (c q : ℕ). take c (drop q b)) (ap (λ (s : Refusal). answerOf s .second) same) (ap (λ (s : Refusal). answerOf s .first) same)) (found-opens b here)
 
   -- and from the book to which it was added, whatever was called since for other points: finding is done, and gives the file's size
-  pub kept-opens : (b : List ℕ) → Standing b → (r : Answer) (b₁ : List ℕ) → Add b p (take (writtenSize f l x) fb′) r b₁ → r .number ≡ 0
+  pub kept-opens : Bytes s → (b : List ℕ) → Standing b → (r : Answer) (b₁ : List ℕ) → Add b p s r b₁ → r .number ≡ 0
       → (cs : List BookCall) → AllSpare p cs → AllLent cs → (rs : List Answer) (b′ : List ℕ) → Ran b₁ cs rs b′
-      → (place : ℕ) × (sayFind b′ p ≡ Done place (writtenSize f l x))
-      × Openings newSize f (levelsOf l) (length x / widthOf f) p x (take (writtenSize f l x) (drop place b′))
-  kept-opens b st r b₁ add done cs spare lent rs b′ ran =
-      let size = writtenSize f l x in
-      let file = file-in f l p rate x i bx hp hr fb u v a fb′ u′ v′ w z in
-      let bytes : Bytes (take size fb′) = subst Bytes (sym file) (file-bytes f i (levelsOf l) p rate x bx) in
-      let added = added-found b st p (take size fb′) bytes r b₁ add done in
-      let found = others-stay b₁ (added .0) p (take size fb′) (added .1) cs spare lent rs b′ ran in
-      let long : length (take size fb′) ≡ size = ap length file ∙ all-length (written f l p rate x i bx hp hr fb u v a fb′ u′ v′ w z) in (
-        found .place,
-        found .says ∙ ap (Done (found .place)) long,
-        subst (λ (c : ℕ). Openings newSize f (levelsOf l) (length x / widthOf f) p x (take c (drop (found .place) b′))) long (found-opens b′ found),
-      )
+      → (place : ℕ) × (sayFind b′ p ≡ Done place (length s)) × Openings z f l n p x (take (length s) (drop place b′))
+  kept-opens bytes b st r b₁ add done cs spare lent rs b′ ran =
+      let added = added-found b st p s bytes r b₁ add done in
+      let found = others-stay b₁ (added .0) p s (added .1) cs spare lent rs b′ ran in
+      (found .place, found .says, found-opens b′ found)
+
+-- a done write: f, l, p, the rate and x are what it was given, and fb′ is the file area that it left
+module _ (f : Filter) (l p rate : ℕ) (x : List ℕ) (i : Integers f) (bx : Bytes x) (hp : p < 2 ^ 32) (hr : rate < 2 ^ 32) (fb u v : List ℕ) (a : Answer) (fb′ u′ v′ : List ℕ)
+    (w : Write f l p rate x fb u v a fb′ u′ v′) (z : a .number ≡ 0) where
+  abbrev file : List ℕ
+  file = take (fileSize newSize (widthOf f) (levelsOf l) (length x / widthOf f)) fb′
+
+  file-is : file ≡ fileOf f (levelsOf l) p rate x
+  file-is = file-in f l p rate x i bx hp hr fb u v a fb′ u′ v′ w z
+
+  -- what it wrote is a file of the recording, and bytes
+  pub written-filed : Filed newSize f (levelsOf l) (length x / widthOf f) p x file
+  written-filed = subst (Filed newSize f (levelsOf l) (length x / widthOf f) p x) (sym file-is) (written f l p rate x i bx hp hr fb u v a fb′ u′ v′ w z)
+
+  pub written-bytes : Bytes file
+  written-bytes = subst Bytes (sym file-is) (file-bytes f i (levelsOf l) p rate x bx)
+
+  -- and whole, for its point, so adding it is refused with 15 or 14 only: `whole-answers`
+  pub written-taken : Passing (wholeChecks file p)
+  written-taken = filed-taken written-filed
+
+  -- so it stays in a book, and opens from there
+  pub written-opens : (b : List ℕ) → Standing b → (r : Answer) (b₁ : List ℕ) → Add b p file r b₁ → r .number ≡ 0
+      → (cs : List BookCall) → AllSpare p cs → AllLent cs → (rs : List Answer) (b′ : List ℕ) → Ran b₁ cs rs b′
+      → (place : ℕ) × (sayFind b′ p ≡ Done place (length file)) × Openings newSize f (levelsOf l) (length x / widthOf f) p x (take (length file) (drop place b′))
+  written-opens = kept-opens written-filed written-bytes

@@ -1,5 +1,5 @@
--- A file that adding takes is the file of its own samples and rate, whoever wrote it: writing the samples that it opens as gives every byte of it, an old file apart,
--- which is no longer written but is the same bytes.
+-- A file that adding takes is the file of its own samples and rate, whoever wrote it: of a new one, writing the samples that it opens as, for its rate, gives every byte
+-- of it. No call writes an old one any more.
 use mathlib.Core.Bool.{Bool, true, false, cond}
 use mathlib.Core.List.{List, [], _∷_, _++_}
 use mathlib.Core.Path.{_≡_, refl, sym, ap, ap₂, subst, _∙_}
@@ -7,9 +7,10 @@ use Prim.Native.Nat.{ℕ, _-_, _^_, _≤_, _<_}
 use native.Mathlib.Omega.{arith}
 use borrow.Author.Tests.{ltb-false, eqb-false, not-false}
 use lib.Dec.{ltb}
-use lib.ListN.{length, drop, length-drop}
+use lib.ListN.{length, take, drop, length-drop}
 use lib.Seq.{take-all}
 use Rattle.answers.specs.declared.err.Refusal.the-variants.{CutShort}
+use Rattle.answers.specs.Answers.{done}
 use Rattle.answers.proofs.Passed.{Passing, both-pass, roomy, right}
 use Rattle.sizes.specs.declared.Wavelet.the-variants.{Cdf53}
 use Rattle.sizes.specs.Lengths.{mostSamples}
@@ -22,15 +23,16 @@ use Rattle.dwt.specs.Filters.{widthOf}
 use Rattle.dwt.proofs.Integers.{own-depth}
 use Rattle.pyramid.specs.declared.walk.Way.{Way}
 use Rattle.pyramid.specs.declared.walk.Way.the-variants.{Went}
-use Rattle.pyramid.specs.Files.{headOf, headSize, commonSize, bodyOf, bodySize, fileOf}
+use Rattle.pyramid.specs.Files.{headOf, headSize, commonSize, bodyOf, bodySize, fileOf, fileSize}
 use Rattle.pyramid.specs.Walks.{walkOf, restoredAt}
-use Rattle.pyramid.specs.Opens.{filterOf, headIn, isNew, rateIn, startChecks, fieldChecks, rateChecks, headChecks, wayIn, wayChecks, fileChecks, wholeDetails, levelIn, samplesIn, ownWidth}
+use Rattle.pyramid.specs.Opens.{filterOf, headIn, isNew, rateIn, startChecks, fieldChecks, rateChecks, headChecks, wayIn, wayChecks, fileChecks, wholeDetails, levelIn, samplesIn, sayOpen, rateOpened, ownWidth}
 use Rattle.pyramid.proofs.Ways.{walk-size}
 use Rattle.pyramid.proofs.Opening.{filter-width, filter-integers, start-passes, head-parts}
 use Rattle.pyramid.proofs.Writing.{file-parts}
 use Rattle.cuts.proofs.SectionsBack.{Sections, sections-back}
-use Rattle.cuts.proofs.Filed.{Recording, Filed}
+use Rattle.cuts.proofs.Filed.{Recording, Filed, all-length}
 use Rattle.cuts.proofs.WrittenHead.{filed}
+use Rattle.cuts.proofs.Rates.{file-rate}
 use Rattle.entries.specs.Checks.{wholeChecks}
 use Rattle.route.proofs.WholeFile.{head-back, size-back, whole-went}
 
@@ -133,3 +135,10 @@ module _ (s : List ℕ) (p : ℕ) (bs : Bytes s) (c : Passing (wholeChecks s p))
   whole-filed =
       subst (λ (j : ℕ). Filed j f l n p (samplesIn s) s) (size-back s bs (head .0) (head .2))
       (subst (Filed (headSize (rateIn s)) f l n p (samplesIn s)) (sym whole-written) (filed whole-recording rate-small))
+
+  -- and where a front of it opens, that gives its rate
+  pub whole-rate : (c : ℕ) → c ≤ length s → (k q o u v : ℕ) → done (sayOpen (take c s) k q o u v) ≡ true → rateOpened (take c s) k q o u v ≡ rateIn s
+  whole-rate c e k q o u v h =
+      let most : c ≤ fileSize (headSize (rateIn s)) (widthOf f) l n = omega (arith, size-back s bs (head .0) (head .2), all-length whole-filed) in
+      let cut = ap (take c) whole-written in
+      ap (λ (t : List ℕ). rateOpened t k q o u v) cut ∙ file-rate whole-recording rate-small c most k q o u v (sym (ap (λ (t : List ℕ). done (sayOpen t k q o u v)) cut) ∙ h)
