@@ -13,7 +13,7 @@ use Rattle.sizes.specs.declared.Wavelet.{Wavelet}
 use Rattle.sizes.specs.declared.Wavelet.the-variants.{Cdf53, Cdf97}
 use Rattle.sizes.specs.Lengths.{smallestOf}
 use Rattle.sizes.specs.Calls.{Level}
-use Rattle.sizes.specs.Levels.{afterLevels, countAt, depthWithin, depthFrom, depthOf}
+use Rattle.sizes.specs.Levels.{afterLevels, depthWithin, depthFrom, depthOf}
 use Rattle.sizes.proofs.OneLevel.{forward-fits, inverse-fits}
 use Rattle.samples.specs.Le.{Bytes, leAt}
 use Rattle.samples.specs.Words.{tabulate, wordAt, wordsOf}

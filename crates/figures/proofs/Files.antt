@@ -84,17 +84,17 @@ module _ (rate : ℕ) (hr : rate < 2 ^ 32) where
       subst (λ (i : ℕ). OpensTo (take b s) 1 14 5 5 5 (2 - i) (countAt (2 - i) 5) (approxAt Cdf53I8 (2 - i) five)) q
       (survives (filed recording hr) sampled b c e (subst (λ (i : ℕ). Roomy 1 (countAt (2 - i) 5) 5 5 5) (sym q) (room (countAt (2 - m) 5) h)))
 
-  short : (b : ℕ) → b < z + 6 → sayOpen (take b s) 1 14 5 5 5 ≡ CutShort b
+  below : (b : ℕ) → b < z + 6 → sayOpen (take b s) 1 14 5 5 5 ≡ CutShort b
   unfolding afterLevels
-  short b h = cut-short (filed recording hr) sampled b h
+  below b h = cut-short (filed recording hr) sampled b h
 
-  second : (b : ℕ) → z + 6 ≤ b → b ≤ z + 10 → OpensTo (take b s) 1 14 5 5 5 2 2 (255 ∷ 3 ∷ [])
+  level2 : (b : ℕ) → z + 6 ≤ b → b ≤ z + 10 → OpensTo (take b s) 1 14 5 5 5 2 2 (255 ∷ 3 ∷ [])
   unfolding afterLevels leAt leBytes tabulate wordAt wordsOf bytesOf val residue wrap decode encode detail details approx approxs low high
-  second b h g = given b 0 h (omega arith) (none z b g) (omega arith)
+  level2 b h g = given b 0 h (omega arith) (none z b g) (omega arith)
 
-  first : (b : ℕ) → z + 11 ≤ b → b ≤ z + 16 → OpensTo (take b s) 1 14 5 5 5 1 3 (3 ∷ 253 ∷ 7 ∷ [])
+  level1 : (b : ℕ) → z + 11 ≤ b → b ≤ z + 16 → OpensTo (take b s) 1 14 5 5 5 1 3 (3 ∷ 253 ∷ 7 ∷ [])
   unfolding afterLevels leAt leBytes tabulate wordAt wordsOf bytesOf val residue wrap decode encode detail details approx approxs low high
-  first b h g = given b 1 (omega arith) (omega arith) (one z b h g) (omega arith)
+  level1 b h g = given b 1 (omega arith) (omega arith) (one z b h g) (omega arith)
 
   whole : OpensTo s 1 14 5 5 5 0 5 five
   whole = opens-whole (filed recording hr) sampled (room 5 (omega arith))
@@ -104,13 +104,13 @@ module _ (rate : ℕ) (hr : rate < 2 ^ 32) where
   with-rate b e d = file-rate recording hr b e 1 14 5 5 5 d
 
   without : (b : ℕ) → b < z + 6 → rateOpened (take b s) 1 14 5 5 5 ≡ 0
-  without b h = refused-rate (take b s) 1 14 5 5 5 (ap done (short b h))
+  without b h = refused-rate (take b s) 1 14 5 5 5 (ap done (below b h))
 
   opens : (b : ℕ) → z + 6 ≤ b → b ≤ z + 17 → done (sayOpen (take b s) 1 14 5 5 5) ≡ true
   opens b h g =
-      ⊎-elim (λ (e : b < z + 11). ap done (second b h (omega arith) .says))
+      ⊎-elim (λ (e : b < z + 11). ap done (level2 b h (omega arith) .says))
       (λ (e : z + 11 ≤ b).
-      ⊎-elim (λ (f : b < z + 17). ap done (first b e (omega arith) .says)) (λ (f : z + 17 ≤ b). ap (λ (t : List ℕ). done (sayOpen t 1 14 5 5 5)) (take-all b s (omega (arith, all-length (filed recording hr)))) ∙ ap done (whole .says)) (lt-or-le b (z + 17)))
+      ⊎-elim (λ (f : b < z + 17). ap done (level1 b e (omega arith) .says)) (λ (f : z + 17 ≤ b). ap (λ (t : List ℕ). done (sayOpen t 1 14 5 5 5)) (take-all b s (omega (arith, all-length (filed recording hr)))) ∙ ap done (whole .says)) (lt-or-le b (z + 17)))
       (lt-or-le b (z + 11))
 
 -- they hold
@@ -118,9 +118,9 @@ pub p6-to-p10 : File
 p6-to-p10 =
     record {
       p6 = file;
-      p7 = λ b h. subst (λ (s : List ℕ). sayOpen (take b s) 1 14 5 5 5 ≡ CutShort b) file (short 0 (omega arith) b (omega arith));
-      p8 = λ b h g. subst (λ (s : List ℕ). OpensTo (take b s) 1 14 5 5 5 2 2 (255 ∷ 3 ∷ [])) file (second 0 (omega arith) b h g);
-      p9 = λ b h g. subst (λ (s : List ℕ). OpensTo (take b s) 1 14 5 5 5 1 3 (3 ∷ 253 ∷ 7 ∷ [])) file (first 0 (omega arith) b h g);
+      p7 = λ b h. subst (λ (s : List ℕ). sayOpen (take b s) 1 14 5 5 5 ≡ CutShort b) file (below 0 (omega arith) b (omega arith));
+      p8 = λ b h g. subst (λ (s : List ℕ). OpensTo (take b s) 1 14 5 5 5 2 2 (255 ∷ 3 ∷ [])) file (level2 0 (omega arith) b h g);
+      p9 = λ b h g. subst (λ (s : List ℕ). OpensTo (take b s) 1 14 5 5 5 1 3 (3 ∷ 253 ∷ 7 ∷ [])) file (level1 0 (omega arith) b h g);
       p10 = subst (λ (s : List ℕ). OpensTo s 1 14 5 5 5 0 5 five) file (whole 0 (omega arith));
       rate = λ b h. subst (λ (s : List ℕ). rateOpened (take b s) 1 14 5 5 5 ≡ 0) file (⊎-elim (without 0 (omega arith) b) (λ (g : 20 ≤ b). with-rate 0 (omega arith) b h (opens 0 (omega arith) b g h)) (lt-or-le b 20));
     }
@@ -129,12 +129,12 @@ pub new-file : NewFile
 new-file =
     record {
       bytes = new-bytes;
-      short = λ b h. subst (λ (s : List ℕ). sayOpen (take b s) 1 14 5 5 5 ≡ CutShort b) new-bytes (short 1000 (omega arith) b (omega arith));
-      second = λ b h g. subst (λ (s : List ℕ). OpensTo (take b s) 1 14 5 5 5 2 2 (255 ∷ 3 ∷ [])) new-bytes (second 1000 (omega arith) b h g);
-      first = λ b h g. subst (λ (s : List ℕ). OpensTo (take b s) 1 14 5 5 5 1 3 (3 ∷ 253 ∷ 7 ∷ [])) new-bytes (first 1000 (omega arith) b h g);
+      cut = λ b h. subst (λ (s : List ℕ). sayOpen (take b s) 1 14 5 5 5 ≡ CutShort b) new-bytes (below 1000 (omega arith) b (omega arith));
+      level2 = λ b h g. subst (λ (s : List ℕ). OpensTo (take b s) 1 14 5 5 5 2 2 (255 ∷ 3 ∷ [])) new-bytes (level2 1000 (omega arith) b h g);
+      level1 = λ b h g. subst (λ (s : List ℕ). OpensTo (take b s) 1 14 5 5 5 1 3 (3 ∷ 253 ∷ 7 ∷ [])) new-bytes (level1 1000 (omega arith) b h g);
       whole = subst (λ (s : List ℕ). OpensTo s 1 14 5 5 5 0 5 five) new-bytes (whole 1000 (omega arith));
       rate = λ b h g. subst (λ (s : List ℕ). rateOpened (take b s) 1 14 5 5 5 ≡ 1000) new-bytes (with-rate 1000 (omega arith) b g (opens 1000 (omega arith) b h g));
-      none = λ b h. subst (λ (s : List ℕ). rateOpened (take b s) 1 14 5 5 5 ≡ 0) new-bytes (without 1000 (omega arith) b (omega arith));
+      refused-rate = λ b h. subst (λ (s : List ℕ). rateOpened (take b s) 1 14 5 5 5 ≡ 0) new-bytes (without 1000 (omega arith) b (omega arith));
     }
 
 -- each of these is computed
@@ -144,14 +144,13 @@ new-checks =
     record {
       three = refl;
       four = refl;
-      thirteen = refl;
-      seventeen = refl;
       no-rate = refl;
       before-sections = refl;
       other-point = refl;
       before-number = refl;
       head = λ t m. (start-done {s = unrated} {t = t} (refl, (refl, (refl, (refl, tt)))) m, done-tells m (ap (λ (a : Answer). a .number) (start-done {s = unrated} {t = t} (refl, (refl, (refl, (refl, tt)))) m)) .rate);
-      written = refl;
+      long = refl;
+      few = refl;
       ragged = refl;
       least = refl;
     }

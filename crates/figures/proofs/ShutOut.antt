@@ -13,7 +13,7 @@ use Rattle.answers.specs.Answers.{say, answerOf, done}
 use Rattle.answers.specs.Checks.{left}
 use Rattle.sizes.specs.declared.Wavelet.the-variants.{Cdf53}
 use Rattle.sizes.specs.Calls.{sayForward, sayInverse}
-use Rattle.sizes.specs.Levels.{afterLevels, countAt, depthWithin, depthFrom}
+use Rattle.sizes.specs.Levels.{afterLevels, depthWithin, depthFrom}
 use Rattle.spans.specs.declared.Band.the-variants.{Approx, Details}
 use Rattle.spans.specs.Spans.{spanOf}
 use Rattle.notes.specs.Notes.{sayColumn, saySpan}
@@ -35,10 +35,12 @@ use Rattle.pyramid.proofs.Opening.{open-taken, open-says}
 use Rattle.peek.specs.declared.PeekAnswer.{PeekAnswer}
 use Rattle.peek.specs.Peeks.{sayPeek, Peek}
 use Rattle.peek.proofs.Peeking.{say-past, say-done, peek-none, peek-some}
-use Rattle.heads.specs.Heads.{sayHead, saySize}
-use Rattle.figures.specs.Worked.{five, thirtyOne}
+use Rattle.heads.specs.declared.HeadAnswer.{HeadAnswer}
+use Rattle.heads.specs.Heads.{sayHead, Told, Tells, saySize}
+use Rattle.heads.proofs.Telling.{start-done, done-tells}
+use Rattle.figures.specs.Worked.{five, thirtyOne, thirtyFive}
 use Rattle.figures.specs.ShutOut.{splitOnly, restSplit, detailsUp, three, one0, two0, three0, five0, peak, lengths, NotAllRefused, ShutOut}
-use Rattle.figures.proofs.Files.{p6-to-p10}
+use Rattle.figures.proofs.Files.{p6-to-p10, new-file}
 use Rattle.figures.proofs.Fused.{fused-differs}
 use Rattle.figures.proofs.Done.{deep, each-done}
 
@@ -103,6 +105,22 @@ says-cut = refl
 section-two : sectionIn thirtyOne 1 14 2 ≡ 248 ∷ []
 unfolding sectionIn walkOf oneOf leAt afterLevels
 section-two = rw says-section refl
+
+-- of the file with a rate
+says-new-section : saySection thirtyFive 1 14 2 ≡ Done 28 1
+unfolding saySection walkOf oneOf leAt afterLevels depthFrom depthWithin
+says-new-section = refl
+
+new-section-two : sectionIn thirtyFive 1 14 2 ≡ 248 ∷ []
+unfolding sectionIn walkOf oneOf leAt afterLevels
+new-section-two = rw says-new-section refl
+
+new-told : (t : HeadAnswer) → Told thirtyFive t → (t .answer ≡ say 0 0 0) × Tells t 1 2 5 14 1000
+unfolding leAt
+new-told t m =
+    let d = start-done {s = thirtyFive} {t = t} (refl, (refl, (refl, (refl, tt)))) m in
+    let f = done-tells m (ap (λ (a : Answer). a .number) d) in
+    (d, record { width = f .width; levels = f .levels; samples = f .samples; point = f .point; rate = f .rate })
 
 says-short : (sayMulti Cdf53I8 1 2 2 2 2 ≡ MinFilterSize 2 3) × (sayMulti Cdf53F32 1 8 8 8 8 ≡ BufferWasTooSmallForLevel)
 unfolding sayMulti depthFrom depthWithin
@@ -194,6 +212,9 @@ shut-out =
       invented = λ m. let q = opened (p6-to-p10 .p9 27 (omega arith) (omega arith)) m in (ap (λ (r : Answer). r .first) (q .0), ap (λ (r : Answer). r .second) (q .0), ap (take 3) (q .1));
       no-further = says-cut;
       section-is = section-two;
+      new-section = (says-new-section, new-section-two);
+      new-head = new-told;
+      new-sample = λ m. one-at (new-file .whole) 2 (omega arith) m;
       one-sample = λ m. one-at (p6-to-p10 .p10) 2 (omega arith) m;
       one-of-cut = λ m. one-at (p6-to-p10 .p9 27 (omega arith) (omega arith)) 1 (omega arith) m;
       none-past-cut = λ m. none-at (p6-to-p10 .p9 27 (omega arith) (omega arith)) 3 (omega arith) m;

@@ -7,7 +7,7 @@ use Rattle.samples.specs.Integers.{val, residue, wrap, decode, encode}
 use Rattle.cdf53i.specs.Lift.{detail, details, approx, approxs, even, odd, sample, restored}
 use Rattle.cdf53i.specs.Bands.{low, high, back}
 use Rattle.cdf53i.specs.T800 as t800
-use Rattle.dwt.specs.Pyramids.{approxAt, pyramid, samplesOf}
+use Rattle.dwt.specs.Pyramids.{pyramid, samplesOf}
 use Rattle.figures.specs.Worked.{Worked}
 use Rattle.figures.proofs.Files.{p6-to-p10, new-file, new-checks}
 

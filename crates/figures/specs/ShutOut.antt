@@ -29,8 +29,9 @@ use Rattle.dwt.specs.Backward.{MultiBack}
 use Rattle.pyramid.specs.Files.{newSize, fileSize, fileOf}
 use Rattle.pyramid.specs.Writes.{Write}
 use Rattle.pyramid.specs.Opens.{Open, saySection, sectionIn}
-use Rattle.figures.specs.Worked.{neg, five, thirtyOne}
-use Rattle.heads.specs.Heads.{sayHead, saySize}
+use Rattle.figures.specs.Worked.{neg, five, thirtyOne, thirtyFive}
+use Rattle.heads.specs.declared.HeadAnswer.{HeadAnswer}
+use Rattle.heads.specs.Heads.{sayHead, Told, Tells, saySize}
 use Rattle.peek.specs.declared.PeekAnswer.{PeekAnswer}
 use Rattle.peek.specs.Peeks.{sayPeek, Peek}
 
@@ -174,6 +175,10 @@ pub record ShutOut : Type 0 where
   -- a lookup that looks further than its section, or hands back the count too: 25 bytes have section 2 whole, and it is -8 alone
   pub no-further : saySection (take 25 thirtyOne) 1 14 2 ≡ Done 24 1
   pub section-is : sectionIn thirtyOne 1 14 2 ≡ 248 ∷ []
+  -- a lookup, a head or one sample of old files alone: section 2 of a file with a rate stands 4 bytes later, its head tells the rate, and place 2 is -4 too
+  pub new-section : (saySection thirtyFive 1 14 2 ≡ Done 28 1) × (sectionIn thirtyFive 1 14 2 ≡ 248 ∷ [])
+  pub new-head : (t : HeadAnswer) → Told thirtyFive t → (t .answer ≡ say 0 0 0) × Tells t 1 2 5 14 1000
+  pub new-sample : {q : PeekAnswer} → Peek thirtyFive 1 14 2 q → (q .answer ≡ say 0 0 0) × (q .sample ≡ neg 4)
   -- one sample that is a byte of the file at its place, 0, or a deepest approximation: the whole file has -4 at place 2
   pub one-sample : {q : PeekAnswer} → Peek thirtyOne 1 14 2 q → (q .answer ≡ say 0 0 0) × (q .sample ≡ neg 4)
   -- or the recording's own, 3, of a file that was cut: its first 27 bytes have level 1, -3 at place 1, and no place 3

@@ -69,20 +69,18 @@ pub record File : Type 0 where
 -- the same as a file with a rate
 pub record NewFile : Type 0 where
   pub bytes : fileOf Cdf53I8 2 14 1000 five ≡ thirtyFive
-  pub short : (b : ℕ) → b ≤ 23 → sayOpen (take b thirtyFive) 1 14 5 5 5 ≡ CutShort b
-  pub second : (b : ℕ) → 24 ≤ b → b ≤ 28 → OpensTo (take b thirtyFive) 1 14 5 5 5 2 2 (255 ∷ 3 ∷ [])
-  pub first : (b : ℕ) → 29 ≤ b → b ≤ 34 → OpensTo (take b thirtyFive) 1 14 5 5 5 1 3 (3 ∷ 253 ∷ 7 ∷ [])
+  pub cut : (b : ℕ) → b ≤ 23 → sayOpen (take b thirtyFive) 1 14 5 5 5 ≡ CutShort b
+  pub level2 : (b : ℕ) → 24 ≤ b → b ≤ 28 → OpensTo (take b thirtyFive) 1 14 5 5 5 2 2 (255 ∷ 3 ∷ [])
+  pub level1 : (b : ℕ) → 29 ≤ b → b ≤ 34 → OpensTo (take b thirtyFive) 1 14 5 5 5 1 3 (3 ∷ 253 ∷ 7 ∷ [])
   pub whole : OpensTo thirtyFive 1 14 5 5 5 0 5 five
   pub rate : (b : ℕ) → 24 ≤ b → b ≤ 35 → rateOpened (take b thirtyFive) 1 14 5 5 5 ≡ 1000
-  pub none : (b : ℕ) → b ≤ 23 → rateOpened (take b thirtyFive) 1 14 5 5 5 ≡ 0
+  pub refused-rate : (b : ℕ) → b ≤ 23 → rateOpened (take b thirtyFive) 1 14 5 5 5 ≡ 0
 
 -- the places of the new refusals among the others
 pub record NewChecks : Type 0 where
   -- "under 4 bytes or fewer than section 0 needs is 10, with 9 tested between them"
   pub three : sayOpen (11 ∷ 0 ∷ 0 ∷ []) 1 14 5 5 5 ≡ CutShort 3
   pub four : sayOpen (11 ∷ 0 ∷ 0 ∷ 0 ∷ []) 1 14 5 5 5 ≡ BadCount 0 11
-  pub thirteen : sayOpen (take 13 thirtyOne) 1 14 5 5 5 ≡ CutShort 13
-  pub seventeen : sayOpen (take 17 thirtyFive) 1 14 5 5 5 ≡ CutShort 17
   -- "18 for a stored rate of 0 in a new file, right after 11"; in the section lookup before 13
   pub no-rate : sayOpen unrated 1 14 5 5 5 ≡ NoRate
   pub before-sections : sayOpen (take 20 unrated) 1 14 5 5 5 ≡ NoRate
@@ -90,9 +88,10 @@ pub record NewChecks : Type 0 where
   pub before-number : saySection unrated 1 14 9 ≡ NoRate
   -- the head of a file never says it
   pub head : (t : HeadAnswer) → Told unrated t → (t .answer ≡ say 0 0 0) × (t .rate ≡ 0)
-  -- "in writing a rate of 0 is 18, first after the byte-length 9": before 6, 1, 4 and 7
-  pub written : sayWrite Cdf53I8 9 0 2 0 0 0 ≡ NoRate
-  pub ragged : sayWrite Cdf53I16 9 0 3 0 0 0 ≡ BadCount 0 3
+  -- "in writing a rate of 0 is 18, first after the byte-length 9": before 6, 4 and 7, and before 1; behind the 9 of the last area
+  pub long : sayWrite Cdf53I8 24 0 16777217 0 0 0 ≡ NoRate
+  pub few : sayWrite Cdf53I8 1 0 2 0 0 0 ≡ NoRate
+  pub ragged : sayWrite Cdf53I16 9 0 4 0 4 3 ≡ BadCount 0 3
   -- a rate of 1 is one
   pub least : sayWrite Cdf53I8 2 1 5 35 5 5 ≡ Done 0 0
 
