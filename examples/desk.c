@@ -9,11 +9,11 @@
  *                 drawn and marked with notes, and kept in a route book, where one is opened and one is withdrawn. An old file,
  *                 which has no rate, is opened too. One recording comes in pieces. Then the library is made to refuse with every
  *                 refusal's number
- *   desk FILE     what a pyramid file says of itself, the level that it opens at, and its overview
+ *   desk FILE     what a pyramid file says of itself, the level that it opens at, its rate and its overview
  *   desk --help   this
  *
- * It ends with 0 when all went well; `desk FILE` ends with the number of the refusal, 1 to 13 or 18, where the library refuses the
- * file. 64: the call is wrong, or the file cannot be read. 70: no memory, an answer that was not expected, or what it prints
+ * It ends with 0 when all went well; `desk FILE` ends with the number of the refusal, one of 1, 4, 6, 8, 9, 10, 12 and 18, where the
+ * library refuses the file. 64: the call is wrong, or the file cannot be read. 70: no memory, an answer that was not expected, or what it prints
  * could not be written.
  */
 #include <stdio.h>

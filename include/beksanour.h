@@ -5,7 +5,9 @@
  * bk_pyramid_write_i32 take one number more, the sampling rate, after the point; and bk_pyramid_open returns a bk_opened, the
  * answer and the rate, and no longer a bk_answer. Whatever calls one of them must be compiled again with this header. Code that was
  * compiled with an earlier one hands over its areas at wrong places, or has too little room for what is returned. It does not start
- * with the shared library, which has both numbers of the version in its name; with the static one it links. CHANGELOG.md has more.
+ * with the shared library, which has both numbers of the version in its name; with the static one it links. So does code that was
+ * compiled with this header and an earlier static library: replace header and library together. CHANGELOG.md has more, and how to
+ * ask a library which one it is.
  *
  * Every call takes numbers and byte slices that the caller lends, each slice as a pointer and its length in bytes. It keeps
  * nothing between calls, no pointer either, needs no heap, may be called from any thread, and ends for every input with an answer:
@@ -56,18 +58,20 @@
  *
  * Old and new files, and the rate. A pyramid file is of one of two kinds. A new file has the sampling rate in its section 0, whose
  * count is 14; an old file has no rate, and its count is 10. Versions before 0.10.0 wrote old files. The write calls here write
- * new files alone, and every other call takes both kinds. A rate is in millihertz: 25,600 samples a second are 25600000, and
- * 4294967295 is the most. It is that of the recording, at whatever level the file opens, and no sample depends on it. Beside a
- * file that opens, 0 means an old file; beside a refusal it is always 0. In a new file 0 is no rate: it is refused with 18, and so
- * is writing it. A version before 0.10.0 refuses a new file, with 9 (0, 14), under 14 bytes with 10, over 67,108,974 bytes with 6,
- * and gives no sample of it; and it refuses a book that holds one, with 9 (0, 0).
+ * new files alone, and every other call that takes a file takes both kinds. A rate is in millihertz: 25,600 samples a second are
+ * 25600000, and 4294967295 is the most. It is that of the recording, at whatever level the file opens, and no sample depends on
+ * it. Beside a file that opens, 0 means an old file; beside a refusal it is always 0. In a new file 0 is no rate: it is refused
+ * with 18, and so is writing it: a recording whose rate is not known cannot be written. A version before 0.10.0 refuses a new file,
+ * with 9 (0, 14), under 14 bytes with 10, over 67,108,974 bytes with 6, and gives no sample of it; and it refuses a book as long
+ * as that holds one, with 9 (0, 0).
  *
  * How much room. A slice may be lent with length 0 to ask. bk_pyramid_open with three empty areas answers 7 (0, count) for a file
- * that opens, with the rate 0 beside it, as beside every refusal; and a write with an empty file answers 7 (0, size); nothing is
- * changed. The same refusal comes for areas that are merely too short. A book does not tell so: its 7 always says 904, and 14 says
- * no number. A book for given files needs 904 bytes and the sizes of the files; the first number of bk_book_room is the most bytes
- * that an add may still take, while fewer than 64 points are held. Do not ask so with a piece of a recording: one that writes no
- * coefficient needs no room, and is taken. bk_stream_written says beforehand what a piece writes.
+ * that opens, with the rate 0 beside it, as beside every refusal: the rate of a file that is not opened is in its head. A write
+ * with an empty file, where nothing before 7 refuses it, answers 7 (0, size). Nothing is changed. The same refusal comes for areas
+ * that are merely too short. A book does not tell so: its 7 always says 904, and 14 says no number. A book for given files needs
+ * 904 bytes and the sizes of the files; the first number of bk_book_room is the most bytes that an add may still take, while fewer
+ * than 64 points are held. Do not ask so with a piece of a recording: one that writes no coefficient needs no room, and is taken.
+ * bk_stream_written says beforehand what a piece writes.
  *
  * Which band is wrong. 2 is said of the approximations and 17 of the details, 2 first. Forward and dwt know the length of a level,
  * so the number names the band. The inverse and multi_idwt go back, and know it only as the sum of the two bands: they say 17 only
@@ -129,9 +133,9 @@ extern "C" {
 #define BK_VERSION_PATCH 0
 
 /*
- * What every call returns. `number` is 0 when the call is done, else the number of the first check that refused; the checks
- * are made in the order in which a call's comment lists them. `first` and `second` are 0 unless the table, or a call that is
- * done, says otherwise.
+ * What every call returns, alone or as the field answer of a struct. `number` is 0 when the call is done, else the number of the
+ * first check that refused; the checks are made in the order in which a call's comment lists them. `first` and `second` are 0
+ * unless the table, or a call that is done, says otherwise.
  */
 typedef struct bk_answer {
     uint32_t number;
@@ -577,6 +581,8 @@ bk_answer bk_stream_finish_i32(uint8_t *state, size_t state_bytes, uint8_t *appr
  *   4              more levels: fewer levels in the recording than asked
  * After 8 these are what the write answers for the same samples and levels, where its rate is not 0: there is no 18 here.
  *
+ * Changed in 0.10.0: 4 more than before. To hold the length of an old file to it, take 4 off.
+ *
  * For example, 5 samples of 1 byte at 2 levels are 35 bytes.
  */
 bk_answer bk_pyramid_size(uint32_t width, uint64_t n, uint32_t levels);
@@ -635,6 +641,9 @@ typedef struct bk_head {
  *   9 (0, found)     the count of section 0 is neither 10 nor 14: this is no pyramid file
  *   10 (length, 0)   section 0 is not whole: under 14 bytes where its count is 10, under 18 where it is 14
  * There is no 18: a stored rate of 0 is given as it is.
+ *
+ * Changed in 0.10.0: the rate, which was always 0; a new file needs 18 bytes here, where 14 were enough; 9 and 10, and the limit,
+ * as in bk_pyramid_open.
  */
 bk_head bk_pyramid_head(const uint8_t *file, size_t file_bytes);
 
@@ -700,7 +709,7 @@ typedef struct bk_sample {
  * sample takes a few bytes of each level, however long the recording is. Done: first and second are 0, and the sample stands
  * beside them; look at the number first, since 0 is a sample too.
  *
- * The answer tells neither the level nor the rate. It is the recording's own sample where the file is whole, that is where
+ * The answer tells neither the level nor the rate. The sample is the recording's own where the file is whole, that is where
  * file_bytes is what bk_pyramid_size says of the head's width, samples and levels, or 4 less for an old file, whose head has the
  * rate 0. Where the file was cut, ask bk_pyramid_open once which level is left, and then here for the column that bk_note_column
  * gives at that level.
@@ -708,6 +717,8 @@ typedef struct bk_sample {
  * Refused, in this order: as bk_pyramid_open from 6 (over 67,108,978 bytes) to 12, then
  *   13 (place, count)   place is not one of 0 to count - 1; count is what bk_pyramid_open would give back
  * There is no 7, and 9 with 0 is section 0's count: there is no area here. 8 with two equal numbers as in bk_pyramid_open.
+ *
+ * Changed in 0.10.0: new files, 18, 9, 10 and the limit, as in bk_pyramid_open.
  *
  * For example, of the 35 bytes that bk_pyramid_write_i8 makes of 0, 3, -4, 1, 7 at 2 levels for point 14, at any rate, place 2 is
  * -4. Of their first 31 bytes, which open at level 1 with 3 samples, place 1 is -3, and place 3 is refused with 13 (3, 3).
@@ -727,6 +738,8 @@ bk_sample bk_pyramid_sample(const uint8_t *file, size_t file_bytes, uint32_t wid
  * Which 10 it is: where bk_pyramid_head answers 10 too, section 0 is not whole; else the section asked for is not, and one with a
  * smaller number may still be. 8 with two equal numbers as in bk_pyramid_open. 9 with 0 is section 0's count: there is no area
  * here.
+ *
+ * Changed in 0.10.0: new files, 18, 9, 10 and the limit, as in bk_pyramid_open.
  */
 bk_answer bk_pyramid_section(const uint8_t *file, size_t file_bytes, uint32_t width, uint32_t point, uint32_t number);
 
@@ -737,7 +750,7 @@ bk_answer bk_pyramid_section(const uint8_t *file, size_t file_bytes, uint32_t wi
  * stands, bk_book_withdraw takes one out and moves those behind it down, and bk_book_room says how much room is free. A point is
  * found by its number alone, never by its place in a list. A withdrawal moves every file that was added after the withdrawn one,
  * with the same bytes. So a place holds only until the next bk_book_withdraw or bk_book_fresh: keep the number and find it again.
- * Do not test an old place by opening it: the bytes left there may open for a while. Adding moves nothing.
+ * Do not test a place from before by opening it: the bytes left there may open for a while. Adding moves nothing.
  *
  * The area is the book, and the library keeps nothing beside it. It needs no alignment, and may be copied, kept on a disk and lent
  * again elsewhere. It may be lent longer than before, which is more free room, or shorter, as long as the files that it holds fit.
@@ -749,10 +762,10 @@ bk_answer bk_pyramid_section(const uint8_t *file, size_t file_bytes, uint32_t wi
  * 64; from byte 4 on the entries, 14 bytes each: the first 14 bytes of the files that are held, in the order in which these were
  * added, then zeros; an entry does not have the rate, which is in the file alone; in bytes 900 to 903 how many bytes all these
  * files have, a u32; from byte 904 on the files, without gaps, in the order of the entries. What is behind them is free room: no
- * call reads it, and only bk_book_add writes it. A withdrawal wipes nothing: the last bytes of the old data, as many as the
- * withdrawn file had, stay behind the new data until a file is added over them. If it was the last file it stays there whole. The
- * free room is the end of the area, as many bytes as the first number of bk_book_room: overwrite these where that matters, or keep
- * on a disk only what is before them.
+ * call reads it, and only bk_book_add writes it. A withdrawal wipes nothing: the last bytes that the data had, as many as the
+ * withdrawn file had, stay behind what is left of it until a file is added over them. If it was the last file it stays there whole.
+ * The free room is the end of the area, as many bytes as the first number of bk_book_room: overwrite these where that matters, or
+ * keep on a disk only what is before them.
  *
  * Refused by every call, in this order, before what the call itself lists:
  *   6               the area has over 4,294,967,295 bytes
@@ -805,6 +818,8 @@ bk_answer bk_book_fresh(uint8_t *area, size_t area_bytes);
  * the file's where file_bytes is over 67,108,978; else the samples that its head says. 9 (0, 0) is the book's where bk_book_room
  * answers the same; where bk_book_room is done, and for every other 9, it is the file's. 14 is the 64 points where bk_book_room
  * says 64, else the free room.
+ *
+ * Changed in 0.10.0: new files, which need 4 bytes more room than old ones; 18, 9, 10 and the limit, as in bk_pyramid_open.
  */
 bk_answer bk_book_add(uint8_t *area, size_t area_bytes, const uint8_t *file, size_t file_bytes, uint32_t point);
 
