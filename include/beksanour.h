@@ -135,7 +135,8 @@ extern "C" {
 /*
  * What every call returns, alone or as the field answer of a struct. `number` is 0 when the call is done, else the number of the
  * first check that refused; the checks are made in the order in which a call's comment lists them. `first` and `second` are 0
- * unless the table, or a call that is done, says otherwise.
+ * unless the table, or a call that is done, says otherwise. Compare the fields of a struct and not its bytes: those between them
+ * are not written.
  */
 typedef struct bk_answer {
     uint32_t number;
