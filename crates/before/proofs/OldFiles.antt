@@ -1,5 +1,5 @@
--- Old files, and whatever else is not a new one, open as they did: what the opener says, and the samples that it gives. All that changed is at the ends: under 14
--- bytes, where a wrong count is 9 now, and over 67,108,974, which is no longer 6 up to 67,108,978.
+-- Old files, and whatever else is not a new one, open as they did: what the opener says, and the samples that it gives. What changed is at the ends: under 14 bytes,
+-- where a wrong count is 9 now, and over 67,108,974, where 6 is no longer said for the length up to 67,108,978.
 use mathlib.Core.Bool.{Bool, true, false, cond, not, _||_, _&&_}
 use mathlib.Core.List.{List, [], _∷_, _++_}
 use mathlib.Core.Logic.{⊎-elim}
@@ -80,8 +80,8 @@ module _ (s : List ℕ) (w p o u v : ℕ) where
   -- ---- what is refused at the start
 
   -- 14 bytes or more with a count that is neither: 9, as before
-  pub other-says : 14 ≤ length s → length s ≤ mostBefore → isCount (leAt 4 s 0) ≡ false → sayOpen s w p o u v ≡ sayBefore s w p o u v
-  other-says long short none =
+  pub same-other : 14 ≤ length s → length s ≤ mostBefore → isCount (leAt 4 s 0) ≡ false → sayOpen s w p o u v ≡ sayBefore s w p o u v
+  same-other long short none =
       let no = ap not none in
       let ten = ap not (neither (leAt 4 s 0) none) in
       alike
@@ -89,15 +89,15 @@ module _ (s : List ℕ) (w p o u v : ℕ) where
       ∙ by _ (le-ltb mostBefore (length s) short) (by _ (le-ltb (length s) 14 long) (stop _ ten refl)))
 
   -- under 4 bytes: 10, as before
-  pub few-says : length s < 4 → sayOpen s w p o u v ≡ sayBefore s w p o u v
-  few-says few =
+  pub same-few : length s < 4 → sayOpen s w p o u v ≡ sayBefore s w p o u v
+  same-few few =
       alike
       (sym (by _ (le-ltb mostBytes (length s) (omega arith)) (stop _ (lt-ltb (length s) 4 few) refl))
       ∙ by _ (le-ltb mostBefore (length s) (omega arith)) (stop _ (lt-ltb (length s) 14 (omega arith)) refl))
 
   -- 4 to 13 bytes with the count of either kind: 10, as before
-  pub short-says : 4 ≤ length s → length s < 14 → isCount (leAt 4 s 0) ≡ true → sayOpen s w p o u v ≡ sayBefore s w p o u v
-  short-says four short known =
+  pub same-short : 4 ≤ length s → length s < 14 → isCount (leAt 4 s 0) ≡ true → sayOpen s w p o u v ≡ sayBefore s w p o u v
+  same-short four short known =
       let need : length s < headIn s .body = ⊎-elim (λ (e : leAt 4 s 0 ≡ oldCount). omega arith) (λ (e : leAt 4 s 0 ≡ newCount). omega arith) (which-count (leAt 4 s 0) known) in
       alike
       (sym (by _ (le-ltb mostBytes (length s) (omega arith)) (by _ (le-ltb (length s) 4 four) (by _ (ap not known) (stop _ (lt-ltb (length s) (headIn s .body) need) refl))))
@@ -113,13 +113,18 @@ module _ (s : List ℕ) (w p o u v : ℕ) where
       )
 
   -- over the limit of now: 6, as before
-  pub long-says : mostBytes < length s → sayOpen s w p o u v ≡ sayBefore s w p o u v
-  long-says long =
+  pub same-long : mostBytes < length s → sayOpen s w p o u v ≡ sayBefore s w p o u v
+  same-long long =
       alike (sym (stop _ (lt-ltb mostBytes (length s) long) refl) ∙ stop _ (lt-ltb mostBefore (length s) (omega arith)) refl)
 
   -- over the limit of before: 6 then, whatever it is now
   pub over-said : mostBefore < length s → WholeAreas w o u v → sayBefore s w p o u v ≡ TooLong
   over-said over a = past-areas a .1 ∙ sym (stop _ (lt-ltb mostBefore (length s) over) refl)
+
+  -- with a count that is neither, within the limit of now: 9
+  pub over-other : mostBefore < length s → length s ≤ mostBytes → isCount (leAt 4 s 0) ≡ false → WholeAreas w o u v → sayOpen s w p o u v ≡ BadCount 0 (leAt 4 s 0)
+  over-other over within none a =
+      past-areas a .0 ∙ sym (by _ (le-ltb mostBytes (length s) within) (by _ (le-ltb (length s) 4 (omega arith)) (stop _ (ap not none) refl)))
 
 -- and bytes with the count 10 never open there: no old file is so long
 pub over-never : (s : List ℕ) → leAt 4 s 0 ≡ oldCount → mostBefore < length s → (w p o u v : ℕ) → done (sayOpen s w p o u v) ≡ true → ⊥
@@ -173,17 +178,17 @@ module _ (s : List ℕ) (count : leAt 4 s 0 ≡ oldCount) where
 
   -- 14 bytes of them or more, and no more than the limit of before
   module _ (long : 14 ≤ length s) (short : length s ≤ mostBefore) where
-    start-passes : Passing (startChecks s)
-    start-passes = (
+    start-pass : Passing (startChecks s)
+    start-pass = (
       le-ltb mostBytes (length s) (omega arith),
       (le-ltb (length s) 4 (omega arith), (ap (λ (c : ℕ). not (isCount c)) count, (le-ltb (length s) (headIn s .body) (omega (arith, count)), tt))),
     )
 
-    before-passes : Passing (startBefore s)
-    before-passes = (le-ltb mostBefore (length s) short, (le-ltb (length s) 14 long, (same (leAt 4 s 0) oldCount count, tt)))
+    before-pass : Passing (startBefore s)
+    before-pass = (le-ltb mostBefore (length s) short, (le-ltb (length s) 14 long, (same (leAt 4 s 0) oldCount count, tt)))
 
-    rate-passes : Passing (rateChecks s)
-    rate-passes = (ap (λ (c : ℕ). eqb c newCount && eqb (cond (eqb c newCount) (leAt 4 s 14) 0) 0) count, tt)
+    rate-pass : Passing (rateChecks s)
+    rate-pass = (ap (λ (c : ℕ). eqb c newCount && eqb (cond (eqb c newCount) (leAt 4 s 14) 0) 0) count, tt)
 
     -- all that is said from section 0's fields on
     abbrev after : Head → ℕ → ℕ → ℕ → ℕ → ℕ → Refusal
@@ -196,12 +201,12 @@ module _ (s : List ℕ) (count : leAt 4 s 0 ≡ oldCount) where
     now-says w p o u v =
         let way = wayChecks (wayIn s (headIn s)) (length s) ++ roomsFor w (countIn s) o u v in
         let end = Done (levelIn s) (countIn s) in
-        pass-on (startChecks s) (fieldChecks (headIn s) w p ++ (rateChecks s ++ way)) end start-passes
-        ∙ behind (fieldChecks (headIn s) w p) (rateChecks s ++ way) way end end (pass-on (rateChecks s) way end rate-passes)
+        pass-on (startChecks s) (fieldChecks (headIn s) w p ++ (rateChecks s ++ way)) end start-pass
+        ∙ behind (fieldChecks (headIn s) w p) (rateChecks s ++ way) way end end (pass-on (rateChecks s) way end rate-pass)
 
     before-says : (w p o u v : ℕ) → saidBefore s w p o u v ≡ after (headBefore s) w p o u v
     before-says w p o u v =
-        pass-on (startBefore s) (fieldChecks (headBefore s) w p ++ (wayChecks (wayIn s (headBefore s)) (length s) ++ roomsFor w (countBefore s) o u v)) (Done (levelBefore s) (countBefore s)) before-passes
+        pass-on (startBefore s) (fieldChecks (headBefore s) w p ++ (wayChecks (wayIn s (headBefore s)) (length s) ++ roomsFor w (countBefore s) o u v)) (Done (levelBefore s) (countBefore s)) before-pass
 
     -- the opener says what it said
     pub old-says : (w p o u v : ℕ) → sayOpen s w p o u v ≡ sayBefore s w p o u v

@@ -1,4 +1,5 @@
--- The opener as it was before C-17, when no file had a rate: document 01's opening checks, by that document's numbers. What C-17 did not change is pyramid's.
+-- The opener as it was before C-17, when no file had a rate: document 01's opening checks, by that document's numbers. What C-17 did not change is pyramid's; a
+-- later request that changes one of these keeps it here as it was.
 use mathlib.Core.Bool.{not}
 use mathlib.Core.List.{List, [], _∷_, _++_}
 use mathlib.Core.Path.{_≡_}
@@ -53,8 +54,8 @@ sayBefore s w p o u v = firstOf (areaChecks w o u v ++ (fileBefore s w p ++ room
 abbrev pub OpenBefore : List ℕ → ℕ → ℕ → List ℕ → List ℕ → List ℕ → Answer → List ℕ → List ℕ → List ℕ → Type 0
 OpenBefore s w p o u v = Call (sayBefore s w p (length o) (length u) (length v)) (w * countBefore s) (samplesBefore s ++ drop (w * countBefore s) o) o u v
 
--- "an old opener meets a new file with refusal 9 (10 under 14 bytes, 6 over 67,108,974) and never a wrong sample": the answer r to c bytes of one, or to as
--- many of its first, asked for the width w, and what is left of the areas
+-- "an old opener meets a new file with refusal 9 (10 under 14 bytes, 6 over 67,108,974) and never a wrong sample": the answer r to a new file of c bytes, or
+-- to its first c bytes, asked for the width w, and what is left of the areas
 pub record Met (c w : ℕ) (o g h : List ℕ) (r : Answer) (o′ g′ h′ : List ℕ) : Type 0 where
   pub nine : WholeAreas w (length o) (length g) (length h) → 14 ≤ c → c ≤ mostBefore → r ≡ say 9 0 14
   pub ten : WholeAreas w (length o) (length g) (length h) → c < 14 → r ≡ say 10 c 0

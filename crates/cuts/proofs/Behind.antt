@@ -23,7 +23,7 @@ use Rattle.cuts.specs.Sees.{Sampled, wayWithin}
 use Rattle.cuts.proofs.Sized.{body-length}
 use Rattle.cuts.proofs.CutWalk.{walk-cut, within-whole}
 use Rattle.cuts.proofs.Filed.{Recording}
-use Rattle.cuts.proofs.WrittenHead.{parts, head-of, head-passes}
+use Rattle.cuts.proofs.WrittenHead.{parts, head-of, head-pass}
 
 module _ {f : Filter} {l n p : ℕ} {x : List ℕ} (d : Recording f l n p x) {rate : ℕ} (hr : rate < 2 ^ 32) (t : List ℕ) (some : 1 ≤ length t)
     (short : fileSize (headSize rate) (widthOf f) l n + length t ≤ mostBytes) where
@@ -65,6 +65,6 @@ module _ {f : Filter} {l n p : ℕ} {x : List ℕ} (d : Recording f l n p x) {ra
       ap (λ (s : List ℕ). sayOpen s k p o u v) (ap (λ (s : List ℕ). s ++ t) (parts d hr) ∙ append-assoc (headOf k l n p rate) (bodyOf f l n x) t)
       ∙ pass-on (areaChecks k o u v) ((heads ++ ways) ++ rooms) end (whole-areas-pass k o u v (λ _. (a .output, a .first, a .second)))
       ∙ ap (λ (m : List Check). firstOf m end) (append-assoc heads ways rooms)
-      ∙ pass-on heads (ways ++ rooms) end (head-passes d hr rest (omega (arith, long)))
+      ∙ pass-on heads (ways ++ rooms) end (head-pass d hr rest (omega (arith, long)))
       ∙ ap (λ (v : Way). firstOf (wayChecks v (length y) ++ rooms) end) way
       ∙ sym (stop _ (lt-ltb (z + bodySize k l n) (length y) (omega (arith, long))) (ap Trailing (omega (arith, long))))

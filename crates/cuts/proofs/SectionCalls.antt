@@ -1,4 +1,5 @@
--- A section of what a done write left, cut or not, is the band that a done `multi_dwt` gives of the same samples and levels, where it stands in its output.
+-- A section of a file of either kind, cut or not, is a band of its recording; and of what a done write left, the one that a done `multi_dwt` gives of the same samples and
+-- levels, where it stands in its output.
 use mathlib.Core.Bool.{true, cond}
 use mathlib.Core.List.{List, []}
 use mathlib.Core.Path.{_≡_, sym, ap, subst, _∙_}

@@ -36,9 +36,9 @@ count-in : (c k l n p : ℕ) (m : List ℕ) → c < 2 ^ 32 → leAt 4 (commonOf 
 unfolding leAt leBytes
 count-in c k l n p m h = omega (arith, h)
 
-rate-in : (c k l n p r : ℕ) (m : List ℕ) → r < 2 ^ 32 → leAt 4 (commonOf c k l n p ++ (leBytes 4 r ++ m)) commonSize ≡ r
+stored-in : (c k l n p r : ℕ) (m : List ℕ) → r < 2 ^ 32 → leAt 4 (commonOf c k l n p ++ (leBytes 4 r ++ m)) commonSize ≡ r
 unfolding leAt leBytes
-rate-in c k l n p r m h = omega (arith, h)
+stored-in c k l n p r m h = omega (arith, h)
 
 count-known : (r : ℕ) → isCount (countBy r) ≡ true
 count-known r = ⊎-elim (λ (o : OldKind r). rw (o .count)) (λ (w : NewKind r). rw (w .count)) (either-kind r)
@@ -78,10 +78,10 @@ module _ {f : Filter} {l n p : ℕ} {x : List ℕ} (d : Recording f l n p x) {ra
   stored-of some =
       number-of 4 commonSize
       ∙ ap (λ (b : List ℕ). leAt 4 (commonOf (countBy rate) k l n p ++ (b ++ m)) commonSize) (new-kind rate some .behind)
-      ∙ rate-in (countBy rate) k l n p rate m hr
+      ∙ stored-in (countBy rate) k l n p rate m hr
 
   -- it says the rate
-  pub rate-of : rateIn y ≡ rate
+  rate-of : rateIn y ≡ rate
   rate-of = rate-by rate (leAt 4 y 0) (leAt 4 y commonSize) count-of stored-of .0
 
   -- and what was recorded
@@ -104,8 +104,8 @@ module _ {f : Filter} {l n p : ℕ} {x : List ℕ} (d : Recording f l n p x) {ra
   )
 
   -- so the checks of section 0 pass, where the whole is not too long
-  pub head-passes : length y ≤ mostBytes → Passing (headChecks y k p)
-  head-passes short =
+  pub head-pass : length y ≤ mostBytes → Passing (headChecks y k p)
+  head-pass short =
       pass-both (startChecks y) (fieldChecks (headIn y) k p ++ rateChecks y)
       (le-ltb mostBytes (length y) short, (le-ltb (length y) 4 (omega (arith, long)), (ap not (ap isCount count-of ∙ count-known rate), (le-ltb (length y) (headIn y .body) (omega (arith, long, count-of)), tt))))
       (pass-both (fieldChecks (headIn y) k p) (rateChecks y) (subst (λ (h : Head). Passing (fieldChecks h k p)) (sym head-of) fields-pass) (rate-by rate (leAt 4 y 0) (leAt 4 y commonSize) count-of stored-of .1, tt))
@@ -122,7 +122,7 @@ module _ {f : Filter} {l n p : ℕ} {x : List ℕ} (d : Recording f l n p x) {ra
   parts = file-parts f l p rate n x (d .size)
 
   -- it is not too long
-  pub most : size ≤ mostBytes
+  most : size ≤ mostBytes
   most = omega (arith, size-most rate, file-most f (d .integers) (headSize rate) l n (deep d hr []) (d .most))
 
   cut-long : (b : ℕ) → b ≤ size → length (take b s) ≡ b
@@ -147,7 +147,7 @@ module _ {f : Filter} {l n p : ℕ} {x : List ℕ} (d : Recording f l n p x) {ra
   heads-pass b c e =
       let rest = take (b - headSize rate) (bodyOf f l n x) in
       let short : length (y d hr rest) ≤ mostBytes = omega (arith, ap length (cut-is b c), cut-long b e, most) in
-      subst (λ (t : List ℕ). Passing (headChecks t (widthOf f) p)) (sym (cut-is b c)) (head-passes d hr rest short)
+      subst (λ (t : List ℕ). Passing (headChecks t (widthOf f) p)) (sym (cut-is b c)) (head-pass d hr rest short)
 
   -- cut in section 0: 10, whatever is checked after the start
   pub early : (b : ℕ) → b < headSize rate → (m : List Check) (e : Refusal) → firstOf (startChecks (take b s) ++ m) e ≡ CutShort b

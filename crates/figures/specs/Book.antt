@@ -22,8 +22,8 @@ abbrev pub newAt : ℕ → List ℕ
 newAt p = fileOf Cdf53I8 2 p 1000 five
 
 -- each call of the day and its answer. Shut out: a book that refuses everything; that gives 14 before 15; that finds by place in the list (after the withdrawal
--- point 15 stands first, and 14 is not found); that keeps the room of what was withdrawn; that takes a cut file; that takes both kinds to be of one size, or a file
--- whose rate is 0
+-- point 15 stands first, and 14 is not found); that keeps the room of what was withdrawn; that takes a cut file; that knows only old files; that takes both kinds
+-- to be of one size, or a file whose rate is 0
 abbrev pub day : List (BookCall × Answer)
 day =
     (add 14 (oldAt 14), say 0 0 0)

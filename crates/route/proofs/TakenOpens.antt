@@ -1,4 +1,5 @@
--- Demand 3 for a file taken from the book: what was written is taken, and each front of what finding names opens as each front of what was written.
+-- Demand 3 for a file taken from the book, of either kind: a file of a recording is taken, and each front of what finding names opens as each front of it; so of what was
+-- written.
 use mathlib.Core.Bool.{Bool, true, cond}
 use mathlib.Core.List.{List, [], _∷_}
 use mathlib.Core.Path.{_≡_, sym, ap, ap₂, subst, _∙_}
@@ -101,10 +102,10 @@ module _ (f : Filter) (l p rate : ℕ) (x : List ℕ) (i : Integers f) (bx : Byt
   file-is = file-in f l p rate x i bx hp hr fb u v a fb′ u′ v′ w z
 
   -- what it wrote is a file of the recording, and bytes
-  pub written-filed : Filed newSize f (levelsOf l) (length x / widthOf f) p x file
+  written-filed : Filed newSize f (levelsOf l) (length x / widthOf f) p x file
   written-filed = subst (Filed newSize f (levelsOf l) (length x / widthOf f) p x) (sym file-is) (written f l p rate x i bx hp hr fb u v a fb′ u′ v′ w z)
 
-  pub written-bytes : Bytes file
+  written-bytes : Bytes file
   written-bytes = subst Bytes (sym file-is) (file-bytes f i (levelsOf l) p rate x bx)
 
   -- and whole, for its point, so adding it is refused with 15 or 14 only: `whole-answers`
