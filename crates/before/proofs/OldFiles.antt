@@ -36,10 +36,10 @@ use Rattle.cuts.proofs.WrittenHead.{filed}
 use Rattle.cuts.proofs.Behind.{behind-file}
 use Rattle.before.specs.Openers.{mostBefore, headBefore, startBefore, fileBefore, levelBefore, countBefore, samplesBefore, sayBefore, OpenBefore}
 
--- two lists behind the same part
-behind : (l m₁ m₂ : List Check) (e₁ e₂ : Refusal) → firstOf m₁ e₁ ≡ firstOf m₂ e₂ → firstOf (l ++ m₁) e₁ ≡ firstOf (l ++ m₂) e₂
-behind [] m₁ m₂ e₁ e₂ h = h
-behind (p ∷ l) m₁ m₂ e₁ e₂ h = ap (λ (r : Refusal). cond (p .0) (p .1) r) (behind l m₁ m₂ e₁ e₂ h)
+-- two lists after the same part
+same-part : (l m₁ m₂ : List Check) (e₁ e₂ : Refusal) → firstOf m₁ e₁ ≡ firstOf m₂ e₂ → firstOf (l ++ m₁) e₁ ≡ firstOf (l ++ m₂) e₂
+same-part [] m₁ m₂ e₁ e₂ h = h
+same-part (p ∷ l) m₁ m₂ e₁ e₂ h = ap (λ (r : Refusal). cond (p .0) (p .1) r) (same-part l m₁ m₂ e₁ e₂ h)
 
 -- a count that is neither is not 10
 neither : (c : ℕ) → isCount c ≡ false → eqb c oldCount ≡ false
@@ -55,7 +55,7 @@ way-long s k l n at (Went q) e h c = omega (arith, walk-size l s k n at q h (sym
 way-long s k l n at (Short j) e h c = omega (arith, walk-below l s k n at j h (sym e))
 way-long s k l n at (Wrong j found) e h c = off (c .0) refl
 
--- what both openers say, behind the areas
+-- what both openers say, after the areas
 module _ (s : List ℕ) (w p o u v : ℕ) where
   abbrev saysNow : Refusal
   saysNow = firstOf (fileChecks s w p ++ roomsFor w (countIn s) o u v) (Done (levelIn s) (countIn s))
@@ -66,7 +66,7 @@ module _ (s : List ℕ) (w p o u v : ℕ) where
   alike : saysNow ≡ saidBefore → sayOpen s w p o u v ≡ sayBefore s w p o u v
   unfolding sayOpen sayBefore
   alike h =
-      behind (areaChecks w o u v) (fileChecks s w p ++ roomsFor w (countIn s) o u v) (fileBefore s w p ++ roomsFor w (countBefore s) o u v) (Done (levelIn s) (countIn s))
+      same-part (areaChecks w o u v) (fileChecks s w p ++ roomsFor w (countIn s) o u v) (fileBefore s w p ++ roomsFor w (countBefore s) o u v) (Done (levelIn s) (countIn s))
       (Done (levelBefore s) (countBefore s)) h
 
   past-areas : WholeAreas w o u v → (sayOpen s w p o u v ≡ saysNow) × (sayBefore s w p o u v ≡ saidBefore)
@@ -79,21 +79,26 @@ module _ (s : List ℕ) (w p o u v : ℕ) where
 
   -- ---- what is refused at the start
 
+  -- a count that is neither, with 4 bytes or more and within the limit: 9 now
+  nine-now : 4 ≤ length s → length s ≤ mostBytes → isCount (leAt 4 s 0) ≡ false → saysNow ≡ BadCount 0 (leAt 4 s 0)
+  nine-now four within none = sym (by _ (le-ltb mostBytes (length s) within) (by _ (le-ltb (length s) 4 four) (stop _ (ap not none) refl)))
+
+  -- under 14 bytes: 10 before; over the limit of before: 6
+  ten-before : length s < 14 → saidBefore ≡ CutShort (length s)
+  ten-before short = sym (by _ (le-ltb mostBefore (length s) (omega arith)) (stop _ (lt-ltb (length s) 14 short) refl))
+
+  six-before : mostBefore < length s → saidBefore ≡ TooLong
+  six-before over = sym (stop _ (lt-ltb mostBefore (length s) over) refl)
+
   -- 14 bytes or more with a count that is neither: 9, as before
   pub same-other : 14 ≤ length s → length s ≤ mostBefore → isCount (leAt 4 s 0) ≡ false → sayOpen s w p o u v ≡ sayBefore s w p o u v
   same-other long short none =
-      let no = ap not none in
       let ten = ap not (neither (leAt 4 s 0) none) in
-      alike
-      (sym (by _ (le-ltb mostBytes (length s) (omega arith)) (by _ (le-ltb (length s) 4 (omega arith)) (stop _ no refl)))
-      ∙ by _ (le-ltb mostBefore (length s) short) (by _ (le-ltb (length s) 14 long) (stop _ ten refl)))
+      alike (nine-now (omega arith) (omega arith) none ∙ by _ (le-ltb mostBefore (length s) short) (by _ (le-ltb (length s) 14 long) (stop _ ten refl)))
 
   -- under 4 bytes: 10, as before
   pub same-few : length s < 4 → sayOpen s w p o u v ≡ sayBefore s w p o u v
-  same-few few =
-      alike
-      (sym (by _ (le-ltb mostBytes (length s) (omega arith)) (stop _ (lt-ltb (length s) 4 few) refl))
-      ∙ by _ (le-ltb mostBefore (length s) (omega arith)) (stop _ (lt-ltb (length s) 14 (omega arith)) refl))
+  same-few few = alike (sym (by _ (le-ltb mostBytes (length s) (omega arith)) (stop _ (lt-ltb (length s) 4 few) refl)) ∙ sym (ten-before (omega arith)))
 
   -- 4 to 13 bytes with the count of either kind: 10, as before
   pub same-short : 4 ≤ length s → length s < 14 → isCount (leAt 4 s 0) ≡ true → sayOpen s w p o u v ≡ sayBefore s w p o u v
@@ -101,30 +106,24 @@ module _ (s : List ℕ) (w p o u v : ℕ) where
       let need : length s < headIn s .body = ⊎-elim (λ (e : leAt 4 s 0 ≡ oldCount). omega arith) (λ (e : leAt 4 s 0 ≡ newCount). omega arith) (which-count (leAt 4 s 0) known) in
       alike
       (sym (by _ (le-ltb mostBytes (length s) (omega arith)) (by _ (le-ltb (length s) 4 four) (by _ (ap not known) (stop _ (lt-ltb (length s) (headIn s .body) need) refl))))
-      ∙ by _ (le-ltb mostBefore (length s) (omega arith)) (stop _ (lt-ltb (length s) 14 short) refl))
+      ∙ sym (ten-before short))
 
   -- and with any other count, which is what changed: 9 now, 10 before
   pub short-changed : 4 ≤ length s → length s < 14 → isCount (leAt 4 s 0) ≡ false → WholeAreas w o u v
       → (sayOpen s w p o u v ≡ BadCount 0 (leAt 4 s 0)) × (sayBefore s w p o u v ≡ CutShort (length s))
-  short-changed four short none a =
-      let q = past-areas a in (
-        q .0 ∙ sym (by _ (le-ltb mostBytes (length s) (omega arith)) (by _ (le-ltb (length s) 4 four) (stop _ (ap not none) refl))),
-        q .1 ∙ sym (by _ (le-ltb mostBefore (length s) (omega arith)) (stop _ (lt-ltb (length s) 14 short) refl)),
-      )
+  short-changed four short none a = let q = past-areas a in (q .0 ∙ nine-now four (omega arith) none, q .1 ∙ ten-before short)
 
   -- over the limit of now: 6, as before
   pub same-long : mostBytes < length s → sayOpen s w p o u v ≡ sayBefore s w p o u v
-  same-long long =
-      alike (sym (stop _ (lt-ltb mostBytes (length s) long) refl) ∙ stop _ (lt-ltb mostBefore (length s) (omega arith)) refl)
+  same-long long = alike (sym (stop _ (lt-ltb mostBytes (length s) long) refl) ∙ sym (six-before (omega arith)))
 
   -- over the limit of before: 6 then, whatever it is now
   pub over-said : mostBefore < length s → WholeAreas w o u v → sayBefore s w p o u v ≡ TooLong
-  over-said over a = past-areas a .1 ∙ sym (stop _ (lt-ltb mostBefore (length s) over) refl)
+  over-said over a = past-areas a .1 ∙ six-before over
 
   -- with a count that is neither, within the limit of now: 9
   pub over-other : mostBefore < length s → length s ≤ mostBytes → isCount (leAt 4 s 0) ≡ false → WholeAreas w o u v → sayOpen s w p o u v ≡ BadCount 0 (leAt 4 s 0)
-  over-other over within none a =
-      past-areas a .0 ∙ sym (by _ (le-ltb mostBytes (length s) within) (by _ (le-ltb (length s) 4 (omega arith)) (stop _ (ap not none) refl)))
+  over-other over within none a = past-areas a .0 ∙ nine-now (omega arith) within none
 
 -- and bytes with the count 10 never open there: no old file is so long
 pub over-never : (s : List ℕ) → leAt 4 s 0 ≡ oldCount → mostBefore < length s → (w p o u v : ℕ) → done (sayOpen s w p o u v) ≡ true → ⊥
@@ -202,7 +201,7 @@ module _ (s : List ℕ) (count : leAt 4 s 0 ≡ oldCount) where
         let way = wayChecks (wayIn s (headIn s)) (length s) ++ roomsFor w (countIn s) o u v in
         let end = Done (levelIn s) (countIn s) in
         pass-on (startChecks s) (fieldChecks (headIn s) w p ++ (rateChecks s ++ way)) end start-pass
-        ∙ behind (fieldChecks (headIn s) w p) (rateChecks s ++ way) way end end (pass-on (rateChecks s) way end rate-pass)
+        ∙ same-part (fieldChecks (headIn s) w p) (rateChecks s ++ way) way end end (pass-on (rateChecks s) way end rate-pass)
 
     before-says : (w p o u v : ℕ) → saidBefore s w p o u v ≡ after (headBefore s) w p o u v
     before-says w p o u v =

@@ -80,9 +80,9 @@ module _ {f : Filter} {l n p : ℕ} {x : List ℕ} (d : Recording f l n p x) {ra
       ∙ ap (λ (b : List ℕ). leAt 4 (commonOf (countBy rate) k l n p ++ (b ++ m)) commonSize) (new-kind rate some .behind)
       ∙ stored-in (countBy rate) k l n p rate m hr
 
-  -- it says the rate
-  rate-of : rateIn y ≡ rate
-  rate-of = rate-by rate (leAt 4 y 0) (leAt 4 y commonSize) count-of stored-of .0
+  -- it says the rate, and is not refused for it
+  rate-of : (rateIn y ≡ rate) × Passing (rateChecks y)
+  rate-of = let r = rate-by rate (leAt 4 y 0) (leAt 4 y commonSize) count-of stored-of in (r .0, (r .1, tt))
 
   -- and what was recorded
   pub head-of : headIn y ≡ record { width = k; levels = l; samples = n; point = p; body = z }
@@ -108,7 +108,7 @@ module _ {f : Filter} {l n p : ℕ} {x : List ℕ} (d : Recording f l n p x) {ra
   head-pass short =
       pass-both (startChecks y) (fieldChecks (headIn y) k p ++ rateChecks y)
       (le-ltb mostBytes (length y) short, (le-ltb (length y) 4 (omega (arith, long)), (ap not (ap isCount count-of ∙ count-known rate), (le-ltb (length y) (headIn y .body) (omega (arith, long, count-of)), tt))))
-      (pass-both (fieldChecks (headIn y) k p) (rateChecks y) (subst (λ (h : Head). Passing (fieldChecks h k p)) (sym head-of) fields-pass) (rate-by rate (leAt 4 y 0) (leAt 4 y commonSize) count-of stored-of .1, tt))
+      (pass-both (fieldChecks (headIn y) k p) (rateChecks y) (subst (λ (h : Head). Passing (fieldChecks h k p)) (sym head-of) fields-pass) (rate-of .1))
 
 -- a file of a recording, and its first b bytes
 module _ {f : Filter} {l n p : ℕ} {x : List ℕ} (d : Recording f l n p x) {rate : ℕ} (hr : rate < 2 ^ 32) where
@@ -141,7 +141,7 @@ module _ {f : Filter} {l n p : ℕ} {x : List ℕ} (d : Recording f l n p x) {ra
 
   -- the rate
   pub rate-read : (b : ℕ) → headSize rate ≤ b → rateIn (take b s) ≡ rate
-  rate-read b c = ap rateIn (cut-is b c) ∙ rate-of d hr (take (b - headSize rate) (bodyOf f l n x))
+  rate-read b c = ap rateIn (cut-is b c) ∙ rate-of d hr (take (b - headSize rate) (bodyOf f l n x)) .0
 
   heads-pass : (b : ℕ) → headSize rate ≤ b → b ≤ size → Passing (headChecks (take b s) (widthOf f) p)
   heads-pass b c e =
