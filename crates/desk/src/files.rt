@@ -31,16 +31,8 @@ pub extern "C" fn bk_pyramid_write_i8(
 ) -> Answer
     ensures { λ r. ⌜ Write Filter.Cdf53I8 levels point rate (now (x .entry)) (now (file .entry)) (now (one .entry)) (now (two .entry)) r (now (file .exit)) (now (one .exit)) (now (two .exit)) ⌝ }
 {
-    write(
-        Filter::Cdf53I8,
-        levels as usize,
-        point,
-        rate,
-        x,
-        file,
-        one,
-        two,
-    )
+    let l = levels as usize;
+    write(Filter::Cdf53I8, l, point, rate, x, file, one, two)
 }
 
 #[no_mangle]
@@ -55,16 +47,8 @@ pub extern "C" fn bk_pyramid_write_i16(
 ) -> Answer
     ensures { λ r. ⌜ Write Filter.Cdf53I16 levels point rate (now (x .entry)) (now (file .entry)) (now (one .entry)) (now (two .entry)) r (now (file .exit)) (now (one .exit)) (now (two .exit)) ⌝ }
 {
-    write(
-        Filter::Cdf53I16,
-        levels as usize,
-        point,
-        rate,
-        x,
-        file,
-        one,
-        two,
-    )
+    let l = levels as usize;
+    write(Filter::Cdf53I16, l, point, rate, x, file, one, two)
 }
 
 #[no_mangle]
@@ -79,16 +63,8 @@ pub extern "C" fn bk_pyramid_write_i32(
 ) -> Answer
     ensures { λ r. ⌜ Write Filter.Cdf53I32 levels point rate (now (x .entry)) (now (file .entry)) (now (one .entry)) (now (two .entry)) r (now (file .exit)) (now (one .exit)) (now (two .exit)) ⌝ }
 {
-    write(
-        Filter::Cdf53I32,
-        levels as usize,
-        point,
-        rate,
-        x,
-        file,
-        one,
-        two,
-    )
+    let l = levels as usize;
+    write(Filter::Cdf53I32, l, point, rate, x, file, one, two)
 }
 
 #[no_mangle]
