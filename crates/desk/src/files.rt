@@ -1,10 +1,11 @@
-// Pyramid files: writing, opening, one sample, where a section is, what a file says of itself, and its size.
+// Pyramid files: writing, opening, why one does not open, one sample, where a section is, what a file says of itself, and its size.
 ghost use mathlib.Core.Path.{_≡_};
 ghost use Rattle.answers.specs.Answers.{answerOf};
 ghost use Rattle.pyramid.specs.Writes.{Write};
 ghost use Rattle.pyramid.specs.Opens.{OpenGives, saySection};
 ghost use Rattle.heads.specs.Heads.{Told, saySize};
 ghost use Rattle.peek.specs.Peeks.{Peek};
+ghost use Rattle.why.specs.Reasons.{reasonOf};
 use answers::err::Answer;
 use dwt::filter::Filter;
 use heads::HeadAnswer;
@@ -15,6 +16,8 @@ use peek::peek;
 use pyramid::open::OpenAnswer;
 use pyramid::open::open;
 use pyramid::section::section_answer;
+use why::Reason;
+use why::why;
 use writes::write::write;
 
 // The pyramid file.
@@ -79,6 +82,14 @@ pub extern "C" fn bk_pyramid_open(
     ensures { λ r. ⌜ OpenGives (now (file .entry)) width point (now (out .entry)) (now (one .entry)) (now (two .entry)) r (now (out .exit)) (now (one .exit)) (now (two .exit)) ⌝ }
 {
     open(file, width as usize, point as usize, out, one, two)
+}
+
+// The first check that stopped the opener.
+#[no_mangle]
+pub extern "C" fn bk_pyramid_why(file: &[u8], width: u32, point: u32) -> Reason
+    ensures { λ r. ⌜ r ≡ reasonOf (now (file .entry)) width point ⌝ }
+{
+    why(file, width as usize, point as usize)
 }
 
 // One sample of what opening would give back.

@@ -48,7 +48,7 @@ one-went s w c k at p h e = first (ltb (length s - at) 4) refl e
     first false r e = second (not (eqb (leAt 4 s at) c)) r e
 
 -- what goes on from a walk that went on
-go-went : (v : Way) (g : ℕ → Way) (p : ℕ) → goOn v g ≡ Went p → (q : ℕ) × (v ≡ Went q) × (g q ≡ Went p)
+pub go-went : (v : Way) (g : ℕ → Way) (p : ℕ) → goOn v g ≡ Went p → (q : ℕ) × (v ≡ Went q) × (g q ≡ Went p)
 go-went (Went q) g p e = (q, refl, e)
 go-went (Short k) g p e = let z : _≡_ {A = ℕ} 0 1 = cc in absurd (let y : 1 ≤ 0 = omega arith in omega arith)
 go-went (Wrong k f) g p e = let z : _≡_ {A = ℕ} 0 1 = cc in absurd (let y : 1 ≤ 0 = omega arith in omega arith)

@@ -167,9 +167,12 @@ sectionChecks (Wrong j found) b = (true, BadCount j found) ∷ []
 abbrev pub numberChecks : ℕ → ℕ → List Check
 numberChecks j l = (eqb j 0, NoSuchPlace j (l + 1)) ∷ (ltb (l + 1) j, NoSuchPlace j (l + 1)) ∷ []
 
--- how many bytes section j has after its count, and where they start
+-- the count that section j has, how many bytes it has after that, and where they start
+abbrev pub countOf : Head → ℕ → ℕ
+countOf h j = lastCount (j - 1) (samplesTo h j)
+
 abbrev pub lengthOf : Head → ℕ → ℕ
-lengthOf h j = h .width * lastCount (j - 1) (samplesTo h j)
+lengthOf h j = h .width * countOf h j
 
 abbrev pub endBy : Way → ℕ
 endBy (Went p) = p

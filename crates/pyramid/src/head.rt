@@ -12,7 +12,7 @@ use samples::le::write_u32;
 // Its count in an old file, and in a new one, which has a rate.
 const OLD_COUNT: usize = 10;
 
-const NEW_COUNT: usize = 14;
+pub const NEW_COUNT: usize = 14;
 
 // Its bytes in a new file, with the count; and those that both kinds have, from the count through the point. The rate stands behind them.
 pub const NEW_SIZE: usize = 4 + NEW_COUNT;

@@ -5,7 +5,7 @@ ghost use lib.ListN.{length};
 ghost use Rattle.answers.specs.Answers.{answerOf};
 ghost use Rattle.answers.specs.Checks.{firstOf};
 ghost use Rattle.pyramid.specs.Walks.{lastCount};
-ghost use Rattle.pyramid.specs.Opens.{Read, samplesTo, wayTo, sectionChecks, numberChecks, lengthOf, startOf, saySection, sectionIn, sectionAt};
+ghost use Rattle.pyramid.specs.Opens.{Read, samplesTo, wayTo, sectionChecks, numberChecks, countOf, lengthOf, startOf, saySection, sectionIn, sectionAt};
 use crate::head::Head;
 use crate::head::head_in;
 use crate::open::check_head;
@@ -33,7 +33,7 @@ fn check_number(j: usize, l: usize) -> Refusal
 }
 
 // How many samples the sections up to section j restore.
-fn samples_to(h: Head, j: usize) -> usize
+pub fn samples_to(h: Head, j: usize) -> usize
     requires { ⌜ (j ≤ h .levels + 1) × (h .levels < 256) ⌝ }
     ensures { λ r. ⌜ (r ≡ samplesTo h j) × (r ≤ h .samples) ⌝ }
 {
@@ -56,13 +56,21 @@ fn last_count(levels: usize, n: usize) -> usize
     if levels == 0 { n } else { details_length(n) }
 }
 
+// The count that section j has.
+pub fn count_of(h: Head, j: usize) -> usize
+    requires { ⌜ (1 ≤ j) × (j ≤ h .levels + 1) × (h .levels < 256) ⌝ }
+    ensures { λ r. ⌜ (r ≡ countOf h j) × (r ≤ h .samples) ⌝ }
+{
+    last_count(j - 1, samples_to(h, j))
+}
+
 // How many bytes section j has after its count.
-fn length_of(h: Head, j: usize) -> usize
+pub fn length_of(h: Head, j: usize) -> usize
     requires { ⌜ (h .width < 256) × (h .levels < 256) × (h .samples < 4294967296) ⌝ }
     requires { ⌜ (1 ≤ j) × (j ≤ h .levels + 1) ⌝ }
     ensures { λ r. ⌜ r ≡ lengthOf h j ⌝ }
 {
-    h.width * last_count(j - 1, samples_to(h, j))
+    h.width * count_of(h, j)
 }
 
 // The way through section j, which ends at a place, is cut, or met a wrong count.

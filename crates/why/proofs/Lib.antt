@@ -1,0 +1,5 @@
+pub mod Places
+pub mod Keys
+pub mod Stops
+pub mod Walking
+pub mod Says

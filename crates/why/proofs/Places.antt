@@ -1,0 +1,40 @@
+-- Where the sections stand that section 0 tells of, from section 1 on.
+use mathlib.Core.Bool.{Bool}
+use mathlib.Core.Path.{_≡_, refl, sym, ap, _∙_}
+use Prim.Native.Nat.{ℕ, zero, suc, _+_, _-_, _*_, _≤_, _<_}
+use native.Mathlib.Nat.{mul-le-mul-left, mul-le-mul-right}
+use native.Mathlib.Omega.{arith}
+use Rattle.answers.specs.declared.err.Refusal.{Refusal}
+use Rattle.pyramid.specs.declared.head.Head.{Head}
+use Rattle.pyramid.specs.Opens.{samplesTo, countOf, lengthOf}
+use Rattle.pyramid.proofs.Sections.{last-most}
+use Rattle.why.specs.declared.Reason.{Reason}
+use Rattle.why.specs.Reasons.{endOf, placeOf, wantedOf, reasonBy}
+
+-- a byte times a u32
+pub small : (k n : ℕ) → k < 256 → n < 4294967296 → k * n < 1099511627776
+small k n p q = let a : k * n ≤ 256 * n = mul-le-mul-right n (omega arith) in omega arith
+
+-- the end by its parts
+pub end-is : (h : Head) (j : ℕ) → 1 ≤ j → endOf h j ≡ h .body + 4 * j + h .width * samplesTo h j
+end-is h zero one = absurd (omega arith)
+end-is h (suc j) one = omega arith
+
+-- a section's count and bytes are in front of its end
+pub count-before : (h : Head) (j : ℕ) → lengthOf h j ≤ h .width * samplesTo h j
+count-before h j = mul-le-mul-left (h .width) (last-most (j - 1) (samplesTo h j))
+
+pub place-is : (h : Head) (j : ℕ) → 1 ≤ j → placeOf h j ≡ endOf h j - 4 - lengthOf h j
+place-is h zero one = absurd (omega arith)
+place-is h (suc j) one = omega arith
+
+pub place-ends : (h : Head) (j : ℕ) → 1 ≤ j → placeOf h j + (4 + lengthOf h j) ≡ endOf h j
+place-ends h j one = omega (arith, count-before h j, place-is h j one, end-is h j one)
+
+pub wanted-is : (h : Head) (j : ℕ) → 1 ≤ j → wantedOf h j ≡ countOf h j
+wanted-is h zero one = absurd (omega arith)
+wanted-is h (suc j) one = refl
+
+-- the reason of the case that it is
+pub told : (t : Bool) (h : Head) (b : ℕ) {x : Reason} {r g : Refusal} → r ≡ g → x ≡ reasonBy t h b g → x ≡ reasonBy t h b r
+told t h b e q = q ∙ sym (ap (λ r. reasonBy t h b r) e)

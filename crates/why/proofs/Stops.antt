@@ -1,0 +1,45 @@
+-- Any list of checks: what holds of each refusal holds of what the list says; and the check that decides, with those before it, which all pass.
+use mathlib.Core.Bool.{Bool, true, false, cond}
+use mathlib.Core.List.{List, [], _∷_, _++_}
+use mathlib.Core.Path.{_≡_, refl, ap}
+use Rattle.answers.specs.declared.err.Refusal.{Refusal}
+use Rattle.answers.specs.Answers.{done}
+use Rattle.answers.specs.Checks.{Check, firstOf}
+use Rattle.answers.proofs.Passed.{Passing, off}
+
+-- of each refusal of the list
+abbrev pub Every : (Refusal → Type 0) → List Check → Type 0
+Every P [] = Unit {0}
+Every P (c ∷ l) = P (c .1) × Every P l
+
+pub first-by : (P : Refusal → Type 0) (l : List Check) (e : Refusal) → Every P l → P e → P (firstOf l e)
+first-by P [] e a h = h
+first-by P (c ∷ l) e a h = pick (c .0) (first-by P l e (a .1) h)
+  where
+    pick : (t : Bool) → P (firstOf l e) → P (cond t (c .1) (firstOf l e))
+    pick true rest = a .0
+    pick false rest = rest
+
+-- a list that goes on ends with what the rest says
+pub first-append : (l m : List Check) (e : Refusal) → firstOf (l ++ m) e ≡ firstOf l (firstOf m e)
+first-append [] m e = refl
+first-append (c ∷ l) m e = ap (λ r. cond (c .0) (c .1) r) (first-append l m e)
+
+-- the check of the list that says r: its test refuses, and all before it pass
+pub record StoppedBy (l : List Check) (r : Refusal) : Type 0 where
+  pub before : List Check
+  pub after : List Check
+  pub test : Bool
+  pub is : l ≡ before ++ ((test, r) ∷ after)
+  pub refuses : test ≡ true
+  pub passed : Passing before
+
+pub stopped : (l : List Check) (e : Refusal) → done e ≡ true → done (firstOf l e) ≡ false → StoppedBy l (firstOf l e)
+stopped [] e z h = off h z
+stopped (c ∷ l) e z h = pick (c .0) refl (λ g. stopped l e z g) h
+  where
+    pick : (t : Bool) → c .0 ≡ t → (done (firstOf l e) ≡ false → StoppedBy l (firstOf l e)) → done (cond t (c .1) (firstOf l e)) ≡ false → StoppedBy (c ∷ l) (cond t (c .1) (firstOf l e))
+    pick true q rest h = record { before = []; after = l; test = c .0; is = refl; refuses = q; passed = tt }
+    pick false q rest h =
+        let i = rest h in
+        record { before = c ∷ i .before; after = i .after; test = i .test; is = ap (λ m. c ∷ m) (i .is); refuses = i .refuses; passed = (q, i .passed) }
