@@ -4,7 +4,7 @@
 // A request is `NAME arg arg ..`, one space between. A number is decimal; a slice is `x` and its bytes
 // in lowercase hex, for a lent slice those it has before the call. The answer is `number first second`,
 // then for pyramid_head its five fields, for pyramid_open the rate, for pyramid_sample the sample, then
-// ` x..` for each lent slice after the call, in order. Else one of
+// ` x..` for each lent slice after the call, in order; of pyramid_why its five numbers. Else one of
 //   unknown NAME     no such function
 //   malformed NAME   the arguments are not of the function's shape
 //   broken NAME      the call wrote beside a slice, or into one that it may only read
@@ -169,6 +169,16 @@ static bk_answer call_rwwn(function f, const struct arg *a) {
     return s.answer;
 }
 
+// Its number as 32 bits: tests/desk/why.c looks at all 64.
+static bk_answer call_rww(function f, const struct arg *a) {
+    bk_reason r = ((bk_reason(*)(const uint8_t *, size_t, uint32_t, uint32_t))f)(
+        a[0].bytes, a[0].count, (uint32_t)a[1].number, (uint32_t)a[2].number);
+    fields[0] = (int64_t)r.wanted;
+    fields[1] = (int64_t)r.found;
+    fields_used = 2;
+    return (bk_answer){(uint32_t)r.number, r.section, r.place};
+}
+
 static const struct shape shape_n = {"n", call_n};
 static const struct shape shape_rmm = {"rmm", call_rmm};
 static const struct shape shape_rrm = {"rrm", call_rrm};
@@ -190,6 +200,7 @@ static const struct shape shape_rw = {"rw", call_rw};
 static const struct shape shape_area = {"r", call_area};
 static const struct shape shape_r = {"r", call_r};
 static const struct shape shape_rwwn = {"rwwn", call_rwwn};
+static const struct shape shape_rww = {"rww", call_rww};
 
 static const struct row {
     const char *name;
@@ -244,6 +255,7 @@ static const struct row {
     {"pyramid_write_i32", &shape_rwwwmmm, (function)bk_pyramid_write_i32},
     {"pyramid_size", &shape_wnw, (function)bk_pyramid_size},
     {"pyramid_head", &shape_r, (function)bk_pyramid_head},
+    {"pyramid_why", &shape_rww, (function)bk_pyramid_why},
     {"pyramid_open", &shape_rwwmmm, (function)bk_pyramid_open},
     {"pyramid_sample", &shape_rwwn, (function)bk_pyramid_sample},
     {"pyramid_section", &shape_rwww, (function)bk_pyramid_section},
