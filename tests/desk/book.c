@@ -9,15 +9,12 @@
 #include "beksanour.h"
 #include "drawn.h"
 #include "files.h"
+#include "huge.h"
 #include <stdio.h>
 #include <stdlib.h>
 #include <string.h>
 
-// What is used of Linux, for areas at their limit, of which only some pages are touched; the kit's clang has no header for it.
-void *mmap(void *at, size_t bytes, int access, int kind, int file, long offset);
-enum { READ_WRITE = 3, PRIVATE_UNRESERVED = 0x4022 };
-
-enum { POINTS = 64, ENTRY = 14, TOTAL_AT = 900, DATA_AT = 904, MOST = 40, MOST_FILE = 256, GUARD = 16, AREA = 16384 };
+enum { POINTS = 64, ENTRY = 14, TOTAL_AT = 900, DATA_AT = 904, GUARD = 16, AREA = 16384 };
 enum { MOST_BYTES = 67108978 }; // of any file
 static const uint64_t MOST_AREA = 4294967295;
 
@@ -28,65 +25,11 @@ static unsigned long asked[BK_NO_RATE + 1], cuts;
 
 static bk_answer say(uint32_t number, uint64_t first, uint64_t second) { return (bk_answer){number, first, second}; }
 
-// ---- files
-
-typedef struct {
-    uint8_t bytes[MOST_FILE];
-    size_t length;
-    uint32_t point;
-} pyramid;
-
-// From a to b.
-static uint32_t between(uint32_t a, uint32_t b) { return a + drawn() % (b - a + 1); }
-
-static uint32_t any_width(void) { return (uint32_t)1 << drawn() % 3; }
-
-static uint32_t any_kind(void) { return drawn() % 2 ? OLD : NEW; }
-
-static pyramid file_of(uint32_t kind, uint32_t width, uint32_t n, uint32_t levels, uint32_t point) {
-    uint8_t x[4 * MOST], work1[4 * MOST], work2[4 * MOST];
-    pyramid f = {{0}, (size_t)bk_pyramid_size(width, n, levels).first, point};
-    size_t bytes = (size_t)n * width;
-    for (size_t i = 0; i < bytes; i++) x[i] = (uint8_t)drawn();
-    bk_answer r = write_file(width, x, bytes, levels, point, any_rate(), f.bytes, MOST_FILE, work1, work2);
-    if (r.number) {
-        printf("a file was not written: %u\n", (unsigned)r.number);
-        exit(1);
-    }
-    if (kind == OLD) f.length = make_old(f.bytes, f.length);
-    return f;
-}
-
-// Of at most so many samples.
-static pyramid any_file(uint32_t most, uint32_t point) {
-    uint32_t width = any_width(), n = between(3, most), levels = between(1, (uint32_t)bk_cdf53_depth(n).first);
-    return file_of(any_kind(), width, n, levels, point);
-}
-
 // ---- what the header says
-
-// Approximations of so many levels of n samples.
-static uint64_t approximations(uint64_t n, uint32_t level) {
-    while (level--) n -= n / 2;
-    return n;
-}
-
-static uint32_t depth_of(uint64_t n) {
-    uint32_t depth = 0;
-    for (; n >= 3; n -= n / 2) depth++;
-    return depth;
-}
-
-// What the count of a section must be, from section 1 on.
-static uint64_t count_of(uint64_t n, uint32_t levels, uint32_t section) {
-    return section == 1 ? approximations(n, levels) : approximations(n, levels + 1 - section) / 2;
-}
 
 static uint64_t size_by(const uint8_t *head) {
     return 4 + (uint64_t)u32_at(head) + 4 * ((uint64_t)head[5] + 1) + head[4] * (uint64_t)u32_at(head + 6);
 }
-
-static int is_kind(uint32_t count) { return count == OLD || count == NEW; }
 
 // What is said of the fields that both kinds have, for the file's own width, before its point.
 static bk_answer of_fields(const uint8_t *head) {
@@ -640,22 +583,6 @@ static void compare_bytes(const char *what, const uint8_t *book, uint64_t from, 
         }
 }
 
-// Makes a whole file by its head and its counts alone; its samples are the bytes that stand there. How many bytes it has.
-static size_t make_whole(uint8_t *file, uint32_t kind, uint32_t width, uint32_t n, uint32_t levels, uint32_t point) {
-    size_t at = 4 + kind;
-    put_u32(file, kind);
-    file[4] = (uint8_t)width;
-    file[5] = (uint8_t)levels;
-    put_u32(file + 6, n);
-    put_u32(file + 10, point);
-    if (kind == NEW) put_u32(file + 14, 1000);
-    for (uint32_t section = 1; section <= levels + 1; section++) {
-        put_u32(file + at, (uint32_t)count_of(n, levels, section));
-        at += 4 + (size_t)(width * count_of(n, levels, section));
-    }
-    return at;
-}
-
 // Three files of 200,000, 3,000,001 and 18,000,002 bytes; the first is withdrawn, then the second. Every byte of the area is looked
 // at, also what a withdrawal leaves behind the data. `wanted` is the area that must be, and the files are added from there.
 static void compare_large(void) {
@@ -670,7 +597,7 @@ static void compare_large(void) {
     put_u32(wanted + TOTAL_AT, SUM);
     compare_answer("large: fresh", bk_book_fresh(book, LENGTH), say(BK_DONE, 0, 0));
     for (uint32_t i = 0; i < FILES; i++) {
-        size[i] = make_whole(wanted + at, files[i].kind, files[i].width, files[i].n, files[i].levels, 14 + i);
+        size[i] = make_whole(wanted + at, LENGTH - at, files[i].kind, files[i].width, files[i].n, files[i].levels, 14 + i);
         memcpy(wanted + 4 + ENTRY * i, wanted + at, ENTRY);
         compare_answer("large: add", bk_book_add(book, LENGTH, wanted + at, size[i], 14 + i), say(BK_DONE, 0, 0));
         at += size[i];
@@ -718,11 +645,7 @@ static void put_longest(uint8_t *book, uint32_t kind, uint32_t count, uint32_t n
 static void compare_longest(void) {
     static uint8_t front[LOOKED];
     const uint64_t most_file = MOST_BYTES, old_file = most_file - 4, sum = 63 * most_file;
-    uint8_t *book = mmap(NULL, (size_t)MOST_AREA + LOOKED, READ_WRITE, PRIVATE_UNRESERVED, -1, 0);
-    if (book == (uint8_t *)-1) {
-        printf("there is no room for an area of 4,294,967,295 bytes and what is behind it\n");
-        exit(1);
-    }
+    uint8_t *book = huge_slice((size_t)MOST_AREA + LOOKED);
     pyramid f = file_of(NEW, 1, 5, 2, 14), last = file_of(OLD, 2, 5, 2, 63);
     const bk_answer done = {BK_DONE, 0, 0}, too_long = {BK_TOO_LONG, 0, 0}, bad = {BK_BAD_COUNT, 0, 0}, full = {BK_BOOK_FULL, 0, 0};
     compare_long("fresh, too long", book, front, bk_book_fresh(book, MOST_AREA + 1), too_long);
@@ -772,7 +695,7 @@ static void compare_longest(void) {
     compare_long("room, a file of too many samples", book, front, bk_book_room(book, MOST_AREA), bad);
     // 62 files of the most bytes, and a 63rd, for which the area is a byte too short, then just long enough; a 64th would end past
     // 2^32, at 8,200 as far as four bytes tell it
-    make_whole(longest, NEW, 4, BK_MOST_SAMPLES, 23, 62);
+    make_whole(longest, sizeof longest, NEW, 4, BK_MOST_SAMPLES, 23, 62);
     memset(longest + MOST_BYTES - LOOKED, 0xa5, LOOKED);
     put_longest(book, NEW, 62, BK_MOST_SAMPLES);
     memcpy(front, book, DATA_AT);

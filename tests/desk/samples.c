@@ -9,7 +9,7 @@
 #include "files.h"
 #include <stdio.h>
 
-enum { MOST = 40, SIZE = 18 + 4 * 7 + 4 * MOST, POINT = 14 };
+enum { SIZE = 18 + 4 * 7 + 4 * MOST, POINT = 14 };
 
 static unsigned long done, refused, without_rate;
 

@@ -10,13 +10,10 @@
 // Call: tests/desk/program stream
 #include "beksanour.h"
 #include "drawn.h"
+#include "huge.h"
 #include <stdio.h>
 #include <stdlib.h>
 #include <string.h>
-
-// What is used of Linux, for slices of 4 GiB, of which only some pages are touched; the kit's clang has no header for it.
-void *mmap(void *at, size_t bytes, int access, int kind, int file, long offset);
-enum { READ_WRITE = 3, PRIVATE_UNRESERVED = 0x4022 };
 
 enum { STATE = 16, LIMIT = 16777216, GUARD = 16, MOST = 66000, LONG = 6000, SMALL = 10, FRONT = 16, BLANK = 0x5a };
 
@@ -51,9 +48,6 @@ static void put_u32(uint8_t *p, uint32_t v) {
 }
 
 static bk_answer say(uint32_t number, uint64_t first, uint64_t second) { return (bk_answer){number, first, second}; }
-
-// From a to b.
-static uint32_t between(uint32_t a, uint32_t b) { return a + drawn() % (b - a + 1); }
 
 // ---- numbers of a width
 
@@ -660,12 +654,8 @@ static void compare_written(void) {
 int main(void) {
     static const uint32_t of_pieces[] = {BK_DONE, BK_TOO_LONG, BK_NO_ROOM, BK_BAD_COUNT};
     static const uint32_t of_ends[] = {BK_DONE, BK_MIN_FILTER_SIZE, BK_NO_ROOM, BK_BAD_COUNT};
-    uint8_t *huge = mmap(NULL, ((size_t)1 << 32) + STATE, READ_WRITE, PRIVATE_UNRESERVED, -1, 0);
+    uint8_t *huge = huge_slice(((size_t)1 << 32) + STATE);
     unsigned long refused = 0;
-    if (huge == (uint8_t *)-1) {
-        printf("there is no room for a slice of 4,294,967,312 bytes\n");
-        return 1;
-    }
     seed = 15;
     compare_written();
     for (calls = kinds; calls < kinds + 3; calls++) {
