@@ -12,26 +12,27 @@ static const uint32_t N = 16777216;
 
 typedef char most_is_new[BK_MOST_BYTES == NEW_BYTES ? 1 : -1];
 
-// A file: the count and the rate of section 0, and how many bytes are lent. What opening says of it, looking section 1 up, and adding
-// it to an empty book, which has no room for a whole one.
+// A file: the count and the rate of section 0, and how many bytes are lent. What opening says of it, looking section 1 up, adding
+// it to an empty book, which has no room for a whole one, and asking why.
 static const struct {
     uint32_t count, rate;
     size_t bytes;
     bk_answer open, section, add;
+    bk_reason why;
 } rows[] = {
-    {OLD, 0, OLD_BYTES - 1, {7, 0, 8388608}, {0, 18, 8}, {10, OLD_BYTES - 1, 0}},
-    {OLD, 0, OLD_BYTES, {7, 0, 16777216}, {0, 18, 8}, {14, 0, 0}},
-    {OLD, 0, OLD_BYTES + 1, {12, 1, 0}, {0, 18, 8}, {12, 1, 0}},
-    {OLD, 0, OLD_BYTES + 4, {12, 4, 0}, {0, 18, 8}, {12, 4, 0}},
-    {OLD, 0, OLD_BYTES + 5, {6, 0, 0}, {6, 0, 0}, {6, 0, 0}},
-    {NEW, 1000, OLD_BYTES, {7, 0, 8388608}, {0, 22, 8}, {10, OLD_BYTES, 0}},
-    {NEW, 1000, NEW_BYTES - 1, {7, 0, 8388608}, {0, 22, 8}, {10, NEW_BYTES - 1, 0}},
-    {NEW, 1000, NEW_BYTES, {7, 0, 16777216}, {0, 22, 8}, {14, 0, 0}},
-    {NEW, 1000, NEW_BYTES + 1, {6, 0, 0}, {6, 0, 0}, {6, 0, 0}},
-    {NEW, 0, NEW_BYTES, {18, 0, 0}, {18, 0, 0}, {18, 0, 0}},
-    {NEW, 0, NEW_BYTES + 1, {6, 0, 0}, {6, 0, 0}, {6, 0, 0}},
-    {11, 0, NEW_BYTES, {9, 0, 11}, {9, 0, 11}, {9, 0, 11}},
-    {11, 0, NEW_BYTES + 1, {6, 0, 0}, {6, 0, 0}, {6, 0, 0}},
+    {OLD, 0, OLD_BYTES - 1, {7, 0, 8388608}, {0, 18, 8}, {10, OLD_BYTES - 1, 0}, {0, 24, OLD_BYTES - 1, 1, 0}},
+    {OLD, 0, OLD_BYTES, {7, 0, 16777216}, {0, 18, 8}, {14, 0, 0}, {0, 0, 0, 0, 0}},
+    {OLD, 0, OLD_BYTES + 1, {12, 1, 0}, {0, 18, 8}, {12, 1, 0}, {12, 24, OLD_BYTES, OLD_BYTES, OLD_BYTES + 1}},
+    {OLD, 0, OLD_BYTES + 4, {12, 4, 0}, {0, 18, 8}, {12, 4, 0}, {12, 24, OLD_BYTES, OLD_BYTES, OLD_BYTES + 4}},
+    {OLD, 0, OLD_BYTES + 5, {6, 0, 0}, {6, 0, 0}, {6, 0, 0}, {6, 0, 0, NEW_BYTES, OLD_BYTES + 5}},
+    {NEW, 1000, OLD_BYTES, {7, 0, 8388608}, {0, 22, 8}, {10, OLD_BYTES, 0}, {0, 24, OLD_BYTES, 4, 0}},
+    {NEW, 1000, NEW_BYTES - 1, {7, 0, 8388608}, {0, 22, 8}, {10, NEW_BYTES - 1, 0}, {0, 24, NEW_BYTES - 1, 1, 0}},
+    {NEW, 1000, NEW_BYTES, {7, 0, 16777216}, {0, 22, 8}, {14, 0, 0}, {0, 0, 0, 0, 0}},
+    {NEW, 1000, NEW_BYTES + 1, {6, 0, 0}, {6, 0, 0}, {6, 0, 0}, {6, 0, 0, NEW_BYTES, NEW_BYTES + 1}},
+    {NEW, 0, NEW_BYTES, {18, 0, 0}, {18, 0, 0}, {18, 0, 0}, {18, 0, 14, 1, 0}},
+    {NEW, 0, NEW_BYTES + 1, {6, 0, 0}, {6, 0, 0}, {6, 0, 0}, {6, 0, 0, NEW_BYTES, NEW_BYTES + 1}},
+    {11, 0, NEW_BYTES, {9, 0, 11}, {9, 0, 11}, {9, 0, 11}, {9, 0, 0, 14, 11}},
+    {11, 0, NEW_BYTES + 1, {6, 0, 0}, {6, 0, 0}, {6, 0, 0}, {6, 0, 0, NEW_BYTES, NEW_BYTES + 1}},
 };
 
 // Writing 16,777,216 samples of 8 bits and one more, with no area lent: the samples, the rate, and what is said.
@@ -74,6 +75,12 @@ static void make_file(uint32_t count, uint32_t rate) {
     }
 }
 
+static int reason_differs(size_t i, bk_reason r, bk_reason wanted) {
+    return differs("why", i, (bk_answer){(uint32_t)r.number, r.section, r.place},
+                   (bk_answer){(uint32_t)wanted.number, wanted.section, wanted.place}) ||
+           differs("what is wanted and found", i, (bk_answer){0, r.wanted, r.found}, (bk_answer){0, wanted.wanted, wanted.found});
+}
+
 static int row_differs(size_t i) {
     static uint8_t area[BK_BOOK_EMPTY + 1000];
     const bk_answer done = {0, 0, 0}, open = rows[i].open, past = {BK_NO_SUCH_PLACE, N, open.second};
@@ -88,6 +95,7 @@ static int row_differs(size_t i) {
            differs("section", i, bk_pyramid_section(file, bytes, 4, POINT, 1), rows[i].section) ||
            differs("head", i, head.answer, has_head ? done : open) ||
            differs("the rate of a head", i, (bk_answer){0, head.rate, 0}, (bk_answer){0, has_head ? rows[i].rate : 0, 0}) ||
+           reason_differs(i, bk_pyramid_why(file, bytes, 4, POINT), rows[i].why) ||
            differs("fresh", i, bk_book_fresh(area, sizeof area), done) ||
            differs("add", i, bk_book_add(area, sizeof area, file, bytes, POINT), rows[i].add);
 }
