@@ -27,7 +27,7 @@ def file_of(samples, width, levels, point, rate):
 # ---- asking the desk
 
 # A request, and the words its answer starts with: the three numbers, of an opening also the rate, and the first lent slice, where
-# it has one; of a recording in pieces all lent slices.
+# it has one; of a recording in pieces all lent slices; the five numbers of a reason.
 class Ask(NamedTuple):
     request: str
     wanted: list
@@ -35,7 +35,7 @@ class Ask(NamedTuple):
 
 class Tally:
     def __init__(self):
-        self.done = {"write": 0, "open": 0, "section": 0, "book": 0, "stream": 0}
+        self.done = {"write": 0, "open": 0, "why": 0, "section": 0, "book": 0, "stream": 0}
         self.refused = dict(self.done)
 
     def count(self, ask, answer):
@@ -76,9 +76,14 @@ def ask_section(data, width, point, number):
     return Ask(request("pyramid_section", [data], width, point, number), words(said))
 
 
-# The file opened, and every section that it could have and one beside on either end.
+def ask_why(data, width, point):
+    return Ask(request("pyramid_why", [data], width, point), words(reader.why(data, width, point)))
+
+
+# The file opened, asked why it does not open, and every section that it could have and one beside on either end.
 def ask_all(data, width, point, levels):
     yield ask_open(data, width, point)
+    yield ask_why(data, width, point)
     for number in range(levels + 3):
         yield ask_section(data, width, point, number)
 
@@ -390,7 +395,8 @@ def main():
     os.chdir(os.path.join(os.path.dirname(os.path.abspath(__file__)), ".."))
     source, tally = random.Random(asked.seed), Tally()
     compare((ask for part in PARTS for ask in part(source)), tally)
-    told = {"open": "opens", "section": "sections", "book": "calls of books", "stream": "calls of recordings in pieces"}
+    told = {"open": "opens", "why": "asked why", "section": "sections", "book": "calls of books"}
+    told["stream"] = "calls of recordings in pieces"
     print(f"ok format: {tally.done['write']} files, {', '.join(tally.told(verb, what) for verb, what in told.items())}")
 
 

@@ -7,9 +7,10 @@ import os
 import random
 
 import before
+import reader
 from pyramid import FORMATS, HEAD, LAST_U32, NEW, P5, U32, Ask, Tally
 from pyramid import any_point, any_rate, any_recording, compare, depth, file_of, look_up, open_file, own, packed, read_head
-from pyramid import read_sample, unpacked, wrapped, write
+from pyramid import read_sample, request, unpacked, wrapped, write
 
 LIMIT_BEFORE, LIMIT = 67_108_974, 67_108_978
 
@@ -51,6 +52,7 @@ def old_files(random):
             yield read_head(front)
             yield look_up(front, width, point, cut % (levels + 3))
             yield read_sample(front, width, point, cut % (len(samples) + 1))
+            yield Ask(request("pyramid_why", [front], width, point), reader.why(front, width, point), [])
 
 
 # The area of a book that holds these files, and behind them what it had.
@@ -128,7 +130,7 @@ def main():
     fronts = sum(refused_before(file, range(len(file) + 1)) for file in new)
     longest = (HEAD.pack(14, 4, 23, 2**24, 14) + U32.pack(1000)).ljust(LIMIT, b"\0")
     fronts += refused_before(longest, range(LIMIT_BEFORE - 1, LIMIT + 1))
-    told = f"{tally.opens} opens and {tally.samples} samples of old files, {tally.books} calls of an old book"
+    told = f"{tally.opens} opens, {tally.samples} samples and {tally.reasons} reasons of old files, {tally.books} calls of an old book"
     print(f"ok kinds: {told}, {tally.files} new files, {fronts} fronts of new files refused by the opener of before")
 
 

@@ -295,7 +295,7 @@ def read_head(file):
 class Tally:
     def __init__(self):
         self.files = self.opens = self.refused = self.sections = self.missing = self.sizes = self.heads = self.samples = 0
-        self.books = 0
+        self.books = self.reasons = 0
 
     def count(self, ask, answer):
         said = len(ask.said)
@@ -317,6 +317,8 @@ class Tally:
             self.heads += 1
         elif ask.request.startswith("pyramid_sample"):
             self.samples += 1
+        elif ask.request.startswith("pyramid_why"):
+            self.reasons += 1
         elif ask.request.startswith("book"):
             self.books += 1
         else:

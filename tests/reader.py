@@ -173,6 +173,39 @@ def section(data, width, point, number):
     return 0, at, size, data[at:at + size]
 
 
+def why_head(data, width, point, number):  # where section 0 or the whole length stopped, what was wanted and what was found
+    size = len(data)
+    if size > MOST_BYTES:
+        return 0, MOST_BYTES, size
+    if number == 10:
+        return size, (4 if size < 4 else 4 + u32(data, 0)) - size, 0
+    if number == 9:
+        return 0, NEW, u32(data, 0)
+    its_width, levels, n, its_point = struct.unpack_from("<BBII", data, 4)
+    return {
+        8: (4, width, its_width),
+        1: (6, 3, n),
+        6: (6, MOST_SAMPLES, n),
+        4: (5, depth(n), levels),
+        11: (10, point, its_point),
+        18: (14, 1, 0),
+    }[number]
+
+
+def why(data, width, point):  # of what opening says its number, section, place, wanted and found
+    if refusal := head(data, width, point):
+        return refusal[0], 0, *why_head(data, width, point, refusal[0])
+    refusal, whole = walk(data, data[5] + 1)
+    counts, size = counts_of(u32(data, 6), data[5]), len(data)
+    at, number = sum(whole[-1]) if whole else 4 + u32(data, 0), len(whole) + 1  # the first section that is not whole
+    if refusal:
+        return 9, number, at, counts[number - 1], refusal[2]
+    if number <= len(counts):
+        end = at + 4 if size < at + 4 else at + 4 + width * counts[number - 1]
+        return 0 if whole else 10, number, size, end - size, 0
+    return (12, len(counts), at, at, size) if size > at else (0, 0, 0, 0, 0)
+
+
 # The route book.
 
 
