@@ -635,10 +635,10 @@ typedef struct bk_head {
 } bk_head;
 
 /*
- * What section 0 of a pyramid file, or of the front of one, says. It is read and not judged: a done call does not say that the
- * file opens, nor that the width is 1, 2 or 4, nor that a new file has a rate other than 0, nor that so many samples follow;
- * bk_pyramid_open says that. The first 18 bytes are enough, of an old file the first 14. Done: first and second are 0, and the
- * fields are as stored; the rate of an old file is 0.
+ * What section 0 of a pyramid file, or of the front of one, says. It is read and not judged: a done call does not say that the file
+ * opens, nor that the width is 1, 2 or 4, nor that a new file has a rate other than 0, nor that so many samples follow;
+ * bk_pyramid_open says that, and bk_pyramid_why without areas. The first 18 bytes are enough, of an old file the first 14. Done:
+ * first and second are 0, and the fields are as stored; the rate of an old file is 0.
  *
  * Refused, in this order:
  *   6                over 67,108,978 bytes
@@ -687,9 +687,10 @@ typedef struct bk_opened {
  *   12 (left, 0)          bytes after the last section
  *   7 (have, count)       output holds fewer than count samples, then work1, then work2, both in samples
  * Which one it is: 9 (0, ..) is a length where one of the three byte lengths is ragged, else section 0's count; 9 with another
- * first number is that section's. 6 is the file's where file_bytes is over the limit, else the samples that its head says. 8
- * with two equal numbers: the file has the width that was asked, and it is not 1, 2 or 4. 10 always means that too little is
- * left: nothing of this file can be shown. bk_pyramid_why says the same without areas, with the byte, and what to do.
+ * first number is that section's. 6 is the file's where file_bytes is over the limit, else the samples that its head says. 8 with
+ * two equal numbers: the file has the width that was asked, and it is not 1, 2 or 4. 10 always means that too little is left:
+ * nothing of this file can be shown. bk_pyramid_why tells them apart too, says at which byte the file is wrong, and needs no area;
+ * its comment has what to do.
  *
  * Changed in 0.10.0: what is returned; new files are taken too; 18 is new. 4 to 13 bytes with a count of section 0 that is neither
  * 10 nor 14 are 9, and were 10. An old file with bytes behind it, 67,108,975 to 67,108,978 in all, is 12, and was 6.
@@ -742,7 +743,7 @@ typedef struct bk_reason {
  *   6       0                6                  16777216, the most      n
  *           No file has so many samples: fetch it again.
  *   8       0                4                  the width asked         the file's width
- *           If found is 1, 2 or 4, ask for that width. Else the byte there is damaged: fetch the file again.
+ *           If found is 1, 2 or 4, the file may be of that width: ask for it. Else the byte there is damaged: fetch the file again.
  *   9       0                0                  14                      the count of section 0
  *           This is no pyramid file, or the count is damaged: fetch it again. wanted is 14 also for what may have been an old file,
  *           whose count is 10. If nothing but the count is damaged, 14 put there mends a new file, and 10 an old one.
@@ -752,8 +753,8 @@ typedef struct bk_reason {
  *   10      0 or 1           file_bytes         bytes that are missing  0
  *           The file was cut too early, and nothing of it can be shown: fetch the rest, at least wanted bytes from byte place on.
  *   11      0                10                 the point asked         the file's point
- *           The file is of another point. If it is the file that you want, ask for found; else look for the file of wanted.
- *   12      levels + 1       the whole length   the same                file_bytes
+ *           The file says another point. If it is the file that you want, ask for found; else look for the file of wanted.
+ *   12      levels + 1       its proper length  the same                file_bytes
  *           The found - wanted bytes from byte place on do not belong to the file: cut them off, and it is whole.
  *   18      0                14                 1, the least            0
  *           A new file whose rate is 0. If you know the rate, put it there, in millihertz; else fetch the file again.
