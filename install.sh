@@ -17,8 +17,8 @@ Nothing else is written, but for target/ here. PREFIX is made where it is missin
 name may have no blank, comma, quote, backslash, $ or #, which pkg-config and the linker take apart.
 
   --library FILE   installs this library, which `rt staticlib desk` wrote before, and proves nothing; one that lacks a function of
-                   the header is refused. One of an earlier version that has them all is not: 0.9.0 has those of 0.10.0, and four
-                   take or return something else. So give one that was made of this version
+                   the header is refused, as every one of a version before 0.11.0 is, which lacks bk_pyramid_why. Nothing else
+                   of its version is looked at: give one that was made of this version
   --help           this
 
 It needs the Rattle kit (rt in the PATH; not with --library) and a C compiler for x86-64 Linux: $CC, else cc, else gcc.

@@ -7,14 +7,15 @@
  *
  *   desk          a tour: four recordings are made and kept as pyramid files, with their sampling rates. Files are cut, opened,
  *                 drawn and marked with notes, and kept in a route book, where one is opened and one is withdrawn. An old file,
- *                 which has no rate, is opened too. One recording comes in pieces. Then the library is made to refuse with every
- *                 refusal's number
- *   desk FILE     what a pyramid file says of itself, the level that it opens at, its rate and its overview
+ *                 which has no rate, is opened too. A file is damaged in every way that is found, and each time it is said why it
+ *                 does not open. One recording comes in pieces. Then the library is made to refuse with every refusal's number
+ *   desk FILE     what a pyramid file says of itself, the level that it opens at, its rate and its overview; and why, where it
+ *                 does not open, or opens cut
  *   desk --help   this
  *
- * It ends with 0 when all went well; `desk FILE` ends with the number of the refusal, one of 1, 4, 6, 8, 9, 10, 12 and 18, where the
- * library refuses the file. 64: the call is wrong, or the file cannot be read. 70: no memory, an answer that was not expected, or what it prints
- * could not be written.
+ * It ends with 0 when all went well; `desk FILE` ends with the number of the refusal, one of 1, 4, 6, 8, 9, 10, 12 and 18, where
+ * the library refuses the file. 64: the call is wrong, or the file cannot be read. 70: no memory, an answer that was not expected,
+ * or what it prints could not be written.
  */
 #include <stdio.h>
 #include <stdlib.h>
@@ -69,6 +70,92 @@ static void say_rate(uint32_t rate) {
         printf(", without a rate\n");
     else
         printf(", recorded at %lu.%03lu Hz\n", (unsigned long)(rate / 1000), (unsigned long)(rate % 1000));
+}
+
+/* ---- why a file does not open, or opens cut: each reason in one sentence, for the person at the desk */
+
+/* A cut: in which part the file stops, and how much is missing at least. */
+static void say_cut(bk_reason r) {
+    printf("The file stops at byte %llu, ", (unsigned long long)r.place);
+    if (r.section == 0)
+        printf("before its header is whole");
+    else if (r.section == 1)
+        printf("before its coarsest level is whole");
+    else
+        printf("before section %llu is whole, and opens with less detail", (unsigned long long)r.section);
+    printf(": at least %llu %s missing.\n", (unsigned long long)r.wanted, r.wanted == 1 ? "byte is" : "bytes are");
+}
+
+/* A width that is not the one asked: the file's own may be asked for, or is no width. */
+static void say_width(unsigned long long wanted, unsigned long long found) {
+    if (found == 1 || found == 2 || found == 4)
+        printf("The file has samples of %llu bits, and %llu bits were asked for.\n", 8 * found, 8 * wanted);
+    else
+        printf("The header says samples of %llu bits, and a file has 8, 16 or 32: fetch it again.\n", 8 * found);
+}
+
+/* A wrong count: the first of the file, or that of a section. */
+static void say_count(bk_reason r) {
+    if (r.section == 0)
+        printf("The file begins with the number %llu, and a pyramid file with %llu, or 10 if it is an old one.\n",
+               (unsigned long long)r.found, (unsigned long long)r.wanted);
+    else
+        printf("Section %llu counts %llu samples at byte %llu, and has %llu by the header: fetch the file again.\n",
+               (unsigned long long)r.section, (unsigned long long)r.found, (unsigned long long)r.place,
+               (unsigned long long)r.wanted);
+}
+
+/* A length above its limit: that of the file, of which no more than found bytes were read, or that of the recording. */
+static void say_too_long(bk_reason r) {
+    unsigned long long wanted = r.wanted, found = r.found;
+    if (r.place == 0)
+        printf("The file has %llu bytes or more, and no pyramid file has more than %llu.\n", found, wanted);
+    else
+        printf("The header says %llu samples, and no file has more than %llu: fetch it again.\n", found, wanted);
+}
+
+/* A reason as a sentence. */
+static void say_reason(bk_reason r) {
+    unsigned long long wanted = r.wanted, found = r.found;
+    switch (r.number) {
+    case BK_DONE:
+        if (r.section != 0)
+            say_cut(r);
+        else
+            printf("The file is whole.\n");
+        break;
+    case BK_MIN_FILTER_SIZE:
+        printf("The header says %llu samples, and no file has fewer than %llu: fetch it again.\n", found, wanted);
+        break;
+    case BK_BUFFER_WAS_TOO_SMALL_FOR_LEVEL:
+        printf("The header says %llu levels, and its recording has 1 to %llu: fetch the file again.\n", found, wanted);
+        break;
+    case BK_TOO_LONG: say_too_long(r); break;
+    case BK_OTHER_WIDTH: say_width(wanted, found); break;
+    case BK_BAD_COUNT: say_count(r); break;
+    case BK_CUT_SHORT: say_cut(r); break;
+    case BK_OTHER_POINT: printf("The file is of point %llu, and point %llu was asked for.\n", found, wanted); break;
+    case BK_TRAILING:
+        printf("The file has %llu bytes, and only the first %llu belong to it: cut off the others.\n", found, wanted);
+        break;
+    case BK_NO_RATE: printf("The header says a sampling rate of 0, which is none: fetch the file again.\n"); break;
+    default: printf("There is no sentence for %llu.\n", (unsigned long long)r.number);
+    }
+}
+
+/*
+ * Says why opening a file for a width and a point answered this number, also where it is 0 and the file was cut; of a whole file
+ * nothing. Where the head was refused its width and point, which are 0, do as well as any.
+ */
+static void say_why(const uint8_t *file, size_t length, uint32_t width, uint32_t point, uint32_t number) {
+    bk_reason r = bk_pyramid_why(file, length, width, point);
+    if (r.number != number) {
+        printf("    the reason is another: %lu\n", (unsigned long)r.number);
+        exit(BAD_TURN);
+    }
+    if (r.number == BK_DONE && r.section == 0) return;
+    printf("    ");
+    say_reason(r);
 }
 
 /* ---- recordings: made by integers alone, so that they are the same everywhere */
@@ -280,7 +367,7 @@ static void say_level(const opened *o) {
 
 /* ---- the tour */
 
-/* Cuts a file at given places, and says what is left to see. */
+/* Cuts a file at given places, and says what is left to see, and why it is no more. */
 static void tour_cuts(const pyramid_file *f, const size_t *places, size_t count) {
     size_t i;
     for (i = 0; i < count; i++) {
@@ -294,6 +381,7 @@ static void tour_cuts(const pyramid_file *f, const size_t *places, size_t count)
         } else {
             say_refused(tried, a);
         }
+        say_why(f->bytes, places[i], o.head.width, o.head.point, a.number);
         free(o.samples);
     }
 }
@@ -307,6 +395,65 @@ static void tour_old_file(void) {
     f.bytes = old;
     f.length = sizeof old;
     tour_cuts(&f, cuts, 2);
+}
+
+/* A file of 35 bytes with one byte changed, so many of its bytes lent, and what it is opened for. */
+typedef struct damage {
+    const char *what;
+    size_t place;
+    uint8_t byte;
+    size_t length;
+    uint32_t width, point;
+} damage;
+
+/* Damages a file, which has room for 37 bytes, and says why it does not open; then the damage is undone. */
+static void tour_damage(uint8_t *file, const damage *d) {
+    uint8_t before = file[d->place];
+    bk_reason r;
+    file[d->place] = d->byte;
+    r = bk_pyramid_why(file, d->length, d->width, d->point);
+    printf("%s: number %llu, section %llu, place %llu, wanted %llu, found %llu\n    ", d->what, (unsigned long long)r.number,
+           (unsigned long long)r.section, (unsigned long long)r.place, (unsigned long long)r.wanted, (unsigned long long)r.found);
+    say_reason(r);
+    file[d->place] = before;
+}
+
+/* Puts the count that is wanted where the count of a section is wrong: the file is whole again, if nothing else was damaged. */
+static void tour_mend(uint8_t *file, size_t length, uint32_t width, uint32_t point) {
+    bk_reason r = bk_pyramid_why(file, length, width, point);
+    if (r.number != BK_BAD_COUNT) {
+        printf("    no count is wrong\n");
+        exit(BAD_TURN);
+    }
+    put_sample(file + r.place, 4, (int32_t)r.wanted);
+    printf("the count %llu put at byte %llu: ", (unsigned long long)r.wanted, (unsigned long long)r.place);
+    say_reason(bk_pyramid_why(file, length, width, point));
+}
+
+/* Every reason but that of a file over the limit, on the file of five samples of 8 bits, two levels, point 14. */
+static void tour_reasons(void) {
+    static const damage all[] = {{"as it was written", 0, 14, 35, 1, 14},
+                                 {"only 10 bytes", 0, 14, 10, 1, 14},
+                                 {"11 as the first count", 0, 11, 35, 1, 14},
+                                 {"opened for 16 bits", 0, 14, 35, 2, 14},
+                                 {"a width of 3", 4, 3, 35, 1, 14},
+                                 {"2 samples", 6, 2, 35, 1, 14},
+                                 {"16,777,221 samples", 9, 1, 35, 1, 14},
+                                 {"3 levels", 5, 3, 35, 1, 14},
+                                 {"opened for point 15", 0, 14, 35, 1, 15},
+                                 {"the rate 0", 16, 0, 35, 1, 14},
+                                 {"only 22 bytes", 0, 14, 22, 1, 14},
+                                 {"only 28 bytes", 0, 14, 28, 1, 14},
+                                 {"9 as the count of section 2", 24, 9, 35, 1, 14},
+                                 {"2 bytes behind it", 0, 14, 37, 1, 14}};
+    static const uint8_t x[5] = {0, 3, 252, 1, 7};
+    uint8_t file[37] = {0}, work1[5], work2[5];
+    size_t i;
+    /* At this rate the third of its four bytes, which is byte 16 of the file, is the only one that is not 0. */
+    expect("writing a file", bk_pyramid_write_i8(x, 5, 2, 14, 16384000, file, 35, work1, 5, work2, 5), BK_DONE);
+    for (i = 0; i < sizeof all / sizeof all[0]; i++) tour_damage(file, &all[i]);
+    file[24] = 9;
+    tour_mend(file, 35, 1, 14);
 }
 
 /* Draws the level of a file that fits the screen, from the front of the file alone. */
@@ -486,6 +633,7 @@ static void open_found(const route_book *b, uint32_t point, size_t front) {
         printf("point %lu, the first %lu of %lu bytes: level %lu, %lu samples", (unsigned long)point, (unsigned long)lengths[i],
                (unsigned long)f.length, (unsigned long)a.answer.first, (unsigned long)a.answer.second);
         say_rate(a.rate);
+        say_why(f.bytes, lengths[i], head.width, point, a.answer.number);
     }
     free(out);
     free(work1);
@@ -601,6 +749,12 @@ static bk_answer say_open(const uint8_t *file, size_t length, uint32_t width, ui
     return bk_pyramid_open(file, length, width, point, none, 0, none + 1, 0, none + 2, 0).answer;
 }
 
+/* The refusal of a file that was provoked, and why. */
+static void provoked_open(uint32_t number, const char *tried, const uint8_t *file, size_t length, uint32_t width, uint32_t point) {
+    provoked(number, tried, say_open(file, length, width, point));
+    say_why(file, length, width, point, number);
+}
+
 /* Refusals of a file: the recording's own file, asked for what it has not, cut too short, with a byte too many, or with no rate. */
 static void tour_refused_files(const recording *r, const pyramid_file *f) {
     uint8_t *longer = room(f->length + 1), none[3];
@@ -611,12 +765,12 @@ static void tour_refused_files(const recording *r, const pyramid_file *f) {
              bk_pyramid_write_i16(r->samples, bytes, 1, r->point, r->rate, none, 0, none + 1, 0, none + 2, 0));
     provoked(BK_NO_RATE, "writing a file with the rate 0",
              bk_pyramid_write_i16(r->samples, bytes, 1, r->point, 0, none, 0, none + 1, 0, none + 2, 0));
-    provoked(BK_OTHER_WIDTH, "opening 16 bits as 32", say_open(f->bytes, f->length, 4, r->point));
-    provoked(BK_CUT_SHORT, "opening the first 15 bytes", say_open(f->bytes, 15, r->width, r->point));
-    provoked(BK_OTHER_POINT, "opening it for the next point", say_open(f->bytes, f->length, r->width, r->point + 1));
-    provoked(BK_TRAILING, "opening it with a byte behind it", say_open(longer, f->length + 1, r->width, r->point));
+    provoked_open(BK_OTHER_WIDTH, "opening 16 bits as 32", f->bytes, f->length, 4, r->point);
+    provoked_open(BK_CUT_SHORT, "opening the first 15 bytes", f->bytes, 15, r->width, r->point);
+    provoked_open(BK_OTHER_POINT, "opening it for the next point", f->bytes, f->length, r->width, r->point + 1);
+    provoked_open(BK_TRAILING, "opening it with a byte behind it", longer, f->length + 1, r->width, r->point);
     memset(longer + 14, 0, 4);
-    provoked(BK_NO_RATE, "opening it with zeros where its rate was", say_open(longer, f->length, r->width, r->point));
+    provoked_open(BK_NO_RATE, "opening it with zeros where its rate was", longer, f->length, r->width, r->point);
     provoked(BK_NO_SUCH_PLACE, "a note after the last sample", bk_note_column(r->n, 1, r->n));
     provoked(BK_NO_SUCH_PLACE, "a column of level 0", bk_note_column(r->n, 0, 0));
     provoked(BK_NO_SUCH_PLACE, "the span of a detail after the last", bk_note_detail_span(r->n, 1, r->n / 2));
@@ -710,6 +864,9 @@ static int tour(void) {
     printf("\n== an old file, which has no rate\n");
     tour_old_file();
 
+    printf("\n== why a file does not open\n");
+    tour_reasons();
+
     printf("\n== the sections of point 16\n");
     tour_sections(&f[2]);
 
@@ -776,10 +933,12 @@ static int show_bytes(const char *name, const uint8_t *bytes, size_t length) {
                (unsigned long)o.head.width * 8, (unsigned long)o.head.samples, (unsigned long)o.head.levels);
     if (a.number != BK_DONE) {
         say_refused(name, a);
+        say_why(bytes, length, o.head.width, o.head.point, a.number);
         return (int)a.number;
     }
     printf("%lu bytes open at level %lu, %lu samples", (unsigned long)length, (unsigned long)o.level, (unsigned long)o.count);
     say_rate(o.rate);
+    say_why(bytes, length, o.head.width, o.head.point, a.number);
     level = fitting_level(&o.head, o.level);
     if (level == o.level) {
         draw(o.samples, o.head.width, o.count);

@@ -4,16 +4,17 @@
  * Changed in 0.10.0 under their old names, which no linker notices: bk_pyramid_write_i8, bk_pyramid_write_i16 and
  * bk_pyramid_write_i32 take one number more, the sampling rate, after the point; and bk_pyramid_open returns a bk_opened, the
  * answer and the rate, and no longer a bk_answer. Whatever calls one of them must be compiled again with this header. Code that was
- * compiled with an earlier one hands over its areas at wrong places, or has too little room for what is returned. It does not start
- * with the shared library, which has both numbers of the version in its name; with the static one it links. So does code that was
- * compiled with this header and an earlier static library: replace header and library together. CHANGELOG.md has more, and how to
- * ask a library which one it is.
+ * compiled with one before 0.10.0 hands over its areas at wrong places, or has too little room for what is returned. It does not
+ * start with the shared library, which has both numbers of the version in its name; with the static one it links. So does code that
+ * was compiled with this header, where it does not call bk_pyramid_why, with a static library before 0.10.0: replace header and
+ * library together. CHANGELOG.md has more, and how to ask a library which one it is. bk_pyramid_why is new in 0.11.0, and nothing
+ * else changed then.
  *
- * Every call takes numbers and byte slices that the caller lends, each slice as a pointer and its length in bytes. It keeps
- * nothing between calls, no pointer either, needs no heap, may be called from any thread, and ends for every input with an answer:
- * done, or one refusal. A refusal changes no lent byte. The slices of one call must not overlap where one of them is written. An
- * empty slice still has a pointer that is not null. Samples are little-endian and need no alignment: on a little-endian machine an
- * array `int16_t x[n]` is lent as `(const uint8_t *)x, sizeof x`.
+ * Every call takes numbers and byte slices that the caller lends, each slice as a pointer and its length in bytes. It keeps nothing
+ * between calls, no pointer either, needs no heap, may be called from any thread, and ends for every input with an answer: done, or
+ * one refusal; bk_pyramid_why, which refuses nothing, with a reason. A refusal changes no lent byte. The slices of one call must
+ * not overlap where one of them is written. An empty slice still has a pointer that is not null. Samples are little-endian and need
+ * no alignment: on a little-endian machine an array `int16_t x[n]` is lent as `(const uint8_t *)x, sizeof x`.
  *
  * `install.sh PREFIX` installs this header, the library and beksanour.pc, for x86-64 Linux. Then, with PREFIX/lib/pkgconfig in
  * PKG_CONFIG_PATH, `cc examples/desk.c $(pkg-config --cflags --libs beksanour)` links the shared library, which a program finds
@@ -37,6 +38,7 @@
  *   bk_pyramid_write_i8, _i16, _i32                a recording, with its sampling rate, as a pyramid file
  *   bk_pyramid_head                                what a file says of itself
  *   bk_pyramid_open                                what a file, or the front of one, still lets see, and its rate
+ *   bk_pyramid_why                                 why a file does not open, or opens cut, and at which byte that shows
  *   bk_pyramid_sample                              one sample of it, with no room lent
  *   bk_pyramid_section                             where a section of a file stands
  *   bk_book_fresh                                  an empty route book, for up to 64 files in one area
@@ -50,11 +52,13 @@
  *
  * Good to know, said once:
  *
- * Bytes or samples. A parameter whose name ends in _bytes is a length in bytes, and a width is a sample's size in bytes. n,
- * t, sample, place, start and count, as parameters, are numbers of samples; the sample of a bk_sample is its value. In an answer
- * bytes are: what bk_pyramid_size, bk_pyramid_section, bk_book_find and bk_band_window_T give when done, and the first number of
+ * Bytes or samples. A parameter whose name ends in _bytes is a length in bytes, and a width is a sample's size in bytes. n, t,
+ * sample, place, start and count, as parameters, are numbers of samples; the sample of a bk_sample is its value. In an answer bytes
+ * are: what bk_pyramid_size, bk_pyramid_section, bk_book_find and bk_band_window_T give when done, and the first number of
  * bk_book_room, whose second counts points; the numbers of 10 and 12; the length of 9 (0, length) and the count of section 0; and
- * of 7 those of the file that is written and those of a book. All other lengths and counts in an answer are samples.
+ * of 7 those of the file that is written and those of a book. All other lengths and counts in an answer are samples. In a bk_reason
+ * the place is a byte; wanted and found are bytes for 0, 8, 10 and 12, for 6 at place 0 and for the count of section 0, and samples
+ * for 1, for 6 at place 6 and for the other counts.
  *
  * Old and new files, and the rate. A pyramid file is of one of two kinds. A new file has the sampling rate in its section 0, whose
  * count is 14; an old file has no rate, and its count is 10. Versions before 0.10.0 wrote old files. The write calls here write
@@ -104,7 +108,7 @@
  * width and point are taken from the head, a changed width need not be found and a changed point never is. A changed rate is found
  * only where it became 0. A count of section 0 that became that of the other kind need not be found, though the next count seldom
  * fits then. A bit that flipped among the samples of a section is not found, and the file opens as other samples. Keep a checksum
- * beside it where that matters.
+ * beside it where that matters. Where damage is found, bk_pyramid_why says at which byte it shows.
  * A book has none either. Every call but bk_book_fresh looks at its directory and its two counts, and refuses with 9 (0, 0) those
  * that no calls could have left. Others pass: a point that became one that is not held, or two entries exchanged. The bytes of the
  * files are not looked at. So open what was found for the point that you asked for, not for the point of its head: then a file of
@@ -129,14 +133,14 @@ extern "C" {
 
 /* The version of this header and of the library that is installed with it; CHANGELOG.md has what changed. */
 #define BK_VERSION_MAJOR 0
-#define BK_VERSION_MINOR 10
+#define BK_VERSION_MINOR 11
 #define BK_VERSION_PATCH 0
 
 /*
- * What every call returns, alone or as the field answer of a struct. `number` is 0 when the call is done, else the number of the
- * first check that refused; the checks are made in the order in which a call's comment lists them. `first` and `second` are 0
- * unless the table, or a call that is done, says otherwise. Compare the fields of a struct and not its bytes: those between them
- * are not written.
+ * What every call but bk_pyramid_why returns, alone or as the field answer of a struct. `number` is 0 when the call is done, else
+ * the number of the first check that refused; the checks are made in the order in which a call's comment lists them. `first` and
+ * `second` are 0 unless the table, or a call that is done, says otherwise. Compare the fields of a struct and not its bytes: those
+ * between them are not written.
  */
 typedef struct bk_answer {
     uint32_t number;
@@ -631,10 +635,10 @@ typedef struct bk_head {
 } bk_head;
 
 /*
- * What section 0 of a pyramid file, or of the front of one, says. It is read and not judged: a done call does not say that the
- * file opens, nor that the width is 1, 2 or 4, nor that a new file has a rate other than 0, nor that so many samples follow;
- * bk_pyramid_open says that. The first 18 bytes are enough, of an old file the first 14. Done: first and second are 0, and the
- * fields are as stored; the rate of an old file is 0.
+ * What section 0 of a pyramid file, or of the front of one, says. It is read and not judged: a done call does not say that the file
+ * opens, nor that the width is 1, 2 or 4, nor that a new file has a rate other than 0, nor that so many samples follow;
+ * bk_pyramid_open says that, and bk_pyramid_why without areas. The first 18 bytes are enough, of an old file the first 14. Done:
+ * first and second are 0, and the fields are as stored; the rate of an old file is 0.
  *
  * Refused, in this order:
  *   6                over 67,108,978 bytes
@@ -683,9 +687,10 @@ typedef struct bk_opened {
  *   12 (left, 0)          bytes after the last section
  *   7 (have, count)       output holds fewer than count samples, then work1, then work2, both in samples
  * Which one it is: 9 (0, ..) is a length where one of the three byte lengths is ragged, else section 0's count; 9 with another
- * first number is that section's. 6 is the file's where file_bytes is over the limit, else the samples that its head says. 8
- * with two equal numbers: the file has the width that was asked, and it is not 1, 2 or 4. 10 always means that too little is
- * left: nothing of this file can be shown.
+ * first number is that section's. 6 is the file's where file_bytes is over the limit, else the samples that its head says. 8 with
+ * two equal numbers: the file has the width that was asked, and it is not 1, 2 or 4. 10 always means that too little is left:
+ * nothing of this file can be shown. bk_pyramid_why tells them apart too, says at which byte the file is wrong, and needs no area;
+ * its comment has what to do.
  *
  * Changed in 0.10.0: what is returned; new files are taken too; 18 is new. 4 to 13 bytes with a count of section 0 that is neither
  * 10 nor 14 are 9, and were 10. An old file with bytes behind it, 67,108,975 to 67,108,978 in all, is 12, and was 6.
@@ -696,6 +701,82 @@ typedef struct bk_opened {
  */
 bk_opened bk_pyramid_open(const uint8_t *file, size_t file_bytes, uint32_t width, uint32_t point, uint8_t *output,
                           size_t output_bytes, uint8_t *work1, size_t work1_bytes, uint8_t *work2, size_t work2_bytes);
+
+/*
+ * What bk_pyramid_why returns: its table says what the fields are for each number. All five are 0 for a whole file that has the
+ * width and the point asked, and for nothing else.
+ */
+typedef struct bk_reason {
+    uint64_t number;  /* of the refusal: 1, 4, 6, 8, 9, 10, 11, 12 or 18; 0 where the file opens, whole or cut */
+    uint64_t section; /* the section at which the opener stopped; 0 also where the file is too long, and where it is whole */
+    uint64_t place;   /* a byte of the file, counted from 0: the first of what is wrong; of a cut file_bytes, where it ends */
+    uint64_t wanted;  /* what should stand there, or its limit; of a cut how many bytes are missing there */
+    uint64_t found;   /* what stands there; of a cut 0 */
+} bk_reason;
+
+/*
+ * Why a pyramid file, or the front of one, does not open, or opens cut. `file` is held to the checks of bk_pyramid_open, in their
+ * order, asked for `width` and `point`. What is returned is the first that it does not pass or, where it opens, the section that a
+ * cut broke. The file has passed all checks before that. Of those after it nothing is said: put the one thing right, ask again.
+ *
+ * It has no refusal of its own. No area is lent to it, and it changes no byte. So its number is never 7, nor the 9 of an area's
+ * byte length: it is the number that bk_pyramid_open answers where its areas hold whole samples, and enough of them. Section 0 and
+ * the counts are read, and no sample: a few bytes of each level, however long the recording is. bk_refusal_name and
+ * bk_refusal_sentence take the number as (uint32_t)r.number; of 0 they say that the call is done, also where the file opens cut.
+ *
+ * The fields, and below them what to do. n is the number of samples that section 0 says, levels the number of levels. A number is
+ * put at a place as a u32: four bytes, little-endian.
+ *
+ *   number  section          place              wanted                  found
+ *
+ *   0       0                0                  0                       0
+ *           The file is whole, and opens at level 0. Nothing is to be done.
+ *   0       2 to levels + 1  file_bytes         bytes that are missing  0
+ *           The file was cut in this section, or right before it. It opens with less detail, at level levels + 2 - section. For
+ *           more detail fetch the rest, at least wanted bytes from byte place on.
+ *   1       0                6                  3, the fewest           n
+ *           No file has so few samples: fetch it again.
+ *   4       0                5                  the 5/3 depth of n      levels
+ *           levels is 0, or more than the depth, so levels or n is damaged: fetch the file again.
+ *   6       0                0                  67108978, the most      file_bytes
+ *           No file has so many bytes, and none of them was read. If a file may stand in front, ask about the first wanted bytes.
+ *   6       0                6                  16777216, the most      n
+ *           No file has so many samples: fetch it again.
+ *   8       0                4                  the width asked         the file's width
+ *           If found is 1, 2 or 4, the file may be of that width: ask for it. Else the byte there is damaged: fetch the file again.
+ *   9       0                0                  14                      the count of section 0
+ *           This is no pyramid file, or the count is damaged: fetch it again. wanted is 14 also for what may have been an old file,
+ *           whose count is 10. If nothing but the count is damaged, 14 put there mends a new file, and 10 an old one.
+ *   9       1 to levels + 1  its count's place  what n, levels give     its count
+ *           The count is damaged, or bytes before it are damaged, lost or added: fetch the file again. If nothing but the count is
+ *           damaged, wanted put there mends it. In any case the answer is then no longer 9, or it is 9 of a later section.
+ *   10      0 or 1           file_bytes         bytes that are missing  0
+ *           The file was cut too early, and nothing of it can be shown: fetch the rest, at least wanted bytes from byte place on.
+ *   11      0                10                 the point asked         the file's point
+ *           The file says another point. If it is the file that you want, ask for found; else look for the file of wanted.
+ *   12      levels + 1       its proper length  the same                file_bytes
+ *           The found - wanted bytes from byte place on do not belong to the file: cut them off, and it is whole.
+ *   18      0                14                 1, the least            0
+ *           A new file whose rate is 0. If you know the rate, put it there, in millihertz; else fetch the file again.
+ *
+ * How many bytes a cut wants (10, and 0 with a section): those that are missing of the part that was being read, and no more. That
+ * is the section's count, 4 bytes, as long as these are not all there, and after that the section. A file that ends right behind a
+ * section, and is not whole, wants the 4 bytes of the next count. When so many bytes have come, ask again. Once a count is there,
+ * its section is cut, or the count is wrong, which is 9. Once section 0 is there, its fields are checked. Once any other section is
+ * there, the next one is cut or, if it was the last, the file is whole. How long the whole file is, is said at bk_pyramid_sample.
+ *
+ * After other calls. What bk_pyramid_head refuses is checked before width and point: ask here for any, for example for 0 and 0.
+ * bk_pyramid_sample refuses a file with this number; where it is 0, only with 13. Where bk_pyramid_section or bk_book_add says 10,
+ * the number here is 10, or 0 with the section that a cut broke.
+ *
+ * New in 0.11.0.
+ *
+ * For example, of the 35 bytes that bk_pyramid_write_i8 makes of 0, 3, -4, 1, 7 at 2 levels for point 14, at any rate, asked for
+ * width 1 and point 14, in the order of the table: the first 10 are 10, 0, 10, 8, 0; the first 22 are 10, 1, 22, 2, 0; the first 24
+ * are 0, 2, 24, 4, 0; the first 28 are 0, 2, 28, 1, 0; all 35 are 0, 0, 0, 0, 0; with two bytes behind them they are 12, 3, 35, 35,
+ * 37; and with 9 in byte 24, where the count of section 2 begins, they are 9, 2, 24, 1, 9.
+ */
+bk_reason bk_pyramid_why(const uint8_t *file, size_t file_bytes, uint32_t width, uint32_t point);
 
 /* What bk_pyramid_sample returns: the answer, and the sample as a signed number. When refused the sample is 0. */
 typedef struct bk_sample {
@@ -713,7 +794,7 @@ typedef struct bk_sample {
  * The answer tells neither the level nor the rate. The sample is the recording's own where the file is whole, that is where
  * file_bytes is what bk_pyramid_size says of the head's width, samples and levels, or 4 less for an old file, whose head has the
  * rate 0. Where the file was cut, ask bk_pyramid_open once which level is left, and then here for the column that bk_note_column
- * gives at that level.
+ * gives at that level. bk_pyramid_why tells both without room: whether the file is whole, and which level is left.
  *
  * Refused, in this order: as bk_pyramid_open from 6 (over 67,108,978 bytes) to 12, then
  *   13 (place, count)   place is not one of 0 to count - 1; count is what bk_pyramid_open would give back
@@ -737,8 +818,8 @@ bk_sample bk_pyramid_sample(const uint8_t *file, size_t file_bytes, uint32_t wid
  *   9 (section, found)        section by section up to this one: its count is not the one that n and the levels give
  *   10 (length, 0)            the file ends in this section or before it
  * Which 10 it is: where bk_pyramid_head answers 10 too, section 0 is not whole; else the section asked for is not, and one with a
- * smaller number may still be. 8 with two equal numbers as in bk_pyramid_open. 9 with 0 is section 0's count: there is no area
- * here.
+ * smaller number may still be: bk_pyramid_why names the first that is not. 8 with two equal numbers as in bk_pyramid_open. 9 with 0
+ * is section 0's count: there is no area here.
  *
  * Changed in 0.10.0: new files, 18, 9, 10 and the limit, as in bk_pyramid_open.
  */
@@ -814,7 +895,7 @@ bk_answer bk_book_fresh(uint8_t *area, size_t area_bytes);
  *                        fits in its place if its size is at most the free room and the size that bk_book_find says together
  *   14                   the book holds 64 points, or the file has more bytes than the free room
  * From 6 to 12 these are what bk_pyramid_open says of the file, asked for its own width, but that it is refused with 10 also where
- * a part of it would open.
+ * a part of it would open. So bk_pyramid_why, asked for its own width and `point`, says where.
  * Which one it is: 7 is always the area's, and 10 always the file's. 6 is the area's where area_bytes is over 4,294,967,295; else
  * the file's where file_bytes is over 67,108,978; else the samples that its head says. 9 (0, 0) is the book's where bk_book_room
  * answers the same; where bk_book_room is done, and for every other 9, it is the file's. 14 is the 64 points where bk_book_room
