@@ -1,5 +1,9 @@
-pub mod Places
 pub mod Keys
 pub mod Stops
 pub mod Walking
+pub mod Places
 pub mod Says
+pub mod Cases
+pub mod Opener
+pub mod Again
+pub mod Mended

@@ -10,6 +10,7 @@ use Rattle.pyramid.specs.Opens.{samplesTo, countOf, lengthOf}
 use Rattle.pyramid.proofs.Sections.{last-most}
 use Rattle.why.specs.declared.Reason.{Reason}
 use Rattle.why.specs.Reasons.{endOf, placeOf, wantedOf, reasonBy}
+use Rattle.why.proofs.Walking.{standOf}
 
 -- a byte times a u32
 pub small : (k n : ℕ) → k < 256 → n < 4294967296 → k * n < 1099511627776
@@ -30,6 +31,10 @@ place-is h (suc j) one = omega arith
 
 pub place-ends : (h : Head) (j : ℕ) → 1 ≤ j → placeOf h j + (4 + lengthOf h j) ≡ endOf h j
 place-ends h j one = omega (arith, count-before h j, place-is h j one, end-is h j one)
+
+pub stand-is : (h : Head) (j : ℕ) → 1 ≤ j → standOf (h .width) (h .body) j (samplesTo h j) ≡ placeOf h j
+stand-is h zero one = absurd (omega arith)
+stand-is h (suc j) one = let e : suc j - 1 ≡ j = omega arith in rw e
 
 pub wanted-is : (h : Head) (j : ℕ) → 1 ≤ j → wantedOf h j ≡ countOf h j
 wanted-is h zero one = absurd (omega arith)

@@ -7,18 +7,18 @@ use Rattle.answers.specs.Answers.{done}
 use Rattle.answers.specs.Checks.{Check, firstOf}
 use Rattle.answers.proofs.Passed.{Passing, off}
 
--- of each refusal of the list
+-- of each refusal of the list; and, where all checks pass, of what stands behind them
 abbrev pub Every : (Refusal → Type 0) → List Check → Type 0
 Every P [] = Unit {0}
 Every P (c ∷ l) = P (c .1) × Every P l
 
-pub first-by : (P : Refusal → Type 0) (l : List Check) (e : Refusal) → Every P l → P e → P (firstOf l e)
-first-by P [] e a h = h
-first-by P (c ∷ l) e a h = pick (c .0) (first-by P l e (a .1) h)
+pub first-by : (P : Refusal → Type 0) (l : List Check) (e : Refusal) → Every P l → (Passing l → P e) → P (firstOf l e)
+first-by P [] e a h = h tt
+first-by P (c ∷ l) e a h = pick (c .0) refl (λ k. first-by P l e (a .1) k) h
   where
-    pick : (t : Bool) → P (firstOf l e) → P (cond t (c .1) (firstOf l e))
-    pick true rest = a .0
-    pick false rest = rest
+    pick : (t : Bool) → c .0 ≡ t → ((Passing l → P e) → P (firstOf l e)) → (Passing (c ∷ l) → P e) → P (cond t (c .1) (firstOf l e))
+    pick true q rest h = a .0
+    pick false q rest h = rest (λ k. h (q, k))
 
 -- a list that goes on ends with what the rest says
 pub first-append : (l m : List Check) (e : Refusal) → firstOf (l ++ m) e ≡ firstOf l (firstOf m e)

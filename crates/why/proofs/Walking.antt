@@ -1,13 +1,14 @@
 -- Where a walk over the sections of a file stops: all sections before are there, and the one where it stops is cut or has a wrong count.
 use mathlib.Core.Bool.{Bool, true, false, cond, not}
 use mathlib.Core.List.{List}
-use mathlib.Core.Path.{_≡_, refl, sym, ap, subst, _∙_}
+use mathlib.Core.Path.{_≡_, refl, sym, ap, ap₂, subst, _∙_}
 use Prim.Native.Nat.{ℕ, zero, suc, _+_, _-_, _*_, _≤_, _<_}
 use native.Mathlib.Nat.{zero-add, suc-add}
 use native.Mathlib.Omega.{arith}
-use borrow.Author.Tests.{ltb-true, ltb-false, eqb-true, eqb-false, ne-eqb}
+use borrow.Author.Tests.{ltb-true, ltb-false, eqb-true, eqb-false, eq-eqb, ne-eqb}
 use lib.Dec.{ltb, eqb}
 use lib.ListN.{length}
+use Rattle.answers.proofs.Passed.{off}
 use Rattle.samples.specs.Le.{leAt}
 use Rattle.sizes.specs.Lengths.{approxLength, detailsLength}
 use Rattle.sizes.specs.Levels.{afterLevels, countAt}
@@ -17,6 +18,15 @@ use Rattle.pyramid.specs.declared.walk.Way.the-variants.{Went, Short, Wrong}
 use Rattle.pyramid.specs.Files.{bodySize}
 use Rattle.pyramid.specs.Walks.{oneOf, goOn, walkOf, lastCount}
 use Rattle.pyramid.proofs.Ways.{one-went, go-went, walk-size}
+
+-- ways of two kinds are not the same
+abbrev kindOf : Way → ℕ
+kindOf (Went q) = 0
+kindOf (Short j) = 1
+kindOf (Wrong j found) = 2
+
+pub apart : {A : Type 0} (u v : Way) → eqb (kindOf u) (kindOf v) ≡ false → u ≡ v → A
+apart u v d e = off d (eq-eqb (kindOf u) (kindOf v) (ap kindOf e))
 
 -- ---- one section
 
@@ -147,14 +157,8 @@ one-goes t k c i p e h =
 -- sections that are there are there in any t that has the same counts and is as long
 one-same : (s t : List ℕ) (k c i p q : ℕ) → oneOf s k c i p ≡ Went q → ((i : ℕ) → i + 4 ≤ q → leAt 4 t i ≡ leAt 4 s i) → q ≤ length t → oneOf t k c i p ≡ Went q
 one-same s t k c i p q e same long =
-    one-by s k c i p (λ v. v ≡ Went q → oneOf t k c i p ≡ Went q) (λ _ e. other e) (λ _ _ e. wrong e) (λ _ _ _ e. other e)
+    one-by s k c i p (λ v. v ≡ Went q → oneOf t k c i p ≡ Went q) (λ _. apart _ _ refl) (λ _ _. apart _ _ refl) (λ _ _ _. apart _ _ refl)
     (λ _ count _ e. let z : p + 4 + k * c ≡ q = cc in one-goes t k c i p (same p (omega arith) ∙ count) (omega arith) ∙ e) e
-  where
-    other : {A : Type 0} → Short i ≡ Went q → A
-    other e = let z : _≡_ {A = ℕ} 0 1 = cc in absurd (omega arith)
-
-    wrong : {A : Type 0} {f : ℕ} → Wrong i f ≡ Went q → A
-    wrong e = let z : _≡_ {A = ℕ} 0 1 = cc in absurd (omega arith)
 
 pub walk-same : (l : ℕ) (s t : List ℕ) (k n p q : ℕ) → p ≤ length s → walkOf s k l n p ≡ Went q → ((i : ℕ) → i + 4 ≤ q → leAt 4 t i ≡ leAt 4 s i) → q ≤ length t → walkOf t k l n p ≡ Went q
 unfolding walkOf
@@ -165,3 +169,19 @@ walk-same (suc l) s t k n p q h e same long =
     let o = one-went s k (detailsLength n) (suc l + 1) (g .0) q (z .1) (g .2) in
     let i = walk-same l s t k (approxLength n) p (g .0) h (g .1) (λ i b. same i (omega (arith, o .exact))) (omega (arith, o .exact)) in
     ap (λ v. goOn v (λ x. oneOf t k (detailsLength n) (suc l + 1) x)) i ∙ one-same s t k (detailsLength n) (suc l + 1) (g .0) q (g .2) same long
+
+-- and where a walk stops, the walk of such a t comes to the same section
+pub stop-same : (s t : List ℕ) (k l p j m : ℕ) (v : Way) → p ≤ length s → Stopped s k l p j m v → ((i : ℕ) → i + 4 ≤ standOf k p j m → leAt 4 t i ≡ leAt 4 s i) → standOf k p j m ≤ length t
+    → walkOf t k (j - 1) m p ≡ oneOf t k (lastCount (j - 1) m) j (standOf k p j m)
+unfolding walkOf
+stop-same s t k l p zero m v h i same long = absurd (omega (arith, i .some))
+stop-same s t k l p (suc zero) m v h i same long = let at : p ≡ standOf k p 1 m = omega arith in ap (λ q. oneOf t k m 1 q) at
+stop-same s t k l p (suc (suc x)) m v h i same long =
+    let q = standOf k p (suc (suc x)) m in
+    let a : suc (suc x) - 1 ≡ suc x = omega arith in
+    let b : suc (suc x) - 2 ≡ x = omega arith in
+    let c : suc x + 1 ≡ suc (suc x) = omega arith in
+    let before : walkOf t k x (approxLength m) p ≡ Went q = walk-same x s t k (approxLength m) p q h (sym (ap (λ y. walkOf s k y (approxLength m) p) b) ∙ i .before (omega arith)) same long in
+    ap (λ y. walkOf t k y m p) a
+    ∙ ap (λ u. goOn u (λ y. oneOf t k (detailsLength m) (suc x + 1) y)) before
+    ∙ ap₂ (λ n y. oneOf t k n y q) (sym (ap (λ y. lastCount y m) a ∙ last-details (suc x) m (omega arith))) c

@@ -1,0 +1,98 @@
+-- A file t that has the numbers of a file s as far as its walk came: section 0 passes again, and the walk comes to the same section.
+use mathlib.Core.Bool.{Bool, true, false, cond, not, _&&_}
+use mathlib.Core.List.{List, _++_}
+use mathlib.Core.Logic.{⊎-elim}
+use mathlib.Core.Path.{_≡_, refl, sym, ap, ap₂, subst, _∙_}
+use Prim.Native.Nat.{ℕ, _+_, _-_, _≤_, _<_}
+use native.Mathlib.Omega.{arith}
+use borrow.Author.Tests.{le-ltb, eqb-true}
+use lib.Dec.{ltb, eqb}
+use lib.ListN.{length}
+use Rattle.answers.proofs.Passed.{Passing, pass-both}
+use Rattle.sizes.specs.Levels.{countAt}
+use Rattle.samples.specs.Le.{leAt}
+use Rattle.pyramid.specs.declared.head.Head.{Head}
+use Rattle.pyramid.specs.declared.walk.Way.{Way}
+use Rattle.pyramid.specs.declared.walk.Way.the-variants.{Went}
+use Rattle.pyramid.specs.Files.{mostBytes, oldCount, newCount, isCount, commonSize}
+use Rattle.pyramid.specs.Walks.{oneOf, walkOf}
+use Rattle.pyramid.specs.Opens.{headIn, isNew, rateIn, startChecks, fieldChecks, rateChecks, headChecks, wayIn, samplesTo, countOf}
+use Rattle.pyramid.proofs.Opening.{which-count, start-count, start-passes, head-parts, head-passes}
+use Rattle.why.specs.Reasons.{placeOf}
+use Rattle.why.proofs.Walking.{StopsIn, standOf, Stopped, walk-stays, walk-later, stop-same}
+use Rattle.why.proofs.Places.{stand-is}
+use Rattle.why.proofs.Says.{way-stops}
+
+-- the numbers that end below c are the same
+abbrev pub Agree : List ℕ → List ℕ → ℕ → Type 0
+Agree s t c = (n q : ℕ) → q + n ≤ c → leAt n t q ≡ leAt n s q
+
+module _ (s : List ℕ) (q : Passing (startChecks s)) where
+  pub common-body : commonSize ≤ headIn s .body
+  common-body = ⊎-elim (λ (e : leAt 4 s 0 ≡ oldCount). omega arith) (λ (e : leAt 4 s 0 ≡ newCount). omega arith) (which-count (leAt 4 s 0) (start-count s q))
+
+module _ (s t : List ℕ) (c : ℕ) (same : Agree s t c) where
+  pub head-same : commonSize ≤ c → headIn t ≡ headIn s
+  head-same h = λ x. record {
+    width = same 1 4 (omega arith) x;
+    levels = same 1 5 (omega arith) x;
+    samples = same 4 6 (omega arith) x;
+    point = same 4 10 (omega arith) x;
+    body = ap (λ n. 4 + n) (same 4 0 (omega arith)) x;
+  }
+
+  module _ (w p : ℕ) (k : Passing (headChecks s w p)) (far : headIn s .body ≤ c) where
+    head-is : headIn t ≡ headIn s
+    head-is = head-same (omega (arith, far, common-body s (head-parts s w p k .0)))
+
+    new-same : isNew t ≡ isNew s
+    new-same = ap (λ n. eqb n newCount) (same 4 0 (omega (arith, far, common-body s (head-parts s w p k .0))))
+
+    rate-same : rateIn t ≡ rateIn s
+    rate-same = ap (λ z. cond z (leAt 4 t commonSize) 0) new-same ∙ pick (isNew s) refl
+      where
+        pick : (z : Bool) → isNew s ≡ z → cond z (leAt 4 t commonSize) 0 ≡ cond z (leAt 4 s commonSize) 0
+        pick true e = same 4 commonSize (omega (arith, far, eqb-true (leAt 4 s 0) newCount e))
+        pick false e = refl
+
+    -- section 0 passes again
+    pub head-again : headIn s .body ≤ length t → length t ≤ mostBytes → Passing (headChecks t w p)
+    head-again long short =
+        let q = head-parts s w p k in
+        let c = common-body s (q .0) in
+        pass-both (startChecks t) (fieldChecks (headIn t) w p ++ rateChecks t)
+        (le-ltb mostBytes (length t) short, (le-ltb (length t) 4 (omega (arith, c)), (ap (λ n. not (isCount n)) (same 4 0 (omega (arith, far, c))) ∙ ap not (start-count s (q .0)), (le-ltb (length t) (headIn t .body) (omega (arith, long, ap (λ (h : Head). h .body) head-is)), tt))))
+        (pass-both (fieldChecks (headIn t) w p) (rateChecks t) (subst (λ h. Passing (fieldChecks h w p)) (sym head-is) (q .1)) (ap₂ (λ a b. a && eqb b 0) new-same rate-same ∙ q .2 .0, tt))
+
+    -- the walk of s stops in section j
+    module _ (j : ℕ) (v : Way) (e : wayIn s (headIn s) ≡ v) (st : StopsIn j v) (near : placeOf (headIn s) j ≤ c) (long : placeOf (headIn s) j ≤ length t) where
+      abbrev h : Head
+      h = headIn s
+
+      -- how this section is in t
+      abbrev wayThere : Way
+      wayThere = oneOf t (headIn s .width) (countOf (headIn s) j) j (placeOf (headIn s) j)
+
+      i : Stopped s (h .width) (h .levels) (h .body) j (samplesTo h j) v
+      i = way-stops s h (head-passes s w p k .there) j v e st
+
+      comes : walkOf t (h .width) (j - 1) (samplesTo h j) (h .body) ≡ wayThere
+      comes =
+          let at = stand-is h j (i .some) in
+          stop-same s t (h .width) (h .levels) (h .body) j (samplesTo h j) v (head-passes s w p k .there) i (λ x b. same 4 x (omega (arith, at, near))) (omega (arith, at, long))
+          ∙ ap (λ x. oneOf t (h .width) (countOf h j) j x) at
+
+      levels : h .levels + 1 - j + (j - 1) ≡ h .levels
+      levels = omega (arith, i .some, i .most)
+
+      walk-is : wayIn t (headIn t) ≡ walkOf t (h .width) (h .levels + 1 - j + (j - 1)) (h .samples) (h .body)
+      walk-is = ap (λ h. wayIn t h) head-is ∙ sym (ap (λ l. walkOf t (h .width) l (h .samples) (h .body)) levels)
+
+      -- where it stops, the walk stops there; where it is there, the walk stops later if at all
+      pub stops-there : (u : Way) → wayThere ≡ u → StopsIn j u → wayIn t (headIn t) ≡ u
+      stops-there u f g = walk-is ∙ walk-stays (h .levels + 1 - j) (j - 1) t (h .width) (h .samples) (h .body) j (subst (StopsIn j) (sym (comes ∙ f)) g) ∙ comes ∙ f
+
+      pub stops-later : (x y : ℕ) → wayThere ≡ Went x → StopsIn y (wayIn t (headIn t)) → j < y
+      stops-later x y g f =
+          let z = walk-later (h .levels + 1 - j) (j - 1) t (h .width) (h .samples) (h .body) y x (comes ∙ g) (subst (StopsIn y) walk-is f) in
+          omega (arith, z, i .some)

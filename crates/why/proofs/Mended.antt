@@ -1,0 +1,118 @@
+-- "For a wrong count, putting the wanted count at that place removes refusal 9 for that section": what may still be refused with 9 is a later section.
+use mathlib.Core.Bool.{Bool, true, false, cond}
+use mathlib.Core.List.{List, [], _∷_}
+use mathlib.Core.Path.{_≡_, refl, sym, ap, subst, _∙_}
+use Prim.Native.Nat.{ℕ, _+_, _-_, _%_, _^_, _≤_, _<_}
+use native.Mathlib.Omega.{arith}
+use lib.Dec.{eqb}
+use lib.ListN.{length}
+use Rattle.answers.proofs.Passed.{Passing, off}
+use Rattle.sizes.proofs.Counts.{count-at-le}
+use Rattle.samples.specs.Le.{leAt, stored}
+use Rattle.samples.proofs.LeLaws.{length-stored, stored-read, stored-before}
+use Rattle.pyramid.specs.declared.head.Head.{Head}
+use Rattle.pyramid.specs.declared.walk.Way.the-variants.{Went, Short, Wrong}
+use Rattle.pyramid.specs.Files.{newCount, isCount}
+use Rattle.pyramid.specs.Walks.{oneOf}
+use Rattle.pyramid.specs.Opens.{headIn, headChecks, wayIn, samplesTo, countOf}
+use Rattle.pyramid.proofs.Opening.{start-count, head-parts, head-passes}
+use Rattle.pyramid.proofs.Sections.{last-most}
+use Rattle.why.specs.declared.Reason.{Reason}
+use Rattle.why.specs.Reasons.{because, placeOf, wantedOf, reasonOf}
+use Rattle.why.proofs.Keys.{has}
+use Rattle.why.proofs.Walking.{apart, one-by, StopsIn, standOf, Stopped}
+use Rattle.why.proofs.Places.{end-is, count-before, place-is, stand-is, wanted-is}
+use Rattle.why.proofs.Says.{way-stops}
+use Rattle.why.proofs.Cases.{numberOf, OfField, reason-by}
+use Rattle.why.proofs.Again.{Agree, common-body, stops-there, stops-later}
+
+-- of a reason that may be any, what is to be shown where its number is 9: the other cases have other numbers
+module _ (P : Reason → Type 0) where
+  abbrev Nine : Reason → Type 0
+  Nine r = r .number ≡ 9 → P r
+
+  field-not : (r : Reason) → OfField r → Nine r
+  field-not r f n = off f (ap (λ m. has (0 ∷ 9 ∷ 10 ∷ []) m) n)
+
+  cut-not : {A : Type 0} (j : ℕ) → numberOf j ≡ 9 → A
+  cut-not {A} j = pick (eqb j 1)
+    where
+      pick : (t : Bool) → _≡_ {A = ℕ} (cond t 10 0) 9 → A
+      pick true n = absurd (omega arith)
+      pick false n = absurd (omega arith)
+
+  -- only a wrong count of section 0 or of a later one has it
+  pub nine-by : (s : List ℕ) (w p : ℕ) → (4 ≤ length s → isCount (leAt 4 s 0) ≡ false → P (because 9 0 0 newCount (leAt 4 s 0)))
+      → (Passing (headChecks s w p) → (j found : ℕ) → wayIn s (headIn s) ≡ Wrong j found → P (because 9 j (placeOf (headIn s) j) (wantedOf (headIn s) j) found))
+      → reasonOf s w p .number ≡ 9 → P (reasonOf s w p)
+  nine-by s w p count wrong =
+      reason-by s w p Nine (λ _ n. absurd (omega arith)) (λ _ n. absurd (omega arith)) (λ g c _. count g c) (λ _ _ _ n. absurd (omega arith)) field-not (λ _ _ _ _ n. absurd (omega arith))
+      (λ _ _ n. absurd (omega arith)) (λ _ j _. cut-not j) (λ k j found e _. wrong k j found e)
+
+-- ---- section 0
+
+mend-start : (s : List ℕ) (w p : ℕ) → 4 ≤ length s → let t = stored 4 s 0 newCount in reasonOf t w p .number ≡ 9 → 0 < reasonOf t w p .section
+mend-start s w p four =
+    let t = stored 4 s 0 newCount in
+    nine-by (λ r. 0 < r .section) t w p (λ _ c. off c (ap isCount (stored-read 4 s 0 newCount four)))
+    (λ k j found e. way-stops t (headIn t) (head-passes t w p k .there) j (Wrong j found) e refl .some)
+
+-- ---- a later section
+
+module _ (s : List ℕ) (w p j found : ℕ) (k : Passing (headChecks s w p)) (e : wayIn s (headIn s) ≡ Wrong j found) where
+  abbrev h : Head
+  h = headIn s
+
+  i : Stopped s (h .width) (h .levels) (h .body) j (samplesTo h j) (Wrong j found)
+  i = way-stops s h (head-passes s w p k .there) j (Wrong j found) e refl
+
+  abbrev t : List ℕ
+  t = stored 4 s (placeOf h j) (wantedOf h j)
+
+  -- its count stands behind section 0 and in the file
+  behind : h .body ≤ placeOf h j
+  behind = omega (arith, i .some, end-is h j (i .some), count-before h j, place-is h j (i .some))
+
+  inside : placeOf h j + 4 ≤ length s
+  inside =
+      one-by s (h .width) (countOf h j) j (standOf (h .width) (h .body) j (samplesTo h j)) (λ v. v ≡ Wrong j found → placeOf h j + 4 ≤ length s)
+      (λ _. apart _ _ refl) (λ four _ _. omega (arith, four, stand-is h j (i .some))) (λ _ _ _. apart _ _ refl) (λ _ _ _. apart _ _ refl) (i .here)
+
+  same : Agree s t (placeOf h j)
+  same n q b = stored-before n 4 s (placeOf h j) (wantedOf h j) q b
+
+  -- it is right now
+  right : leAt 4 t (placeOf h j) ≡ countOf h j
+  right =
+      let small : wantedOf h j % 256 ^ 4 ≡ wantedOf h j = omega (arith, wanted-is h j (i .some), last-most (j - 1) (samplesTo h j), count-at-le (h .levels + 1 - j) (h .samples), head-passes s w p k .short) in
+      stored-read 4 s (placeOf h j) (wantedOf h j) inside ∙ small ∙ wanted-is h j (i .some)
+
+  long : placeOf h j ≤ length t
+  long = omega (arith, inside, length-stored 4 s (placeOf h j) (wantedOf h j))
+
+  -- so this section is there or cut, and a wrong count is a later one's
+  later : (x f : ℕ) → wayIn t (headIn t) ≡ Wrong x f → j < x
+  later x f g =
+      one-by t (h .width) (countOf h j) j (placeOf h j) (λ u. oneOf t (h .width) (countOf h j) j (placeOf h j) ≡ u → j < x) (λ _. short) (λ _ n _. absurd (n right)) (λ _ _ _. short)
+      (λ _ _ _ z. stops-later s t (placeOf h j) same w p k behind j (Wrong j found) e refl (omega arith) long _ x z (subst (StopsIn x) (sym g) refl)) refl
+    where
+      short : oneOf t (h .width) (countOf h j) j (placeOf h j) ≡ Short j → j < x
+      short z = apart _ _ refl (sym (stops-there s t (placeOf h j) same w p k behind j (Wrong j found) e refl (omega arith) long (Short j) z refl) ∙ g)
+
+  mend-later : reasonOf t w p .number ≡ 9 → j < reasonOf t w p .section
+  mend-later =
+      let q = head-parts s w p k .0 in
+      nine-by (λ r. j < r .section) t w p (λ _ c. off c (ap isCount (same 4 0 (omega (arith, behind, common-body s q))) ∙ start-count s q)) (λ _ x f g. later x f g)
+
+-- ---- about the call
+
+-- with the wanted count at the place, a 9 is of a later section
+abbrev Later : List ℕ → ℕ → ℕ → Reason → Type 0
+Later s w p r = let t = stored 4 s (r .place) (r .wanted) in reasonOf t w p .number ≡ 9 → r .section < reasonOf t w p .section
+
+-- r is the reason of s, and m that of s with the wanted count at the place
+pub why-mended : (s : List ℕ) (w p : ℕ) {r m : Reason} → r ≡ reasonOf s w p → m ≡ reasonOf (stored 4 s (r .place) (r .wanted)) w p → r .number ≡ 9 → m .number ≡ 9 → r .section < m .section
+why-mended s w p {r} {m} er em n9 m9 =
+    let all : reasonOf s w p .number ≡ 9 → Later s w p (reasonOf s w p) = nine-by (Later s w p) s w p (λ four _. mend-start s w p four) (λ k j found e. mend-later s w p j found k e) in
+    let own : Later s w p r = subst (Later s w p) (sym er) (all (sym (ap (λ (r : Reason). r .number) er) ∙ n9)) in
+    subst (λ (m : Reason). r .section < m .section) (sym em) (own (sym (ap (λ (r : Reason). r .number) em) ∙ m9))
