@@ -3,23 +3,25 @@ use mathlib.Core.Bool.{Bool, true, false, cond, not, _&&_}
 use mathlib.Core.List.{List, _++_}
 use mathlib.Core.Logic.{⊎-elim}
 use mathlib.Core.Path.{_≡_, refl, sym, ap, ap₂, subst, _∙_}
-use Prim.Native.Nat.{ℕ, _+_, _-_, _≤_, _<_}
+use Prim.Native.Nat.{ℕ, suc, _+_, _-_, _≤_, _<_}
 use native.Mathlib.Omega.{arith}
 use borrow.Author.Tests.{le-ltb, eqb-true}
 use lib.Dec.{ltb, eqb}
 use lib.ListN.{length}
 use Rattle.answers.proofs.Passed.{Passing, pass-both}
-use Rattle.sizes.specs.Levels.{countAt}
+use Rattle.sizes.specs.Lengths.{approxLength}
+use Rattle.sizes.specs.Levels.{afterLevels, countAt}
+use Rattle.sizes.proofs.Counts.{after-last}
 use Rattle.samples.specs.Le.{leAt}
 use Rattle.pyramid.specs.declared.head.Head.{Head}
 use Rattle.pyramid.specs.declared.walk.Way.{Way}
-use Rattle.pyramid.specs.declared.walk.Way.the-variants.{Went}
+use Rattle.pyramid.specs.declared.walk.Way.the-variants.{Went, Short}
 use Rattle.pyramid.specs.Files.{mostBytes, oldCount, newCount, isCount, commonSize}
 use Rattle.pyramid.specs.Walks.{oneOf, walkOf}
 use Rattle.pyramid.specs.Opens.{headIn, isNew, rateIn, startChecks, fieldChecks, rateChecks, headChecks, wayIn, samplesTo, countOf}
 use Rattle.pyramid.proofs.Opening.{which-count, start-count, start-passes, head-parts, head-passes}
 use Rattle.why.specs.Reasons.{placeOf}
-use Rattle.why.proofs.Walking.{StopsIn, standOf, Stopped, walk-stays, walk-later, stop-same}
+use Rattle.why.proofs.Walking.{StopsIn, standOf, Stopped, walk-stays, walk-later, walk-next, stop-same}
 use Rattle.why.proofs.Places.{stand-is}
 use Rattle.why.proofs.Says.{way-stops}
 
@@ -87,6 +89,29 @@ module _ (s t : List ℕ) (c : ℕ) (same : Agree s t c) where
 
       walk-is : wayIn t (headIn t) ≡ walkOf t (h .width) (h .levels + 1 - j + (j - 1)) (h .samples) (h .body)
       walk-is = ap (λ h. wayIn t h) head-is ∙ sym (ap (λ l. walkOf t (h .width) l (h .samples) (h .body)) levels)
+
+      -- where it is the last and is there, the walk is there
+      pub goes-there : (x : ℕ) → j ≡ h .levels + 1 → wayThere ≡ Went x → wayIn t (headIn t) ≡ Went x
+      unfolding afterLevels
+      goes-there x last g =
+          let none : h .levels + 1 - j ≡ 0 = omega arith in
+          let all : h .levels ≡ j - 1 = omega arith in
+          ap (λ h. wayIn t h) head-is ∙ ap₂ (λ l n. walkOf t (h .width) l n (h .body)) all (sym (ap (λ d. countAt d (h .samples)) none)) ∙ comes ∙ g
+
+      -- where it is there, and t ends, the next one is cut
+      pub next-stops : j ≤ h .levels → wayThere ≡ Went (length t) → wayIn t (headIn t) ≡ Short (j + 1)
+      next-stops below g =
+          let n = h .samples in
+          let d = h .levels - j in
+          let up : h .levels + 1 - j ≡ suc d = omega arith in
+          let back : suc (j - 1) ≡ j = omega (arith, i .some) in
+          let all : d + j ≡ h .levels = omega arith in
+          let here = ap (λ m. walkOf t (h .width) (j - 1) m (h .body)) (sym (ap (λ x. countAt x n) up ∙ after-last approxLength d n)) ∙ comes ∙ g in
+          let next = subst (λ x. walkOf t (h .width) x (countAt d n) (h .body) ≡ Short (x + 1)) back (walk-next (j - 1) t (h .width) (countAt d n) (h .body) here) in
+          ap (λ h. wayIn t h) head-is
+          ∙ sym (ap (λ l. walkOf t (h .width) l n (h .body)) all)
+          ∙ walk-stays d j t (h .width) n (h .body) (j + 1) (subst (StopsIn (j + 1)) (sym next) refl)
+          ∙ next
 
       -- where it stops, the walk stops there; where it is there, the walk stops later if at all
       pub stops-there : (u : Way) → wayThere ≡ u → StopsIn j u → wayIn t (headIn t) ≡ u

@@ -85,7 +85,7 @@ module _ (s : List ℕ) (w p : ℕ) (Q : Reason → Type 0) where
       → (length s < 4 → Q (cutIn (headIn s) (length s) 10 0))
       → (4 ≤ length s → isCount (leAt 4 s 0) ≡ false → Q (because 9 0 0 newCount (leAt 4 s 0)))
       → (4 ≤ length s → isCount (leAt 4 s 0) ≡ true → length s < headIn s .body → Q (cutIn (headIn s) (length s) 10 0))
-      → ((r : Reason) → OfField r → Q r)
+      → (Passing (startChecks s) → (r : Reason) → OfField r → Q r)
       → (Passing (headChecks s w p) → (q : ℕ) → wayIn s (headIn s) ≡ Went q → q < length s → let e = endOf (headIn s) (headIn s .levels + 1) in Q (because 12 (headIn s .levels + 1) e e (length s)))
       → (Passing (headChecks s w p) → wayIn s (headIn s) ≡ Went (length s) → Q nothing)
       → (Passing (headChecks s w p) → (j : ℕ) → wayIn s (headIn s) ≡ Short j → Q (cutIn (headIn s) (length s) (numberOf j) j))
@@ -112,4 +112,4 @@ module _ (s : List ℕ) (w p : ℕ) (Q : Reason → Type 0) where
           (λ k _. way k (wayIn s (headIn s)) refl) refl
         where
           of : {r : Refusal} → OfField (reasonBy true (headIn s) (length s) r) → sayFile s w p ≡ r → Q (reasonOf s w p)
-          of {r} f g = subst Q (sym (reason-later s w p (ap done e) ∙ ap (λ r. reasonBy true (headIn s) (length s) r) g)) (field (reasonBy true (headIn s) (length s) r) f)
+          of {r} f g = subst Q (sym (reason-later s w p (ap done e) ∙ ap (λ r. reasonBy true (headIn s) (length s) r) g)) (field q (reasonBy true (headIn s) (length s) r) f)

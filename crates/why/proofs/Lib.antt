@@ -7,3 +7,4 @@ pub mod Cases
 pub mod Opener
 pub mod Again
 pub mod Mended
+pub mod Complete

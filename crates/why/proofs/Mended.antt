@@ -20,9 +20,9 @@ use Rattle.pyramid.proofs.Sections.{last-most}
 use Rattle.why.specs.declared.Reason.{Reason}
 use Rattle.why.specs.Reasons.{because, placeOf, wantedOf, reasonOf}
 use Rattle.why.proofs.Keys.{has}
-use Rattle.why.proofs.Walking.{apart, one-by, StopsIn, standOf, Stopped}
-use Rattle.why.proofs.Places.{end-is, count-before, place-is, stand-is, wanted-is}
-use Rattle.why.proofs.Says.{way-stops}
+use Rattle.why.proofs.Walking.{apart, one-by, StopsIn, Stopped}
+use Rattle.why.proofs.Places.{wanted-is}
+use Rattle.why.proofs.Says.{way-stops, place-within, wrong-there}
 use Rattle.why.proofs.Cases.{numberOf, OfField, reason-by}
 use Rattle.why.proofs.Again.{Agree, common-body, stops-there, stops-later}
 
@@ -46,7 +46,7 @@ module _ (P : Reason → Type 0) where
       → (Passing (headChecks s w p) → (j found : ℕ) → wayIn s (headIn s) ≡ Wrong j found → P (because 9 j (placeOf (headIn s) j) (wantedOf (headIn s) j) found))
       → reasonOf s w p .number ≡ 9 → P (reasonOf s w p)
   nine-by s w p count wrong =
-      reason-by s w p Nine (λ _ n. absurd (omega arith)) (λ _ n. absurd (omega arith)) (λ g c _. count g c) (λ _ _ _ n. absurd (omega arith)) field-not (λ _ _ _ _ n. absurd (omega arith))
+      reason-by s w p Nine (λ _ n. absurd (omega arith)) (λ _ n. absurd (omega arith)) (λ g c _. count g c) (λ _ _ _ n. absurd (omega arith)) (λ _. field-not) (λ _ _ _ _ n. absurd (omega arith))
       (λ _ _ n. absurd (omega arith)) (λ _ j _. cut-not j) (λ k j found e _. wrong k j found e)
 
 -- ---- section 0
@@ -71,12 +71,10 @@ module _ (s : List ℕ) (w p j found : ℕ) (k : Passing (headChecks s w p)) (e 
 
   -- its count stands behind section 0 and in the file
   behind : h .body ≤ placeOf h j
-  behind = omega (arith, i .some, end-is h j (i .some), count-before h j, place-is h j (i .some))
+  behind = place-within s h (head-passes s w p k .there) j (Wrong j found) e refl .0
 
   inside : placeOf h j + 4 ≤ length s
-  inside =
-      one-by s (h .width) (countOf h j) j (standOf (h .width) (h .body) j (samplesTo h j)) (λ v. v ≡ Wrong j found → placeOf h j + 4 ≤ length s)
-      (λ _. apart _ _ refl) (λ four _ _. omega (arith, four, stand-is h j (i .some))) (λ _ _ _. apart _ _ refl) (λ _ _ _. apart _ _ refl) (i .here)
+  inside = wrong-there s h (head-passes s w p k .there) j found e .0
 
   same : Agree s t (placeOf h j)
   same n q b = stored-before n 4 s (placeOf h j) (wantedOf h j) q b

@@ -5,12 +5,17 @@ use Prim.Native.Nat.{ℕ, zero, suc, _+_, _-_, _*_, _≤_, _<_}
 use native.Mathlib.Nat.{mul-le-mul-left, mul-le-mul-right}
 use native.Mathlib.Omega.{arith}
 use Rattle.answers.specs.declared.err.Refusal.{Refusal}
+use Rattle.sizes.specs.Lengths.{approxLength, detailsLength}
+use Rattle.sizes.specs.Levels.{countAt}
+use Rattle.sizes.proofs.Counts.{after-last}
+use Rattle.dwt.proofs.Cuts.{split-width}
 use Rattle.pyramid.specs.declared.head.Head.{Head}
+use Rattle.pyramid.specs.Walks.{lastCount}
 use Rattle.pyramid.specs.Opens.{samplesTo, countOf, lengthOf}
 use Rattle.pyramid.proofs.Sections.{last-most}
 use Rattle.why.specs.declared.Reason.{Reason}
 use Rattle.why.specs.Reasons.{endOf, placeOf, wantedOf, reasonBy}
-use Rattle.why.proofs.Walking.{standOf}
+use Rattle.why.proofs.Walking.{standOf, last-details}
 
 -- a byte times a u32
 pub small : (k n : ℕ) → k < 256 → n < 4294967296 → k * n < 1099511627776
@@ -35,6 +40,16 @@ place-ends h j one = omega (arith, count-before h j, place-is h j one, end-is h 
 pub stand-is : (h : Head) (j : ℕ) → 1 ≤ j → standOf (h .width) (h .body) j (samplesTo h j) ≡ placeOf h j
 stand-is h zero one = absurd (omega arith)
 stand-is h (suc j) one = let e : suc j - 1 ≡ j = omega arith in rw e
+
+-- a section starts where the one before it ends
+pub next-place : (h : Head) (j : ℕ) → 1 ≤ j → j ≤ h .levels → placeOf h (j + 1) ≡ endOf h j
+next-place h j one most =
+    let n = samplesTo h (j + 1) in
+    let a : h .levels + 1 - j ≡ suc (h .levels + 1 - (j + 1)) = omega arith in
+    let b : j + 1 - 1 ≡ j = omega arith in
+    let up : samplesTo h j ≡ approxLength n = ap (λ d. countAt d (h .samples)) a ∙ after-last approxLength (h .levels + 1 - (j + 1)) (h .samples) in
+    let c : lengthOf h (j + 1) ≡ h .width * detailsLength n = ap (λ m. h .width * m) (ap (λ i. lastCount i n) b ∙ last-details j n one) in
+    omega (arith, place-is h (j + 1) (omega arith), end-is h (j + 1) (omega arith), end-is h j one, c, split-width (h .width) n, ap (λ m. h .width * m) up)
 
 pub wanted-is : (h : Head) (j : ℕ) → 1 ≤ j → wantedOf h j ≡ countOf h j
 wanted-is h zero one = absurd (omega arith)

@@ -20,8 +20,8 @@ use Rattle.pyramid.specs.Files.{mostBytes, isCount}
 use Rattle.pyramid.specs.Opens.{headIn, startChecks, fieldChecks, rateChecks, headChecks, wayIn, wayChecks, wholeDetails, levelIn, countIn, samplesTo, countOf, sayFile}
 use Rattle.pyramid.proofs.Opening.{start-passes, head-parts}
 use Rattle.pyramid.proofs.Ways.{walk-size}
-use Rattle.why.specs.Reasons.{endOf, reasonBy, sayStart, reasonOf, Said}
-use Rattle.why.proofs.Places.{place-ends, stand-is}
+use Rattle.why.specs.Reasons.{endOf, placeOf, reasonBy, sayStart, reasonOf, Said}
+use Rattle.why.proofs.Places.{end-is, count-before, place-is, place-ends, stand-is}
 use Rattle.why.proofs.Stops.{Every, first-by, first-append}
 use Rattle.why.proofs.Walking.{apart, one-by, StopsIn, standOf, Stopped, walk-stops}
 
@@ -86,6 +86,21 @@ module _ (s : List ℕ) (h : Head) (body : h .body ≤ length s) where
   -- a walk that stops in section j stands at its count
   pub way-stops : (j : ℕ) (v : Way) → wayIn s h ≡ v → StopsIn j v → Stopped s (h .width) (h .levels) (h .body) j (samplesTo h j) v
   way-stops j v e st = subst (λ v. StopsIn j v → Stopped s (h .width) (h .levels) (h .body) j (samplesTo h j) v) e (walk-stops (h .levels) s (h .width) (h .samples) (h .body) j body) st
+
+  -- which is behind section 0, and in the file
+  pub place-within : (j : ℕ) (v : Way) → wayIn s h ≡ v → StopsIn j v → (h .body ≤ placeOf h j) × (placeOf h j ≤ length s)
+  place-within j v e st =
+      let i = way-stops j v e st in
+      let one = i .some in
+      (omega (arith, one, end-is h j one, count-before h j, place-is h j one), omega (arith, i .within, stand-is h j one))
+
+  -- a wrong count is there
+  pub wrong-there : (j found : ℕ) → wayIn s h ≡ Wrong j found → (placeOf h j + 4 ≤ length s) × (leAt 4 s (placeOf h j) ≡ found)
+  wrong-there j found e =
+      let i = way-stops j (Wrong j found) e refl in
+      let at = stand-is h j (i .some) in
+      one-by s (h .width) (countOf h j) j (standOf (h .width) (h .body) j (samplesTo h j)) (λ v. v ≡ Wrong j found → (placeOf h j + 4 ≤ length s) × (leAt 4 s (placeOf h j) ≡ found))
+      (λ _. apart _ _ refl) (λ four _ z. (omega (arith, four, at), ap (λ q. leAt 4 s q) (sym at) ∙ cc)) (λ _ _ _. apart _ _ refl) (λ _ _ _. apart _ _ refl) (i .here)
 
   -- a cut is before the end of its section
   pub cut-before : (j : ℕ) → wayIn s h ≡ Short j → length s < endOf h j

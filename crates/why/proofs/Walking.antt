@@ -70,6 +70,7 @@ standOf k p j m = p + bodySize k (j - 1) m - (4 + k * lastCount (j - 1) m)
 pub record Stopped (s : List ℕ) (k l p j m : ℕ) (v : Way) : Type 0 where
   pub some : 1 ≤ j
   pub most : j ≤ l + 1
+  pub within : standOf k p j m ≤ length s
   pub before : 2 ≤ j → walkOf s k (j - 2) (approxLength m) p ≡ Went (standOf k p j m)
   pub here : oneOf s k (lastCount (j - 1) m) j (standOf k p j m) ≡ v
 
@@ -89,14 +90,14 @@ walk-stops zero s k n p j h st =
     let e = one-stops s k n 1 p j st in
     let at : standOf k p 1 n ≡ p = omega arith in
     subst (λ i. Stopped s k 0 p i (countAt (0 + 1 - i) n) (oneOf s k n 1 p)) (sym e)
-    (record { some = omega arith; most = omega arith; before = λ two. absurd (omega arith); here = ap (λ q. oneOf s k n 1 q) at })
+    (record { some = omega arith; most = omega arith; within = omega (arith, at, h); before = λ two. absurd (omega arith); here = ap (λ q. oneOf s k n 1 q) at })
 walk-stops (suc l) s k n p j h st = pick (walkOf s k l (approxLength n) p) refl (walk-stops l s k (approxLength n) p j h) st
   where
     -- it stopped before
     early : (v : Way) → Stopped s k l p j (countAt (l + 1 - j) (approxLength n)) v → Stopped s k (suc l) p j (countAt (suc l + 1 - j) n) v
     early v i =
         let b : suc (l + 1 - j) ≡ suc l + 1 - j = omega (arith, i .most) in
-        subst (λ d. Stopped s k (suc l) p j (countAt d n) v) b (record { some = i .some; most = omega (arith, i .most); before = i .before; here = i .here })
+        subst (λ d. Stopped s k (suc l) p j (countAt d n) v) b (record { some = i .some; most = omega (arith, i .most); within = i .within; before = i .before; here = i .here })
 
     -- it stops in the last section
     late : (q : ℕ) → walkOf s k l (approxLength n) p ≡ Went q → let v = oneOf s k (detailsLength n) (suc l + 1) q in Stopped s k (suc l) p (suc l + 1) (countAt (suc l + 1 - (suc l + 1)) n) v
@@ -110,6 +111,7 @@ walk-stops (suc l) s k n p j h st = pick (walkOf s k l (approxLength n) p) refl 
         (record {
           some = omega arith;
           most = omega arith;
+          within = omega (arith, at, z .1);
           before = λ two. ap (λ i. walkOf s k i (approxLength n) p) a ∙ e ∙ ap (λ x. Went x) (sym at);
           here = ap (λ i. oneOf s k (lastCount i n) (suc l + 1) (standOf k p (suc l + 1) n)) b ∙ ap (λ c. oneOf s k c (suc l + 1) (standOf k p (suc l + 1) n)) (last-details (suc l) n (omega arith)) ∙ ap (λ x. oneOf s k (detailsLength n) (suc l + 1) x) at;
         })
@@ -153,6 +155,15 @@ walk-later (suc d) e s k n p j q w st =
 pub one-goes : (t : List ℕ) (k c i p : ℕ) → leAt 4 t p ≡ c → p + 4 + k * c ≤ length t → oneOf t k c i p ≡ Went (p + 4 + k * c)
 one-goes t k c i p e h =
     one-by t k c i p (λ v. v ≡ Went (p + 4 + k * c)) (λ z. absurd (omega arith)) (λ _ z. absurd (z e)) (λ _ _ z. absurd (omega arith)) (λ _ _ _. refl)
+
+-- and is cut if less than its count is there
+pub one-broken : (t : List ℕ) (k c i p : ℕ) → length t < p + 4 → p ≤ length t → oneOf t k c i p ≡ Short i
+one-broken t k c i p h b = one-by t k c i p (λ v. v ≡ Short i) (λ _. refl) (λ z _. absurd (omega arith)) (λ _ _ _. refl) (λ z _ _. absurd (omega arith))
+
+-- a walk that is there to the end of the bytes stops in the next section
+pub walk-next : (l : ℕ) (t : List ℕ) (k n p : ℕ) → walkOf t k l (approxLength n) p ≡ Went (length t) → walkOf t k (suc l) n p ≡ Short (suc l + 1)
+unfolding walkOf
+walk-next l t k n p e = ap (λ v. goOn v (λ x. oneOf t k (detailsLength n) (suc l + 1) x)) e ∙ one-broken t k (detailsLength n) (suc l + 1) (length t) (omega arith) (omega arith)
 
 -- sections that are there are there in any t that has the same counts and is as long
 one-same : (s t : List ℕ) (k c i p q : ℕ) → oneOf s k c i p ≡ Went q → ((i : ℕ) → i + 4 ≤ q → leAt 4 t i ≡ leAt 4 s i) → q ≤ length t → oneOf t k c i p ≡ Went q
