@@ -16,3 +16,4 @@ pub mod Reaching
 pub mod HeldWhole
 pub mod WholeWritten
 pub mod EachOpens
+pub mod WhyWhole

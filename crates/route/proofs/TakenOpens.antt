@@ -51,7 +51,7 @@ module _ {f : Filter} {l n p : ℕ} {x s : List ℕ} {z : ℕ} (d : Filed z f l 
   most : needed z k l n ≤ size
   most = omega (arith, first-most k l n)
 
-  own-width : ownWidth s ≡ k
+  pub own-width : ownWidth s ≡ k
   unfolding ownWidth
   own-width =
       ap (λ (t : Bool). cond t 1 (headIn s .width)) (le-ltb (length s) commonSize (head-passes s k p (subst (λ (t : List ℕ). Passing (headChecks t k p)) all (d .passes size (omega arith) (omega arith))) .common))
@@ -102,7 +102,7 @@ module _ (f : Filter) (l p rate : ℕ) (x : List ℕ) (i : Integers f) (bx : Byt
   file-is = file-in f l p rate x i bx hp hr fb u v a fb′ u′ v′ w z
 
   -- what it wrote is a file of the recording, and bytes
-  written-filed : Filed newSize f (levelsOf l) (length x / widthOf f) p x file
+  pub written-filed : Filed newSize f (levelsOf l) (length x / widthOf f) p x file
   written-filed = subst (Filed newSize f (levelsOf l) (length x / widthOf f) p x) (sym file-is) (written f l p rate x i bx hp hr fb u v a fb′ u′ v′ w z)
 
   written-bytes : Bytes file

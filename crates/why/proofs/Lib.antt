@@ -8,3 +8,4 @@ pub mod Opener
 pub mod Again
 pub mod Mended
 pub mod Complete
+pub mod Whole

@@ -104,6 +104,13 @@ module _ (s : List ℕ) (w p j found : ℕ) (k : Passing (headChecks s w p)) (e 
 
 -- ---- about the call
 
+-- the place of a wrong count is in the file, and the count found stands there
+pub why-count : (s : List ℕ) (w p : ℕ) {r : Reason} → r ≡ reasonOf s w p → r .number ≡ 9 → (r .place + 4 ≤ length s) × (leAt 4 s (r .place) ≡ r .found)
+why-count s w p {r} e n =
+    let Stands : Reason → Type 0 = λ r. (r .place + 4 ≤ length s) × (leAt 4 s (r .place) ≡ r .found) in
+    subst Stands (sym e)
+    (nine-by Stands s w p (λ four _. (four, refl)) (λ k j found g. wrong-there s (headIn s) (head-passes s w p k .there) j found g) (sym (ap (λ (r : Reason). r .number) e) ∙ n))
+
 -- with the wanted count at the place, a 9 is of a later section
 abbrev Later : List ℕ → ℕ → ℕ → Reason → Type 0
 Later s w p r = let t = stored 4 s (r .place) (r .wanted) in reasonOf t w p .number ≡ 9 → r .section < reasonOf t w p .section

@@ -1,6 +1,6 @@
 -- "The reason named is the opener's own, and everything before it passed": about the calls. r is what the reason's call returned, a what opening answered.
 use mathlib.Core.Bool.{Bool, true, false, cond}
-use mathlib.Core.List.{List, _++_}
+use mathlib.Core.List.{List, [], _∷_, _++_}
 use mathlib.Core.Logic.{_⊎_, inl, inr}
 use mathlib.Core.Path.{_≡_, refl, sym, ap, subst, _∙_}
 use Prim.Native.Nat.{ℕ, _+_, _-_, _/_, _≤_}
@@ -16,15 +16,14 @@ use Rattle.answers.proofs.Passed.{pass-on, through}
 use Rattle.sizes.specs.Lengths.{mostSamples}
 use Rattle.pyramid.specs.declared.head.Head.{Head}
 use Rattle.pyramid.specs.declared.open.OpenAnswer.{OpenAnswer}
-use Rattle.pyramid.specs.declared.walk.Way.{Way}
-use Rattle.pyramid.specs.declared.walk.Way.the-variants.{Went, Short, Wrong}
 use Rattle.pyramid.specs.Files.{mostBytes}
-use Rattle.pyramid.specs.Opens.{headIn, startChecks, wayIn, wayChecks, fileChecks, levelIn, countIn, areaChecks, roomsFor, WholeAreas, sayFile, sayOpen, OpenGives}
+use Rattle.pyramid.specs.Opens.{headIn, fileChecks, levelIn, countIn, areaChecks, roomsFor, WholeAreas, sayFile, sayOpen, OpenGives}
 use Rattle.pyramid.proofs.Opening.{file-rest, file-stop, whole-areas-pass, rooms-say}
 use Rattle.why.specs.declared.Reason.{Reason}
 use Rattle.why.specs.Reasons.{because, nothing, cutIn, reasonBy, sayStart, reasonOf}
-use Rattle.why.proofs.Stops.{first-by, StoppedBy, stopped}
-use Rattle.why.proofs.Says.{later, sayWay, file-by}
+use Rattle.why.proofs.Keys.{has}
+use Rattle.why.proofs.Stops.{StoppedBy, stopped}
+use Rattle.why.proofs.Says.{says-each}
 
 -- ---- the number of each case
 
@@ -46,22 +45,14 @@ module _ (t : Bool) (h : Head) (b : ℕ) where
       pick true = refl
       pick false = refl
 
-  way-number : (v : Way) (x y : ℕ) → Numbered (firstOf (wayChecks v b) (Done x y))
-  way-number (Went q) x y = first-by Numbered (wayChecks (Went q) b) (Done x y) (refl, tt) (λ _. done-number x y)
-  way-number (Short j) x y = first-by Numbered (wayChecks (Short j) b) (Done x y) (refl, tt) (λ _. done-number x y)
-  way-number (Wrong j found) x y = first-by Numbered (wayChecks (Wrong j found) b) (Done x y) (refl, tt) (λ _. done-number x y)
-
 module _ (s : List ℕ) (w p : ℕ) where
   -- it is the number of what the opener says of the file
-  pub why-number : reasonOf s w p .number ≡ answerOf (sayFile s w p) .number
+  why-number : reasonOf s w p .number ≡ answerOf (sayFile s w p) .number
   unfolding reasonOf
   why-number =
       let t = done (sayStart s) in
-      let long = long-number t (headIn s) (length s) in
-      subst (Numbered t (headIn s) (length s)) (sym (file-by s w p))
-      (first-by (Numbered t (headIn s) (length s)) (startChecks s) (firstOf (later s w p) (sayWay s w p)) (long, (refl, (refl, (refl, tt))))
-      (λ _. first-by (Numbered t (headIn s) (length s)) (later s w p) (sayWay s w p) (refl, (refl, (refl, (long, (refl, (refl, (refl, (refl, tt))))))))
-      (λ _. way-number t (headIn s) (length s) (wayIn s (headIn s)) (levelIn s) (countIn s))))
+      says-each s w p (Numbered t (headIn s) (length s)) (done-number t (headIn s) (length s)) (λ _ _. refl) refl (long-number t (headIn s) (length s)) (λ _ _. refl) (λ _ _. refl) (λ _. refl) (λ _ _. refl)
+      (λ _. refl) refl
 
 -- ---- about the calls
 
@@ -72,6 +63,13 @@ Room s w o u v = (countIn s ≤ o / w) × (countIn s ≤ u / w) × (countIn s �
 module _ (s : List ℕ) (w p : ℕ) {r : Reason} (why : r ≡ reasonOf s w p) where
   number-is : r .number ≡ answerOf (sayFile s w p) .number
   number-is = ap (λ (r : Reason). r .number) why ∙ why-number s w p
+
+  -- one of these: "7 is never reported"
+  pub why-numbers : has (0 ∷ 1 ∷ 4 ∷ 6 ∷ 8 ∷ 9 ∷ 10 ∷ 11 ∷ 12 ∷ 18 ∷ []) (r .number) ≡ true
+  why-numbers =
+      subst (λ n. has (0 ∷ 1 ∷ 4 ∷ 6 ∷ 8 ∷ 9 ∷ 10 ∷ 11 ∷ 12 ∷ 18 ∷ []) n ≡ true) (sym number-is)
+      (says-each s w p (λ q. has (0 ∷ 1 ∷ 4 ∷ 6 ∷ 8 ∷ 9 ∷ 10 ∷ 11 ∷ 12 ∷ 18 ∷ []) (answerOf q .number) ≡ true) (λ _ _. refl) (λ _ _. refl) refl refl (λ _ _. refl) (λ _ _. refl) (λ _. refl) (λ _ _. refl)
+      (λ _. refl) refl)
 
   refuses : (r .number ≡ 0 → ⊥) → done (sayFile s w p) ≡ false
   refuses n = ne-eqb (answerOf (sayFile s w p) .number) 0 (λ e. n (number-is ∙ e))

@@ -8,7 +8,7 @@ use borrow.Author.Tests.{ltb-true, ltb-false, eqb-true, eqb-false}
 use lib.Dec.{ltb, eqb}
 use lib.ListN.{length}
 use Rattle.answers.specs.declared.err.Refusal.{Refusal}
-use Rattle.answers.specs.declared.err.Refusal.the-variants.{Done, TooLong, BadCount, CutShort, Trailing}
+use Rattle.answers.specs.declared.err.Refusal.the-variants.{Done, MinFilterSize, BufferWasTooSmallForLevel, TooLong, OtherWidth, BadCount, CutShort, OtherPoint, Trailing, NoRate}
 use Rattle.answers.specs.Answers.{says, done}
 use Rattle.answers.specs.Checks.{Check, firstOf}
 use Rattle.answers.proofs.Passed.{Passing, through, other-end, pass-both, pass-on, off}
@@ -52,7 +52,7 @@ module _ (s : List ℕ) (w p : ℕ) where
   abbrev pub sayWay : Refusal
   sayWay = firstOf (wayChecks (wayIn s (headIn s)) (length s)) (Done (levelIn s) (countIn s))
 
-  pub file-by : sayFile s w p ≡ firstOf (startChecks s) (firstOf later sayWay)
+  file-by : sayFile s w p ≡ firstOf (startChecks s) (firstOf later sayWay)
   unfolding sayFile
   file-by = first-append (headChecks s w p) (wayChecks (wayIn s (headIn s)) (length s)) (Done (levelIn s) (countIn s)) ∙ first-append (startChecks s) later sayWay
 
@@ -79,6 +79,24 @@ module _ (s : List ℕ) (w p : ℕ) where
   pub later-by : (P : Refusal → Type 0) → Passing (startChecks s) → Every P later → (Passing (headChecks s w p) → P sayWay) → P (sayFile s w p)
   later-by P q each way =
       subst P (sym (file-by ∙ through (startChecks s) (firstOf later sayWay) q)) (first-by P later sayWay each (λ r. way (pass-both (startChecks s) later q r)))
+
+-- ---- the cases
+
+way-each : (P : Refusal → Type 0) (v : Way) (b : ℕ) (e : Refusal) → ((a : ℕ) → P (CutShort a)) → ((a c : ℕ) → P (BadCount a c)) → ((a : ℕ) → P (Trailing a)) → P e → P (firstOf (wayChecks v b) e)
+way-each P (Went q) b e cut count more end = first-by P (wayChecks (Went q) b) e (more (b - q), tt) (λ _. end)
+way-each P (Short j) b e cut count more end = first-by P (wayChecks (Short j) b) e (cut b, tt) (λ _. end)
+way-each P (Wrong j found) b e cut count more end = first-by P (wayChecks (Wrong j found) b) e (count j found, tt) (λ _. end)
+
+-- the opener says ten cases of a file, and no other
+pub says-each : (s : List ℕ) (w p : ℕ) (P : Refusal → Type 0) → ((a c : ℕ) → P (Done a c)) → ((a c : ℕ) → P (MinFilterSize a c)) → P BufferWasTooSmallForLevel → P TooLong
+    → ((a c : ℕ) → P (OtherWidth a c)) → ((a c : ℕ) → P (BadCount a c)) → ((a : ℕ) → P (CutShort a)) → ((a c : ℕ) → P (OtherPoint a c)) → ((a : ℕ) → P (Trailing a)) → P NoRate
+    → P (sayFile s w p)
+says-each s w p P end least level long width count cut point more rate =
+    let h = headIn s in
+    subst P (sym (file-by s w p))
+    (first-by P (startChecks s) (firstOf (later s w p) (sayWay s w p)) (long, (cut _, (count _ _, (cut _, tt))))
+    (λ _. first-by P (later s w p) (sayWay s w p) (width _ _, (width _ _, (least _ _, (long, (level, (level, (point _ _, (rate, tt))))))))
+    (λ _. way-each P (wayIn s h) (length s) (Done (levelIn s) (countIn s)) cut count more (end (levelIn s) (countIn s)))))
 
 -- ---- the walk
 
