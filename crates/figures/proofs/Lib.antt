@@ -5,3 +5,4 @@ pub mod Done
 pub mod ShutOut
 pub mod Book
 pub mod Stream
+pub mod Why

@@ -2,3 +2,4 @@ pub mod Worked
 pub mod ShutOut
 pub mod Book
 pub mod Stream
+pub mod Why

@@ -9,9 +9,10 @@ use borrow.Author.Tests.{lt-ltb, le-ltb, eq-eqb, eqb-true, eqb-false, ne-eqb}
 use lib.Dec.{eqb}
 use lib.ListN.{length}
 use Rattle.answers.specs.declared.err.Refusal.{Refusal}
-use Rattle.answers.specs.declared.err.Refusal.the-variants.{Done, CutShort, Trailing}
+use Rattle.answers.specs.declared.err.Refusal.the-variants.{Done, TooLong, CutShort, Trailing}
 use Rattle.answers.specs.Answers.{done}
 use Rattle.answers.specs.Checks.{firstOf}
+use Rattle.answers.proofs.Chain.{stop}
 use Rattle.answers.proofs.Passed.{Passing}
 use Rattle.order.proofs.Order.{lt-or-le}
 use Rattle.samples.specs.Le.{leAt}
@@ -76,6 +77,12 @@ module _ (s : List ℕ) (w p : ℕ) (k : Passing (headChecks s w p)) where
           ap (λ t. cond t nothing (cutIn h b 0 (h .levels + 2 - (h .levels - (j - 2))))) (ne-eqb (h .levels - (j - 2)) 0 (λ z. omega (arith, two, i .most))) ∙ ap (λ i. cutIn h b 0 i) at
 
 -- ---- any file
+
+-- one that is too long, whatever it says
+pub reason-long : (s : List ℕ) (w p : ℕ) → mostBytes < length s → reasonOf s w p ≡ because 6 0 0 mostBytes (length s)
+reason-long s w p h =
+    let e : sayStart s ≡ TooLong = sym (stop _ (lt-ltb mostBytes (length s) h) refl) in
+    reason-early s w p (ap done e) ∙ ap (λ r. reasonBy false (headIn s) (length s) r) e
 
 module _ (s : List ℕ) (w p : ℕ) (Q : Reason → Type 0) where
   early : {r : Refusal} → done r ≡ false → Q (reasonBy false (headIn s) (length s) r) → sayStart s ≡ r → Q (reasonOf s w p)
