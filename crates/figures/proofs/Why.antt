@@ -1,14 +1,10 @@
 -- C-18's figures, by computing; and the 6 of a file that is too long, by the law of all files.
-use mathlib.Core.List.{List}
-use mathlib.Core.Path.{_≡_, refl}
-use Prim.Native.Nat.{ℕ, _<_}
-use native.Mathlib.Omega.{arith}
-use lib.ListN.{length}
+use mathlib.Core.Path.{refl}
 use Rattle.sizes.specs.Levels.{afterLevels, depthWithin, depthFrom}
 use Rattle.samples.specs.Le.{leAt}
 use Rattle.pyramid.specs.Walks.{oneOf, walkOf}
 use Rattle.pyramid.specs.Opens.{sayFile}
-use Rattle.why.specs.Reasons.{because, reasonOf}
+use Rattle.why.specs.Reasons.{reasonOf}
 use Rattle.why.proofs.Cases.{reason-long}
 use Rattle.figures.specs.Why.{Why}
 

@@ -16,12 +16,11 @@ use Rattle.samples.specs.Le.{Bytes}
 use Rattle.dwt.specs.declared.filter.Filter.{Filter}
 use Rattle.dwt.specs.Filters.{widthOf, Integers}
 use Rattle.pyramid.specs.declared.walk.Way.{Way}
-use Rattle.pyramid.specs.declared.walk.Way.the-variants.{Went}
 use Rattle.pyramid.specs.Files.{commonSize, newSize, fileOf, fileSize}
 use Rattle.pyramid.specs.Writes.{Write}
 use Rattle.pyramid.specs.Opens.{filterOf, headIn, headChecks, wayIn, wayChecks, fileChecks, levelIn, rateIn, samplesIn, ownWidth}
 use Rattle.pyramid.proofs.Opening.{head-passes}
-use Rattle.cuts.proofs.Filed.{Recording, Filed}
+use Rattle.cuts.proofs.Filed.{Recording}
 use Rattle.cuts.proofs.WrittenHead.{filed}
 use Rattle.entries.specs.Checks.{wholeChecks}
 use Rattle.why.specs.declared.Reason.{Reason}

@@ -6,7 +6,7 @@ use mathlib.Core.Path.{_≡_, refl, sym, ap, ap₂, subst, _∙_}
 use Prim.Native.Nat.{ℕ, suc, _+_, _-_, _≤_, _<_}
 use native.Mathlib.Omega.{arith}
 use borrow.Author.Tests.{le-ltb, eqb-true}
-use lib.Dec.{ltb, eqb}
+use lib.Dec.{eqb}
 use lib.ListN.{length}
 use Rattle.answers.proofs.Passed.{Passing, pass-both}
 use Rattle.sizes.specs.Lengths.{approxLength}
@@ -19,9 +19,9 @@ use Rattle.pyramid.specs.declared.walk.Way.the-variants.{Went, Short}
 use Rattle.pyramid.specs.Files.{mostBytes, oldCount, newCount, isCount, commonSize}
 use Rattle.pyramid.specs.Walks.{oneOf, walkOf}
 use Rattle.pyramid.specs.Opens.{headIn, isNew, rateIn, startChecks, fieldChecks, rateChecks, headChecks, wayIn, samplesTo, countOf}
-use Rattle.pyramid.proofs.Opening.{which-count, start-count, start-passes, head-parts, head-passes}
+use Rattle.pyramid.proofs.Opening.{which-count, start-count, head-parts, head-passes}
 use Rattle.why.specs.Reasons.{placeOf}
-use Rattle.why.proofs.Walking.{StopsIn, standOf, Stopped, walk-stays, walk-later, walk-next, stop-same}
+use Rattle.why.proofs.Walking.{StopsIn, Stopped, walk-stays, walk-later, walk-next, stop-same}
 use Rattle.why.proofs.Places.{stand-is}
 use Rattle.why.proofs.Says.{way-stops}
 

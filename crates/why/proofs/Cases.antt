@@ -13,7 +13,7 @@ use Rattle.answers.specs.declared.err.Refusal.the-variants.{Done, TooLong, CutS
 use Rattle.answers.specs.Answers.{done}
 use Rattle.answers.specs.Checks.{firstOf}
 use Rattle.answers.proofs.Chain.{stop}
-use Rattle.answers.proofs.Passed.{Passing}
+use Rattle.answers.proofs.Passed.{Passing, off}
 use Rattle.order.proofs.Order.{lt-or-le}
 use Rattle.samples.specs.Le.{leAt}
 use Rattle.pyramid.specs.declared.head.Head.{Head}
@@ -26,15 +26,29 @@ use Rattle.pyramid.proofs.Ways.{walk-size}
 use Rattle.why.specs.declared.Reason.{Reason}
 use Rattle.why.specs.Reasons.{because, nothing, endOf, placeOf, wantedOf, cutIn, reasonBy, sayStart, reasonOf}
 use Rattle.why.proofs.Keys.{has}
-use Rattle.why.proofs.Says.{start-by, sayWay, reason-early, reason-later, reason-passed, later-by, way-stops}
+use Rattle.why.proofs.Says.{start-by, reason-early, reason-later, reason-passed, later-by, way-stops}
 
 -- the number of a cut in section j: the opener refuses one in section 1
 abbrev pub numberOf : ℕ → ℕ
 numberOf j = cond (eqb j 1) 10 0
 
--- a field of section 0 is refused: no cut, and no count
+-- a field of section 0 is refused: its number is none of a count's, of a cut's and of bytes behind the file
+abbrev pub others : List ℕ
+others = 0 ∷ 9 ∷ 10 ∷ 12 ∷ []
+
 abbrev pub OfField : Reason → Type 0
-OfField r = has (0 ∷ 9 ∷ 10 ∷ []) (r .number) ≡ false
+OfField r = has others (r .number) ≡ false
+
+pub no-field : {A : Type 0} (r : Reason) (n : ℕ) → OfField r → has others n ≡ true → r .number ≡ n → A
+no-field r n f h e = off f (ap (λ m. has others m) e ∙ h)
+
+-- nor has a cut any other number
+pub no-cut : {A : Type 0} (j n : ℕ) → has (10 ∷ 0 ∷ []) n ≡ false → numberOf j ≡ n → A
+no-cut {A} j n h e = off h (sym (ap (λ m. has (10 ∷ 0 ∷ []) m) e) ∙ pick (eqb j 1))
+  where
+    pick : (t : Bool) → has (10 ∷ 0 ∷ []) (cond t 10 0) ≡ true
+    pick true = refl
+    pick false = refl
 
 -- ---- where section 0 passes, by the walk
 

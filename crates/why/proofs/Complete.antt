@@ -7,10 +7,10 @@ use Prim.Native.Nat.{ℕ, zero, suc, _+_, _-_, _*_, _≤_, _<_}
 use native.Mathlib.Nat.{mul-le-mul-right}
 use native.Mathlib.Omega.{arith}
 use borrow.Author.Tests.{lt-ltb, le-ltb, eq-eqb, eqb-true, eqb-false, ne-eqb}
-use lib.Dec.{ltb, eqb}
+use lib.Dec.{eqb}
 use lib.ListN.{length, length-append, List·getD-append}
 use Rattle.order.proofs.Order.{lt-or-le}
-use Rattle.answers.proofs.Passed.{Passing, off, roomy, right}
+use Rattle.answers.proofs.Passed.{Passing, off, roomy}
 use Rattle.sizes.specs.declared.Wavelet.the-variants.{Cdf53}
 use Rattle.sizes.specs.Lengths.{approxLength, detailsLength}
 use Rattle.sizes.specs.Levels.{afterLevels, countAt}
@@ -32,10 +32,10 @@ use Rattle.why.specs.Reasons.{because, nothing, endOf, placeOf, wantedOf
 use Rattle.why.specs.Completed.{Cut, rightCount, Ends, Completed}
 use Rattle.why.proofs.Keys.{has}
 use Rattle.why.proofs.Walking.{apart, one-by, one-goes, StopsIn, standOf, Stopped, last-details}
-use Rattle.why.proofs.Places.{end-is, count-before, place-is, place-ends, stand-is, next-place, wanted-is}
+use Rattle.why.proofs.Places.{end-is, place-ends, stand-is, next-place}
 use Rattle.why.proofs.Says.{way-stops, place-within, wrong-there, cut-before}
-use Rattle.why.proofs.Cases.{numberOf, OfField, reason-wrong, reason-cut, reason-whole, reason-by}
-use Rattle.why.proofs.Again.{Agree, common-body, head-same, head-again, goes-there, next-stops, stops-there}
+use Rattle.why.proofs.Cases.{numberOf, others, reason-wrong, reason-cut, reason-whole, reason-by}
+use Rattle.why.proofs.Again.{Agree, head-same, head-again, goes-there, next-stops, stops-there}
 
 -- what stands in front of more bytes
 pub front : (s x : List ℕ) → Agree s (s ++ x) (length s)
@@ -274,7 +274,7 @@ module _ (s x : List ℕ) (w p : ℕ) (full : length x ≡ missing (length s) 0 
       is =
           let t = s ++ x in
           reason-by t w p (λ m. (m .number ≡ 10) ⊎ (m .number ≡ 9) → m ≡ because 10 1 (length t) 4 0) (λ _. other (9 ∷ 10 ∷ []) 6 refl refl refl) (λ z. absurd (omega (arith, length-append s x, four))) (λ _ z. off z (ap isCount same ∙ c))
-          (λ _ _ z. absurd (omega (arith, now))) (λ _ m f. other (0 ∷ 9 ∷ 10 ∷ []) (m .number) f refl refl) (λ _ _ _ _. other (9 ∷ 10 ∷ []) 12 refl refl refl) (λ _ _. other (9 ∷ 10 ∷ []) 0 refl refl refl) (λ _ j _. first j (eqb j 1) refl)
+          (λ _ _ z. absurd (omega (arith, now))) (λ _ m f. other others (m .number) f refl refl) (λ _ _ _ _. other (9 ∷ 10 ∷ []) 12 refl refl refl) (λ _ _. other (9 ∷ 10 ∷ []) 0 refl refl refl) (λ _ j _. first j (eqb j 1) refl)
           (λ k j found g. absurd (omega (arith, now, wrong-there t (headIn t) (head-passes t w p k .there) j found g .0, place-within t (headIn t) (head-passes t w p k .there) j (Wrong j found) g refl .0)))
 
 -- ---- about the call
@@ -293,7 +293,7 @@ why-completed s x w p {r} {m} er em cut full = subst (λ m. Completed (headIn (s
     all : Completes s x w p (reasonOf s w p)
     all =
         reason-by s w p (Completes s x w p) (λ _ c. no (0 ∷ 10 ∷ []) 6 refl refl refl c) (λ b _ f. count-first s x w p f b) (λ _ _ c. no (0 ∷ 10 ∷ []) 9 refl refl refl c)
-        (λ four c less _ f. section-first s x w p f four c less) (λ _ m f c. no (0 ∷ 9 ∷ 10 ∷ []) (m .number) f refl refl c) (λ _ _ _ _ c. no (0 ∷ 10 ∷ []) 12 refl refl refl c) (λ _ _ c. whole c)
+        (λ four c less _ f. section-first s x w p f four c less) (λ _ m f c. no others (m .number) f refl refl c) (λ _ _ _ _ c. no (0 ∷ 10 ∷ []) 12 refl refl refl c) (λ _ _ c. whole c)
         (λ k j e _ f. completed s x w p k j e f) (λ _ _ _ _ c. no (0 ∷ 10 ∷ []) 9 refl refl refl c)
       where
         whole : {A : Type 0} → Cut nothing → A

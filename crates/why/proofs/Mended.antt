@@ -1,17 +1,16 @@
 -- "For a wrong count, putting the wanted count at that place removes refusal 9 for that section": what may still be refused with 9 is a later section.
-use mathlib.Core.Bool.{Bool, true, false, cond}
-use mathlib.Core.List.{List, [], _∷_}
+use mathlib.Core.Bool.{false}
+use mathlib.Core.List.{List}
 use mathlib.Core.Path.{_≡_, refl, sym, ap, subst, _∙_}
 use Prim.Native.Nat.{ℕ, _+_, _-_, _%_, _^_, _≤_, _<_}
 use native.Mathlib.Omega.{arith}
-use lib.Dec.{eqb}
 use lib.ListN.{length}
 use Rattle.answers.proofs.Passed.{Passing, off}
 use Rattle.sizes.proofs.Counts.{count-at-le}
 use Rattle.samples.specs.Le.{leAt, stored}
 use Rattle.samples.proofs.LeLaws.{length-stored, stored-read, stored-before}
 use Rattle.pyramid.specs.declared.head.Head.{Head}
-use Rattle.pyramid.specs.declared.walk.Way.the-variants.{Went, Short, Wrong}
+use Rattle.pyramid.specs.declared.walk.Way.the-variants.{Short, Wrong}
 use Rattle.pyramid.specs.Files.{newCount, isCount}
 use Rattle.pyramid.specs.Walks.{oneOf}
 use Rattle.pyramid.specs.Opens.{headIn, headChecks, wayIn, samplesTo, countOf}
@@ -19,11 +18,10 @@ use Rattle.pyramid.proofs.Opening.{start-count, head-parts, head-passes}
 use Rattle.pyramid.proofs.Sections.{last-most}
 use Rattle.why.specs.declared.Reason.{Reason}
 use Rattle.why.specs.Reasons.{because, placeOf, wantedOf, reasonOf}
-use Rattle.why.proofs.Keys.{has}
 use Rattle.why.proofs.Walking.{apart, one-by, StopsIn, Stopped}
 use Rattle.why.proofs.Places.{wanted-is}
 use Rattle.why.proofs.Says.{way-stops, place-within, wrong-there}
-use Rattle.why.proofs.Cases.{numberOf, OfField, reason-by}
+use Rattle.why.proofs.Cases.{no-field, no-cut, reason-by}
 use Rattle.why.proofs.Again.{Agree, common-body, stops-there, stops-later}
 
 -- of a reason that may be any, what is to be shown where its number is 9: the other cases have other numbers
@@ -31,23 +29,13 @@ module _ (P : Reason → Type 0) where
   abbrev Nine : Reason → Type 0
   Nine r = r .number ≡ 9 → P r
 
-  field-not : (r : Reason) → OfField r → Nine r
-  field-not r f n = off f (ap (λ m. has (0 ∷ 9 ∷ 10 ∷ []) m) n)
-
-  cut-not : {A : Type 0} (j : ℕ) → numberOf j ≡ 9 → A
-  cut-not {A} j = pick (eqb j 1)
-    where
-      pick : (t : Bool) → _≡_ {A = ℕ} (cond t 10 0) 9 → A
-      pick true n = absurd (omega arith)
-      pick false n = absurd (omega arith)
-
   -- only a wrong count of section 0 or of a later one has it
   pub nine-by : (s : List ℕ) (w p : ℕ) → (4 ≤ length s → isCount (leAt 4 s 0) ≡ false → P (because 9 0 0 newCount (leAt 4 s 0)))
       → (Passing (headChecks s w p) → (j found : ℕ) → wayIn s (headIn s) ≡ Wrong j found → P (because 9 j (placeOf (headIn s) j) (wantedOf (headIn s) j) found))
       → reasonOf s w p .number ≡ 9 → P (reasonOf s w p)
   nine-by s w p count wrong =
-      reason-by s w p Nine (λ _ n. absurd (omega arith)) (λ _ n. absurd (omega arith)) (λ g c _. count g c) (λ _ _ _ n. absurd (omega arith)) (λ _. field-not) (λ _ _ _ _ n. absurd (omega arith))
-      (λ _ _ n. absurd (omega arith)) (λ _ j _. cut-not j) (λ k j found e _. wrong k j found e)
+      reason-by s w p Nine (λ _ n. absurd (omega arith)) (λ _ n. absurd (omega arith)) (λ g c _. count g c) (λ _ _ _ n. absurd (omega arith)) (λ _ r f. no-field r 9 f refl) (λ _ _ _ _ n. absurd (omega arith))
+      (λ _ _ n. absurd (omega arith)) (λ _ j _. no-cut j 9 refl) (λ k j found e _. wrong k j found e)
 
 -- ---- section 0
 

@@ -1,7 +1,7 @@
 -- "The reason named is the opener's own, and everything before it passed": about the calls. r is what the reason's call returned, a what opening answered.
 use mathlib.Core.Bool.{Bool, true, false, cond}
 use mathlib.Core.List.{List, [], _∷_, _++_}
-use mathlib.Core.Logic.{_⊎_, inl, inr}
+use mathlib.Core.Logic.{_⊎_}
 use mathlib.Core.Path.{_≡_, refl, sym, ap, subst, _∙_}
 use Prim.Native.Nat.{ℕ, _+_, _-_, _/_, _≤_}
 use borrow.Author.Tests.{le-ltb, eq-eqb, eqb-true, eqb-false, ne-eqb}
