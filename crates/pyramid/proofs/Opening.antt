@@ -4,7 +4,7 @@ use mathlib.Core.Bool.{Bool, true, false, cond, _||_}
 use mathlib.Core.List.{List, [], _∷_, _++_}
 use mathlib.Core.Logic.{_⊎_, inl, inr, ⊎-elim}
 use mathlib.Core.Path.{_≡_, refl, sym, ap, _∙_}
-use Prim.Native.Nat.{ℕ, _+_, _-_, _*_, _/_, _%_, _≤_}
+use Prim.Native.Nat.{ℕ, suc, _+_, _-_, _*_, _/_, _%_, _≤_}
 use native.Mathlib.Nat.{mul-le-mul-left}
 use native.Mathlib.Omega.{arith}
 use borrow.Author.Tests.{eqb-true, eqb-false, not-false}
@@ -17,9 +17,9 @@ use Rattle.answers.proofs.Chain.{same}
 use Rattle.answers.proofs.Endings.{call-decides}
 use Rattle.answers.proofs.Passed.{off, Refusing, Passing, passing, both-refuse, both-pass, whole, roomy, right, through, pass-on, stop-there}
 use Rattle.sizes.specs.declared.Wavelet.the-variants.{Cdf53}
-use Rattle.sizes.specs.Lengths.{mostSamples}
+use Rattle.sizes.specs.Lengths.{mostSamples, approxLength}
 use Rattle.sizes.specs.Levels.{afterLevels, countAt, depthOf}
-use Rattle.sizes.proofs.Counts.{count-at-le}
+use Rattle.sizes.proofs.Counts.{after-last, count-at-le}
 use Rattle.sizes.proofs.Depths.{depth-rest}
 use Rattle.samples.specs.Le.{leAt}
 use Rattle.samples.specs.Integers.{isWidth}
@@ -32,7 +32,7 @@ use Rattle.pyramid.specs.declared.walk.Way.the-variants.{Went, Short, Wr
 use Rattle.pyramid.specs.Files.{oldCount, newCount, isCount, commonSize, bodySize}
 use Rattle.pyramid.specs.Walks.{walkOf}
 use Rattle.pyramid.specs.Opens.{filterOf, headIn, startChecks, fieldChecks, rateChecks, headChecks, wayIn, wayChecks, wholeDetails, levelIn, countIn, areaChecks, WholeAreas, roomsFor, sayOpen, fileChecks, sayFile, rateIn, rateOpened, OpenGives}
-use Rattle.pyramid.proofs.Ways.{walk-size, walk-short}
+use Rattle.pyramid.proofs.Ways.{walk-size, walk-stops}
 
 -- the integer filter of a width has that width
 pub filter-width : (w : ℕ) → isWidth w ≡ true → widthOf (filterOf w) ≡ w
@@ -120,13 +120,12 @@ way-passes s k l n at (Went p) e h q =
     let z : l - l ≡ 0 = omega arith in
     (omega arith, rw z (omega (arith, i)))
 way-passes s k l n at (Short j) e h q =
-    let i = walk-short l s k n at j (sym e) in
-    let one = eqb-false j 1 (q .0) in
-    let two : 2 ≤ j = omega (arith, i .some, one) in
-    let t = i .before two in
-    let a : l + 2 - j ≡ l - (j - 2) = omega (arith, i .most, two) in
-    let z = walk-size (j - 2) s k (countAt (l + 2 - j) n) at (t .0) h (t .1) in
-    (omega (arith, i .most, two), rw (sym a) (omega (arith, z)))
+    let i = walk-stops l s k n at j (Short j) h (sym e) refl in
+    let two : 2 ≤ j = omega (arith, i .some, eqb-false j 1 (q .0)) in
+    let z = walk-size (j - 2) s k (approxLength (countAt (l + 1 - j) n)) at _ h (i .before two) in
+    let a : l - (j - 2) ≡ suc (l + 1 - j) = omega (arith, i .most, two) in
+    let up : countAt (l - (j - 2)) n ≡ approxLength (countAt (l + 1 - j) n) = ap (λ d. countAt d n) a ∙ after-last approxLength (l + 1 - j) n in
+    (omega (arith, i .most, two), rw up (omega (arith, z)))
 way-passes s k l n at (Wrong j found) e h q = absurd (let z : _≡_ {A = ℕ} 0 1 = ap (λ b. cond b 0 1) (q .0) in omega arith)
 
 -- ---- the file alone

@@ -5,27 +5,17 @@ use mathlib.Core.Path.{_≡_, refl, sym, ap, _∙_}
 use Prim.Native.Nat.{ℕ, _+_, _-_, _≤_}
 use native.Mathlib.Nat.{add-comm, mul-le-mul-left}
 use native.Mathlib.Omega.{arith}
-use lib.Dec.{eqb}
 use lib.ListN.{length, take, drop}
 use denote.Ref.{RefT}
 use Rattle.answers.specs.declared.err.Refusal.the-variants.{Done}
 use Rattle.answers.specs.Answers.{done}
 use Rattle.answers.proofs.Passed.{Refusing, Passing, passing, through, both-refuse, both-pass}
-use Rattle.sizes.specs.Lengths.{detailsLength}
 use Rattle.pyramid.specs.declared.head.Head.{Head}
 use Rattle.pyramid.specs.declared.walk.Way.{Way}
 use Rattle.pyramid.specs.declared.walk.Way.the-variants.{Went, Short, Wrong}
-use Rattle.pyramid.specs.Walks.{lastCount}
 use Rattle.pyramid.specs.Opens.{headIn, headChecks, samplesTo, wayTo, sectionChecks, numberChecks, lengthOf, startOf, endBy, saySection, sectionIn, sectionAt}
-use Rattle.pyramid.proofs.Ways.{walk-size}
+use Rattle.pyramid.proofs.Ways.{last-most, walk-size}
 use Rattle.pyramid.proofs.Opening.{head-refuses, head-passes}
-
-pub last-most : (l n : ℕ) → lastCount l n ≤ n
-last-most l n = pick (eqb l 0)
-  where
-    pick : (b : Bool) → cond b n (detailsLength n) ≤ n
-    pick true = omega arith
-    pick false = omega arith
 
 -- a way that went through section j ends behind its bytes, in the file
 pub ends : (s : List ℕ) (h : Head) (j q : ℕ) → h .body ≤ length s → wayTo s h j ≡ Went q → (lengthOf h j ≤ q) × (q ≤ length s)

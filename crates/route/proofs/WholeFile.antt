@@ -21,7 +21,7 @@ use Rattle.pyramid.specs.declared.walk.Way.the-variants.{Went, Short, Wrong}
 use Rattle.pyramid.specs.Files.{oldCount, newCount, isCount, countBy, commonOf, rateOf, headOf, headSize, newSize, commonSize, fileSize}
 use Rattle.pyramid.specs.Walks.{walkOf}
 use Rattle.pyramid.specs.Opens.{headIn, rateIn, startChecks, fieldChecks, rateChecks, headChecks, wayIn, wayChecks, fileChecks, wholeDetails, levelIn, ownWidth}
-use Rattle.pyramid.proofs.Ways.{walk-size, walk-short}
+use Rattle.pyramid.proofs.Ways.{walk-size, walk-stops}
 use Rattle.pyramid.proofs.Opening.{which-count, start-count, start-passes, head-parts}
 use Rattle.entries.specs.Books.{entrySize, pointBy, sizeBy, isHead}
 use Rattle.entries.specs.Checks.{wholeChecks}
@@ -94,7 +94,7 @@ size-back s bs c q = ap (λ (n : ℕ). 4 + n) (rate-back s bs (start-count s c) 
 pub whole-went : (s : List ℕ) (k l n at : ℕ) (v : Way) → v ≡ walkOf s k l n at → at ≤ length s → Passing (wayChecks v (length s)) → l - wholeDetails v l ≤ 0 → v ≡ Went (length s)
 whole-went s k l n at (Went q) e h c z = let i = walk-size l s k n at q h (sym e) in ap Went (omega (arith, i .1, ltb-false q (length s) (c .0)))
 whole-went s k l n at (Short j) e h c z =
-    let i = walk-short l s k n at j (sym e) in
+    let i = walk-stops l s k n at j (Short j) h (sym e) refl in
     let two : 2 ≤ j = omega (arith, i .some, eqb-false j 1 (c .0)) in
     absurd (omega (arith, i .most))
 whole-went s k l n at (Wrong j found) e h c z = absurd (let y : _≡_ {A = ℕ} 0 1 = ap (λ b. cond b 0 1) (c .0) in omega arith)

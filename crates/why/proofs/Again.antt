@@ -20,8 +20,9 @@ use Rattle.pyramid.specs.Files.{mostBytes, oldCount, newCount, isCount, commonS
 use Rattle.pyramid.specs.Walks.{oneOf, walkOf}
 use Rattle.pyramid.specs.Opens.{headIn, isNew, rateIn, startChecks, fieldChecks, rateChecks, headChecks, wayIn, samplesTo, countOf}
 use Rattle.pyramid.proofs.Opening.{which-count, start-count, head-parts, head-passes}
+use Rattle.pyramid.proofs.Ways.{StopsIn, Stopped}
 use Rattle.why.specs.Reasons.{placeOf}
-use Rattle.why.proofs.Walking.{StopsIn, Stopped, walk-stays, walk-later, walk-next, stop-same}
+use Rattle.why.proofs.Walking.{walk-stays, walk-later, walk-next, stop-same}
 use Rattle.why.proofs.Places.{stand-is}
 use Rattle.why.proofs.Says.{way-stops}
 

@@ -27,11 +27,12 @@ use Rattle.pyramid.specs.Files.{mostBytes, oldCount, newCount, isCount, commonS
 use Rattle.pyramid.specs.Walks.{oneOf, lastCount}
 use Rattle.pyramid.specs.Opens.{headIn, startChecks, headChecks, wayIn, samplesTo, countOf, lengthOf}
 use Rattle.pyramid.proofs.Opening.{which-count, start-count, start-passes, head-parts, head-passes}
+use Rattle.pyramid.proofs.Ways.{apart, one-by, StopsIn, standOf, Stopped, last-details}
 use Rattle.why.specs.declared.Reason.{Reason}
 use Rattle.why.specs.Reasons.{because, nothing, endOf, placeOf, wantedOf, missing, cutIn, reasonOf}
 use Rattle.why.specs.Completed.{Cut, rightCount, Ends, Completed}
 use Rattle.why.proofs.Keys.{has}
-use Rattle.why.proofs.Walking.{apart, one-by, one-goes, StopsIn, standOf, Stopped, last-details}
+use Rattle.why.proofs.Walking.{one-goes}
 use Rattle.why.proofs.Places.{end-is, place-ends, stand-is, next-place}
 use Rattle.why.proofs.Says.{way-stops, place-within, wrong-there, cut-before}
 use Rattle.why.proofs.Cases.{numberOf, others, reason-wrong, reason-cut, reason-whole, reason-by}

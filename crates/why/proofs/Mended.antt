@@ -15,10 +15,9 @@ use Rattle.pyramid.specs.Files.{newCount, isCount}
 use Rattle.pyramid.specs.Walks.{oneOf}
 use Rattle.pyramid.specs.Opens.{headIn, headChecks, wayIn, samplesTo, countOf}
 use Rattle.pyramid.proofs.Opening.{start-count, head-parts, head-passes}
-use Rattle.pyramid.proofs.Sections.{last-most}
+use Rattle.pyramid.proofs.Ways.{last-most, apart, one-by, StopsIn, Stopped}
 use Rattle.why.specs.declared.Reason.{Reason}
 use Rattle.why.specs.Reasons.{because, placeOf, wantedOf, reasonOf}
-use Rattle.why.proofs.Walking.{apart, one-by, StopsIn, Stopped}
 use Rattle.why.proofs.Places.{wanted-is}
 use Rattle.why.proofs.Says.{way-stops, place-within, wrong-there}
 use Rattle.why.proofs.Cases.{no-field, no-cut, reason-by}

@@ -1,8 +1,8 @@
 -- Where the sections stand that section 0 tells of, from section 1 on.
 use mathlib.Core.Bool.{Bool}
 use mathlib.Core.Path.{_≡_, refl, sym, ap, _∙_}
-use Prim.Native.Nat.{ℕ, zero, suc, _+_, _-_, _*_, _≤_, _<_}
-use native.Mathlib.Nat.{mul-le-mul-left, mul-le-mul-right}
+use Prim.Native.Nat.{ℕ, zero, suc, _+_, _-_, _*_, _≤_}
+use native.Mathlib.Nat.{mul-le-mul-left}
 use native.Mathlib.Omega.{arith}
 use Rattle.answers.specs.declared.err.Refusal.{Refusal}
 use Rattle.sizes.specs.Lengths.{approxLength, detailsLength}
@@ -12,14 +12,9 @@ use Rattle.dwt.proofs.Cuts.{split-width}
 use Rattle.pyramid.specs.declared.head.Head.{Head}
 use Rattle.pyramid.specs.Walks.{lastCount}
 use Rattle.pyramid.specs.Opens.{samplesTo, countOf, lengthOf}
-use Rattle.pyramid.proofs.Sections.{last-most}
+use Rattle.pyramid.proofs.Ways.{last-most, standOf, last-details}
 use Rattle.why.specs.declared.Reason.{Reason}
 use Rattle.why.specs.Reasons.{endOf, placeOf, wantedOf, reasonBy}
-use Rattle.why.proofs.Walking.{standOf, last-details}
-
--- a byte times a u32
-pub small : (k n : ℕ) → k < 256 → n < 4294967296 → k * n < 1099511627776
-small k n p q = let a : k * n ≤ 256 * n = mul-le-mul-right n (omega arith) in omega arith
 
 -- the end by its parts
 pub end-is : (h : Head) (j : ℕ) → 1 ≤ j → endOf h j ≡ h .body + 4 * j + h .width * samplesTo h j

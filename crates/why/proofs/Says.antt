@@ -19,11 +19,10 @@ use Rattle.pyramid.specs.declared.walk.Way.the-variants.{Went, Short, Wrong}
 use Rattle.pyramid.specs.Files.{mostBytes, isCount}
 use Rattle.pyramid.specs.Opens.{headIn, startChecks, fieldChecks, rateChecks, headChecks, wayIn, wayChecks, wholeDetails, levelIn, countIn, samplesTo, countOf, sayFile}
 use Rattle.pyramid.proofs.Opening.{start-passes, head-parts}
-use Rattle.pyramid.proofs.Ways.{walk-size}
+use Rattle.pyramid.proofs.Ways.{apart, one-by, StopsIn, standOf, Stopped, walk-size, walk-stops, stop-below}
 use Rattle.why.specs.Reasons.{endOf, placeOf, reasonBy, sayStart, reasonOf, Said}
-use Rattle.why.proofs.Places.{end-is, count-before, place-is, place-ends, stand-is}
+use Rattle.why.proofs.Places.{end-is, count-before, place-is, stand-is}
 use Rattle.why.proofs.Stops.{Every, first-by, first-append}
-use Rattle.why.proofs.Walking.{apart, one-by, StopsIn, standOf, Stopped, walk-stops}
 
 -- ---- the start
 
@@ -103,7 +102,7 @@ says-each s w p P end least level long width count cut point more rate =
 module _ (s : List ℕ) (h : Head) (body : h .body ≤ length s) where
   -- a walk that stops in section j stands at its count
   pub way-stops : (j : ℕ) (v : Way) → wayIn s h ≡ v → StopsIn j v → Stopped s (h .width) (h .levels) (h .body) j (samplesTo h j) v
-  way-stops j v e st = subst (λ v. StopsIn j v → Stopped s (h .width) (h .levels) (h .body) j (samplesTo h j) v) e (walk-stops (h .levels) s (h .width) (h .samples) (h .body) j body) st
+  way-stops j v e st = walk-stops (h .levels) s (h .width) (h .samples) (h .body) j v body e st
 
   -- which is behind section 0, and in the file
   pub place-within : (j : ℕ) (v : Way) → wayIn s h ≡ v → StopsIn j v → (h .body ≤ placeOf h j) × (placeOf h j ≤ length s)
@@ -122,12 +121,7 @@ module _ (s : List ℕ) (h : Head) (body : h .body ≤ length s) where
 
   -- a cut is before the end of its section
   pub cut-before : (j : ℕ) → wayIn s h ≡ Short j → length s < endOf h j
-  cut-before j e =
-      let i = way-stops j (Short j) e refl in
-      let at = stand-is h j (i .some) in
-      let ends = place-ends h j (i .some) in
-      one-by s (h .width) (countOf h j) j (standOf (h .width) (h .body) j (samplesTo h j)) (λ v. v ≡ Short j → length s < endOf h j)
-      (λ few _. omega (arith, few, at, ends)) (λ _ _. apart _ _ refl) (λ some _ few _. omega (arith, few, some, at, ends)) (λ _ _ _. apart _ _ refl) (i .here)
+  cut-before j e = let i = way-stops j (Short j) e refl in omega (arith, stop-below s (h .width) (h .levels) (h .body) j (samplesTo h j) i, i .some, end-is h j (i .some))
 
 -- what the walk says, and what each case tells, of a section 0 that says h
 pub way-by : (s : List ℕ) (h : Head) (c : ℕ) (P : Refusal → Type 0) → h .body ≤ length s

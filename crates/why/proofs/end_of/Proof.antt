@@ -3,7 +3,8 @@ use mathlib.Core.Path.{ap, sym, _∙_}
 use Prim.Native.Nat.{ℕ, _+_, _*_, _<_}
 use native.Mathlib.Omega.{arith}
 use borrow.Author.Needs.{needs}
-use Rattle.why.proofs.Places.{small, end-is}
+use Rattle.pyramid.proofs.Ways.{small}
+use Rattle.why.proofs.Places.{end-is}
 use Rattle.why.proofs.end_of.Statement.{statement}
 use Rattle.why.proofs.end_of.Tie as tie
 

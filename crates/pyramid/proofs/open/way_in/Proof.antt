@@ -8,5 +8,7 @@ pub way-in-spec : {M : Type 1} → statement M
 way-in-spec =
     tie.close
     (tie.spec
-    (λ c κs. let r = c .before .pre .0 in (c .before .pre .1, small _ _ (r .width) (r .samples), omega (arith, r .levels), omega (arith, r .samples)))
+    (λ c κs. let r = c .before .pre .0 in
+    let h = c .before .args .h in
+    (c .before .pre .1, omega (arith, small (h .width) (h .samples) (r .width) (r .samples)), omega (arith, r .levels), omega (arith, r .samples)))
     (λ c. c .walk .ensures))

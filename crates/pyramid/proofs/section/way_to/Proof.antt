@@ -20,5 +20,6 @@ way-to-spec =
     (λ c. search needs) (λ c κs. (c .before .pre .1 .1, c .before .pre .0 .0 .levels))
     (λ c κs. let r = c .before .before .pre .0 .0 in
     let n = c .samples-to .ensures .1 in
-    (c .before .before .pre .0 .1, small _ _ (r .width) (omega (arith, n, r .samples)), omega (arith, r .levels, c .before .before .pre .1), omega (arith, n, r .samples)))
+    let k = small (c .before .before .args .h .width) (c .samples-to .result) (r .width) (omega (arith, n, r .samples)) in
+    (c .before .before .pre .0 .1, omega (arith, k), omega (arith, r .levels, c .before .before .pre .1), omega (arith, n, r .samples)))
     returns)
