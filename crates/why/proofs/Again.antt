@@ -81,7 +81,7 @@ module _ (s t : List ℕ) (c : ℕ) (same : Agree s t c) where
 
       comes : walkOf t (h .width) (j - 1) (samplesTo h j) (h .body) ≡ wayThere
       comes =
-          let at = stand-is h j (i .some) in
+          let at = stand-is h j (i .some) (i .most) in
           stop-same s t (h .width) (h .levels) (h .body) j (samplesTo h j) v (head-passes s w p k .there) i (λ x b. same 4 x (omega (arith, at, near))) (omega (arith, at, long))
           ∙ ap (λ x. oneOf t (h .width) (countOf h j) j x) at
 

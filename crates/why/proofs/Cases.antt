@@ -1,12 +1,12 @@
 -- The reason of any file, case by case, with what is known of the file in each: C-18's table as it is used in proofs.
-use mathlib.Core.Bool.{Bool, true, false, cond}
+use mathlib.Core.Bool.{Bool, true, false, cond, _&&_}
 use mathlib.Core.List.{List, [], _∷_}
 use mathlib.Core.Logic.{⊎-elim}
 use mathlib.Core.Path.{_≡_, refl, sym, ap, subst, _∙_}
 use Prim.Native.Nat.{ℕ, _+_, _-_, _≤_, _<_}
 use native.Mathlib.Omega.{arith}
 use borrow.Author.Tests.{lt-ltb, le-ltb, eq-eqb, eqb-true, eqb-false, ne-eqb}
-use lib.Dec.{eqb}
+use lib.Dec.{ltb, eqb}
 use lib.ListN.{length}
 use Rattle.answers.specs.declared.err.Refusal.{Refusal}
 use Rattle.answers.specs.declared.err.Refusal.the-variants.{Done, TooLong, CutShort, Trailing}
@@ -20,33 +20,26 @@ use Rattle.pyramid.specs.declared.head.Head.{Head}
 use Rattle.pyramid.specs.declared.walk.Way.{Way}
 use Rattle.pyramid.specs.declared.walk.Way.the-variants.{Went, Short, Wrong}
 use Rattle.pyramid.specs.Files.{mostBytes, newCount, isCount}
-use Rattle.pyramid.specs.Opens.{headIn, startChecks, headChecks, wayIn, wayChecks, wholeDetails, countIn, sayFile}
+use Rattle.pyramid.specs.Opens.{headIn, isNew, rateIn, startChecks, headChecks, wayIn, wayChecks, wholeDetails, countIn, sayFile}
 use Rattle.pyramid.proofs.Opening.{head-passes}
 use Rattle.pyramid.proofs.Ways.{walk-size}
 use Rattle.why.specs.declared.Reason.{Reason}
+use Rattle.why.specs.Laws.{among, OfField}
 use Rattle.why.specs.Reasons.{because, nothing, endOf, placeOf, wantedOf, cutIn, reasonBy, sayStart, reasonOf}
-use Rattle.why.proofs.Keys.{has}
 use Rattle.why.proofs.Says.{start-by, reason-early, reason-later, reason-passed, later-by, way-stops}
 
 -- the number of a cut in section j: the opener refuses one in section 1
 abbrev pub numberOf : ℕ → ℕ
 numberOf j = cond (eqb j 1) 10 0
 
--- a field of section 0 is refused: its number is none of a count's, of a cut's and of bytes behind the file
-abbrev pub others : List ℕ
-others = 0 ∷ 9 ∷ 10 ∷ 12 ∷ []
+-- a field of section 0 has none of the other numbers, and a cut has no others
+pub no-field : {A : Type 0} {s : List ℕ} {r : Reason} (n : ℕ) → OfField s r → among (1 ∷ 4 ∷ 6 ∷ 8 ∷ 11 ∷ 18 ∷ []) n ≡ false → r .number ≡ n → A
+no-field n f h e = off h (sym (ap (λ m. among (1 ∷ 4 ∷ 6 ∷ 8 ∷ 11 ∷ 18 ∷ []) m) e) ∙ f .number)
 
-abbrev pub OfField : Reason → Type 0
-OfField r = has others (r .number) ≡ false
-
-pub no-field : {A : Type 0} (r : Reason) (n : ℕ) → OfField r → has others n ≡ true → r .number ≡ n → A
-no-field r n f h e = off f (ap (λ m. has others m) e ∙ h)
-
--- nor has a cut any other number
-pub no-cut : {A : Type 0} (j n : ℕ) → has (10 ∷ 0 ∷ []) n ≡ false → numberOf j ≡ n → A
-no-cut {A} j n h e = off h (sym (ap (λ m. has (10 ∷ 0 ∷ []) m) e) ∙ pick (eqb j 1))
+pub no-cut : {A : Type 0} (j n : ℕ) → among (10 ∷ 0 ∷ []) n ≡ false → numberOf j ≡ n → A
+no-cut j n h e = off h (sym (ap (λ m. among (10 ∷ 0 ∷ []) m) e) ∙ pick (eqb j 1))
   where
-    pick : (t : Bool) → has (10 ∷ 0 ∷ []) (cond t 10 0) ≡ true
+    pick : (t : Bool) → among (10 ∷ 0 ∷ []) (cond t 10 0) ≡ true
     pick true = refl
     pick false = refl
 
@@ -106,7 +99,7 @@ module _ (s : List ℕ) (w p : ℕ) (Q : Reason → Type 0) where
       → (length s < 4 → Q (cutIn (headIn s) (length s) 10 0))
       → (4 ≤ length s → isCount (leAt 4 s 0) ≡ false → Q (because 9 0 0 newCount (leAt 4 s 0)))
       → (4 ≤ length s → isCount (leAt 4 s 0) ≡ true → length s < headIn s .body → Q (cutIn (headIn s) (length s) 10 0))
-      → (Passing (startChecks s) → (r : Reason) → OfField r → Q r)
+      → (Passing (startChecks s) → (r : Reason) → OfField s r → Q r)
       → (Passing (headChecks s w p) → (q : ℕ) → wayIn s (headIn s) ≡ Went q → q < length s → let e = endOf (headIn s) (headIn s .levels + 1) in Q (because 12 (headIn s .levels + 1) e e (length s)))
       → (Passing (headChecks s w p) → wayIn s (headIn s) ≡ Went (length s) → Q nothing)
       → (Passing (headChecks s w p) → (j : ℕ) → wayIn s (headIn s) ≡ Short j → Q (cutIn (headIn s) (length s) (numberOf j) j))
@@ -129,8 +122,16 @@ module _ (s : List ℕ) (w p : ℕ) (Q : Reason → Type 0) where
       there : Passing (startChecks s) → sayStart s ≡ Done 0 0 → Q (reasonOf s w p)
       there q e =
           later-by s w p (λ r. sayFile s w p ≡ r → Q (reasonOf s w p)) q
-          (of refl, (of refl, (of refl, (of refl, (of refl, (of refl, (of refl, (of refl, tt))))))))
+          (of refl refl refl refl, (of refl refl refl refl, (of refl refl refl refl, (of refl refl refl refl, (of refl refl refl refl, (of refl refl refl refl, (of refl refl refl refl, ((λ t. of refl refl refl (rate-none (isNew s) t) t), tt))))))))
           (λ k _. way k (wayIn s (headIn s)) refl) refl
         where
-          of : {r : Refusal} → OfField (reasonBy true (headIn s) (length s) r) → sayFile s w p ≡ r → Q (reasonOf s w p)
-          of {r} f g = subst Q (sym (reason-later s w p (ap done e) ∙ ap (λ r. reasonBy true (headIn s) (length s) r) g)) (field q (reasonBy true (headIn s) (length s) r) f)
+          of : {r : Refusal} {A : Type 0} → let x = reasonBy true (headIn s) (length s) r in
+              among (1 ∷ 4 ∷ 6 ∷ 8 ∷ 11 ∷ 18 ∷ []) (x .number) ≡ true → x .section ≡ 0 → among (4 ∷ 5 ∷ 6 ∷ 10 ∷ 14 ∷ []) (x .place) ≡ true
+              → leAt (cond (ltb (x .place) 6) 1 4) s (x .place) ≡ x .found → A → sayFile s w p ≡ r → Q (reasonOf s w p)
+          of {r} n z a f _ g =
+              let x = reasonBy true (headIn s) (length s) r in
+              subst Q (sym (reason-later s w p (ap done e) ∙ ap (λ r. reasonBy true (headIn s) (length s) r) g)) (field q x (record { number = n; section = z; place = a; found = f }))
+
+          rate-none : (new : Bool) → (new && eqb (cond new (leAt 4 s 14) 0) 0) ≡ true → leAt 4 s 14 ≡ 0
+          rate-none true t = eqb-true (leAt 4 s 14) 0 t
+          rate-none false t = off refl t

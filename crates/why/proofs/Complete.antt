@@ -27,15 +27,15 @@ use Rattle.pyramid.specs.Files.{mostBytes, oldCount, newCount, isCount, commonS
 use Rattle.pyramid.specs.Walks.{oneOf, lastCount}
 use Rattle.pyramid.specs.Opens.{headIn, startChecks, headChecks, wayIn, samplesTo, countOf, lengthOf}
 use Rattle.pyramid.proofs.Opening.{which-count, start-count, start-passes, head-parts, head-passes}
-use Rattle.pyramid.proofs.Ways.{apart, one-by, StopsIn, standOf, Stopped, last-details}
+use Rattle.pyramid.proofs.Ways.{apart, one-by, StopsIn, standOf, Stopped, last-details, walk-size}
 use Rattle.why.specs.declared.Reason.{Reason}
 use Rattle.why.specs.Reasons.{because, nothing, endOf, placeOf, wantedOf, missing, cutIn, reasonOf}
+use Rattle.why.specs.Laws.{among, OfField}
 use Rattle.why.specs.Completed.{Cut, rightCount, Ends, Completed}
-use Rattle.why.proofs.Keys.{has}
 use Rattle.why.proofs.Walking.{one-goes}
-use Rattle.why.proofs.Places.{end-is, place-ends, stand-is, next-place}
+use Rattle.why.proofs.Places.{end-is, place-ends, place-far, stand-is, next-place}
 use Rattle.why.proofs.Says.{way-stops, place-within, wrong-there, cut-before}
-use Rattle.why.proofs.Cases.{numberOf, others, reason-wrong, reason-cut, reason-whole, reason-by}
+use Rattle.why.proofs.Cases.{numberOf, no-field, reason-wrong, reason-cut, reason-whole, reason-by}
 use Rattle.why.proofs.Again.{Agree, head-same, head-again, goes-there, next-stops, stops-there}
 
 -- what stands in front of more bytes
@@ -94,7 +94,7 @@ module _ (s : List ℕ) (w p : ℕ) (k : Passing (headChecks s w p)) (j : ℕ) (
       let deep = depth-at-most Cdf53 23 (h .samples) (hd .short) in
       let q = head-parts s w p k .0 in
       let body : h .body ≤ 18 = ⊎-elim (λ (e : leAt 4 s 0 ≡ oldCount). omega arith) (λ (e : leAt 4 s 0 ≡ newCount). omega arith) (which-count (leAt 4 s 0) (start-count s q)) in
-      omega (arith, end-is h j one, body, deep, hd .deep, mul-le-mul-right m (n .1), ap (λ i. i * m) (hd .width), count-at-le (h .levels + 1 - j) (h .samples), hd .short)
+      omega (arith, end-is h j one most, body, deep, hd .deep, mul-le-mul-right m (n .1), ap (λ i. i * m) (hd .width), count-at-le (h .levels + 1 - j) (h .samples), hd .short)
 
 -- ---- a cut in section j, after section 0
 
@@ -192,7 +192,7 @@ module _ (s x : List ℕ) (w p : ℕ) (k : Passing (headChecks s w p)) (j : ℕ)
       -- it was right
       was : leAt 4 s q ≡ c
       was =
-          let at = stand-is (headIn s) j (i .some) in
+          let at = stand-is (headIn s) j (i .some) (i .most) in
           one-by s (headIn s .width) c j (standOf (headIn s .width) (headIn s .body) j (samplesTo (headIn s) j)) (λ u. u ≡ Short j → leAt 4 s q ≡ c)
           (λ few _. absurd (omega (arith, few, at, b))) (λ _ _. apart _ _ refl) (λ _ g _ _. ap (λ y. leAt 4 s y) (sym at) ∙ g) (λ _ _ _. apart _ _ refl) (i .here)
 
@@ -204,7 +204,7 @@ module _ (s x : List ℕ) (w p : ℕ) (k : Passing (headChecks s w p)) (j : ℕ)
           reason-whole t w p again (goes-there s t (length s) (front s x) w p k there j (Short j) e refl near (omega (arith, near, long)) (length t) (eqb-true j (headIn s .levels + 1) z) goes)
       pick false z =
           let below : j ≤ headIn s .levels = omega (arith, i .most, eqb-false j (headIn s .levels + 1) z) in
-          let next = next-place (headIn s) j (i .some) below in
+          let next = next-place (headIn s) j in
           reason-cut t w p again (j + 1) (next-stops s t (length s) (front s x) w p k there j (Short j) e refl near (omega (arith, near, long)) below goes)
           ∙ ap (λ (h : Head). cutIn h (length t) (numberOf (j + 1)) (j + 1)) head-is
           ∙ ap₂ (λ n m. because n (j + 1) (length t) m 0) (ap (λ b. cond b 10 0) (ne-eqb (j + 1) 1 (λ y. omega (arith, i .some))))
@@ -217,9 +217,6 @@ module _ (s x : List ℕ) (w p : ℕ) (k : Passing (headChecks s w p)) (j : ℕ)
       (record { count = λ b. let z = count-comes b in (z .0, z .1 ∙ sym (ap (λ b. cond b cutNow wrongNow) (right-is (headIn s) t j (i .some)))); section = λ b. let z = section-comes b in (z .0, ends-is (headIn s) t j (reasonOf t w p) (i .some) (z .1)) })
 
 -- ---- a cut in section 0
-
-first-place : (h : Head) → placeOf h 1 ≡ h .body
-first-place h = omega arith
 
 -- section 0 that passes has more than its count
 enough : (t : List ℕ) → Passing (startChecks t) → commonSize ≤ length t
@@ -257,25 +254,33 @@ module _ (s x : List ℕ) (w p : ℕ) (full : length x ≡ missing (length s) 0 
       now : length (s ++ x) ≡ headIn (s ++ x) .body
       now = omega (arith, length-append s x, full, less, same, rest-is (length s) 0 (headIn s .body) four)
 
-      -- a number that is neither
-      other : {A : Type 0} (ks : List ℕ) (n : ℕ) → has ks n ≡ false → has ks 10 ≡ true → has ks 9 ≡ true → (n ≡ 10) ⊎ (n ≡ 9) → A
-      other ks n f ten nine (inl z) = off f (ap (λ i. has ks i) z ∙ ten)
-      other ks n f ten nine (inr z) = off f (ap (λ i. has ks i) z ∙ nine)
+      short : headIn (s ++ x) .body ≤ 18
+      short = let z = ap isCount same ∙ c in ⊎-elim (λ (e : leAt 4 (s ++ x) 0 ≡ oldCount). omega arith) (λ (e : leAt 4 (s ++ x) 0 ≡ newCount). omega arith) (which-count (leAt 4 (s ++ x) 0) z)
 
-      first : (j : ℕ) (b : Bool) → eqb j 1 ≡ b → let m = cutIn (headIn (s ++ x)) (length (s ++ x)) (cond b 10 0) j in (m .number ≡ 10) ⊎ (m .number ≡ 9) → m ≡ because 10 1 (length (s ++ x)) 4 0
-      first j true g z =
+      -- no section is there
+      none : {A : Type 0} → Passing (headChecks (s ++ x) w p) → (q : ℕ) → wayIn (s ++ x) (headIn (s ++ x)) ≡ Went q → A
+      none k q e =
           let t = s ++ x in
-          let at = first-place (headIn t) in
-          ap (λ i. cutIn (headIn t) (length t) 10 i) (eqb-true j 1 g)
-          ∙ ap (λ n. because 10 1 (length t) n 0) (broken-is (length t) (placeOf (headIn t) 1) (endOf (headIn t) 1) (omega (arith, now, at)) ∙ omega (arith, now, at))
-      first j false g (inl z) = absurd (omega arith)
-      first j false g (inr z) = absurd (omega arith)
+          let h = headIn t in
+          let z = walk-size (h .levels) t (h .width) (h .samples) (h .body) q (head-passes t w p k .there) e in
+          absurd (omega (arith, now, z .0, z .1))
 
-      is : (reasonOf (s ++ x) w p .number ≡ 10) ⊎ (reasonOf (s ++ x) w p .number ≡ 9) → reasonOf (s ++ x) w p ≡ because 10 1 (length (s ++ x)) 4 0
+      -- so section 1 is cut
+      first : Passing (headChecks (s ++ x) w p) → (j : ℕ) → wayIn (s ++ x) (headIn (s ++ x)) ≡ Short j → cutIn (headIn (s ++ x)) (length (s ++ x)) (numberOf j) j ≡ because 10 1 (length (s ++ x)) 4 0
+      first k j e =
+          let t = s ++ x in
+          let h = headIn t in
+          let body = head-passes t w p k .there in
+          let i = way-stops t h body j (Short j) e refl in
+          let near = place-within t h body j (Short j) e refl .1 in
+          let low : j ≡ 1 = ⊎-elim (λ (z : j < 2). omega (arith, i .some)) (λ (z : 2 ≤ j). absurd (omega (arith, now, near, place-far h j z))) (lt-or-le j 2) in
+          ap (λ j. cutIn h (length t) (numberOf j) j) low ∙ ap (λ n. because 10 1 (length t) n 0) (broken-is (length t) (h .body) (endOf h 1) (omega (arith, now)) ∙ omega (arith, now))
+
+      is : (reasonOf (s ++ x) w p ≡ because 10 1 (length (s ++ x)) 4 0) ⊎ OfField (s ++ x) (reasonOf (s ++ x) w p)
       is =
           let t = s ++ x in
-          reason-by t w p (λ m. (m .number ≡ 10) ⊎ (m .number ≡ 9) → m ≡ because 10 1 (length t) 4 0) (λ _. other (9 ∷ 10 ∷ []) 6 refl refl refl) (λ z. absurd (omega (arith, length-append s x, four))) (λ _ z. off z (ap isCount same ∙ c))
-          (λ _ _ z. absurd (omega (arith, now))) (λ _ m f. other others (m .number) f refl refl) (λ _ _ _ _. other (9 ∷ 10 ∷ []) 12 refl refl refl) (λ _ _. other (9 ∷ 10 ∷ []) 0 refl refl refl) (λ _ j _. first j (eqb j 1) refl)
+          reason-by t w p (λ m. (m ≡ because 10 1 (length t) 4 0) ⊎ OfField t m) (λ z. absurd (omega (arith, now, short))) (λ z. absurd (omega (arith, length-append s x, four)))
+          (λ _ z. off z (ap isCount same ∙ c)) (λ _ _ z. absurd (omega (arith, now))) (λ _ m f. inr f) (λ k q e _. none k q e) (λ k e. none k (length t) e) (λ k j e. inl (first k j e))
           (λ k j found g. absurd (omega (arith, now, wrong-there t (headIn t) (head-passes t w p k .there) j found g .0, place-within t (headIn t) (head-passes t w p k .there) j (Wrong j found) g refl .0)))
 
 -- ---- about the call
@@ -287,14 +292,18 @@ Completes s x w p r = Cut r → length x ≡ r .wanted → Completed (headIn (s 
 pub why-completed : (s x : List ℕ) (w p : ℕ) {r m : Reason} → r ≡ reasonOf s w p → m ≡ reasonOf (s ++ x) w p → Cut r → length x ≡ r .wanted → Completed (headIn (s ++ x)) (s ++ x) r m
 why-completed s x w p {r} {m} er em cut full = subst (λ m. Completed (headIn (s ++ x)) (s ++ x) r m) (sym em) (subst (Completes s x w p) (sym er) all cut full)
   where
-    no : {A : Type 0} (ks : List ℕ) (n : ℕ) {j : ℕ} → has ks n ≡ false → has ks 10 ≡ true → has ks 0 ≡ true → (n ≡ 10) ⊎ ((n ≡ 0) × (1 ≤ j)) → A
-    no ks n f ten zeroth (inl z) = off f (ap (λ i. has ks i) z ∙ ten)
-    no ks n f ten zeroth (inr z) = off f (ap (λ i. has ks i) (z .0) ∙ zeroth)
+    no-cut-field : {A : Type 0} (m : Reason) → OfField s m → Cut m → A
+    no-cut-field m f (inl z) = no-field 10 f refl z
+    no-cut-field m f (inr z) = no-field 0 f refl (z .0)
+
+    no : {A : Type 0} (ks : List ℕ) (n : ℕ) {j : ℕ} → among ks n ≡ false → among ks 10 ≡ true → among ks 0 ≡ true → (n ≡ 10) ⊎ ((n ≡ 0) × (1 ≤ j)) → A
+    no ks n f ten zeroth (inl z) = off f (ap (λ i. among ks i) z ∙ ten)
+    no ks n f ten zeroth (inr z) = off f (ap (λ i. among ks i) (z .0) ∙ zeroth)
 
     all : Completes s x w p (reasonOf s w p)
     all =
         reason-by s w p (Completes s x w p) (λ _ c. no (0 ∷ 10 ∷ []) 6 refl refl refl c) (λ b _ f. count-first s x w p f b) (λ _ _ c. no (0 ∷ 10 ∷ []) 9 refl refl refl c)
-        (λ four c less _ f. section-first s x w p f four c less) (λ _ m f c. no others (m .number) f refl refl c) (λ _ _ _ _ c. no (0 ∷ 10 ∷ []) 12 refl refl refl c) (λ _ _ c. whole c)
+        (λ four c less _ f. section-first s x w p f four c less) (λ _ m f c. no-cut-field m f c) (λ _ _ _ _ c. no (0 ∷ 10 ∷ []) 12 refl refl refl c) (λ _ _ c. whole c)
         (λ k j e _ f. completed s x w p k j e f) (λ _ _ _ _ c. no (0 ∷ 10 ∷ []) 9 refl refl refl c)
       where
         whole : {A : Type 0} → Cut nothing → A

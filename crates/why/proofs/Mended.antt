@@ -33,7 +33,7 @@ module _ (P : Reason → Type 0) where
       → (Passing (headChecks s w p) → (j found : ℕ) → wayIn s (headIn s) ≡ Wrong j found → P (because 9 j (placeOf (headIn s) j) (wantedOf (headIn s) j) found))
       → reasonOf s w p .number ≡ 9 → P (reasonOf s w p)
   nine-by s w p count wrong =
-      reason-by s w p Nine (λ _ n. absurd (omega arith)) (λ _ n. absurd (omega arith)) (λ g c _. count g c) (λ _ _ _ n. absurd (omega arith)) (λ _ r f. no-field r 9 f refl) (λ _ _ _ _ n. absurd (omega arith))
+      reason-by s w p Nine (λ _ n. absurd (omega arith)) (λ _ n. absurd (omega arith)) (λ g c _. count g c) (λ _ _ _ n. absurd (omega arith)) (λ _ r f. no-field 9 f refl) (λ _ _ _ _ n. absurd (omega arith))
       (λ _ _ n. absurd (omega arith)) (λ _ j _. no-cut j 9 refl) (λ k j found e _. wrong k j found e)
 
 -- ---- section 0

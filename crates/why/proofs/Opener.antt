@@ -20,9 +20,9 @@ use Rattle.pyramid.specs.Files.{mostBytes}
 use Rattle.pyramid.specs.Opens.{headIn, fileChecks, levelIn, countIn, areaChecks, roomsFor, WholeAreas, sayFile, sayOpen, OpenGives}
 use Rattle.pyramid.proofs.Opening.{file-rest, file-stop, whole-areas-pass, rooms-say}
 use Rattle.why.specs.declared.Reason.{Reason}
+use Rattle.why.specs.Laws.{among, StoppedBy, Room}
 use Rattle.why.specs.Reasons.{because, nothing, cutIn, reasonBy, sayStart, reasonOf}
-use Rattle.why.proofs.Keys.{has}
-use Rattle.why.proofs.Stops.{StoppedBy, stopped}
+use Rattle.why.proofs.Stops.{stopped}
 use Rattle.why.proofs.Says.{says-each}
 
 -- ---- the number of each case
@@ -56,19 +56,15 @@ module _ (s : List ℕ) (w p : ℕ) where
 
 -- ---- about the calls
 
--- room for the samples that opening gives back, which are at most those that section 0 tells of
-abbrev pub Room : List ℕ → ℕ → ℕ → ℕ → ℕ → Type 0
-Room s w o u v = (countIn s ≤ o / w) × (countIn s ≤ u / w) × (countIn s ≤ v / w)
-
 module _ (s : List ℕ) (w p : ℕ) {r : Reason} (why : r ≡ reasonOf s w p) where
   number-is : r .number ≡ answerOf (sayFile s w p) .number
   number-is = ap (λ (r : Reason). r .number) why ∙ why-number s w p
 
   -- one of these: "7 is never reported"
-  pub why-numbers : has (0 ∷ 1 ∷ 4 ∷ 6 ∷ 8 ∷ 9 ∷ 10 ∷ 11 ∷ 12 ∷ 18 ∷ []) (r .number) ≡ true
+  pub why-numbers : among (0 ∷ 1 ∷ 4 ∷ 6 ∷ 8 ∷ 9 ∷ 10 ∷ 11 ∷ 12 ∷ 18 ∷ []) (r .number) ≡ true
   why-numbers =
-      subst (λ n. has (0 ∷ 1 ∷ 4 ∷ 6 ∷ 8 ∷ 9 ∷ 10 ∷ 11 ∷ 12 ∷ 18 ∷ []) n ≡ true) (sym number-is)
-      (says-each s w p (λ q. has (0 ∷ 1 ∷ 4 ∷ 6 ∷ 8 ∷ 9 ∷ 10 ∷ 11 ∷ 12 ∷ 18 ∷ []) (answerOf q .number) ≡ true) (λ _ _. refl) (λ _ _. refl) refl refl (λ _ _. refl) (λ _ _. refl) (λ _. refl) (λ _ _. refl)
+      subst (λ n. among (0 ∷ 1 ∷ 4 ∷ 6 ∷ 8 ∷ 9 ∷ 10 ∷ 11 ∷ 12 ∷ 18 ∷ []) n ≡ true) (sym number-is)
+      (says-each s w p (λ q. among (0 ∷ 1 ∷ 4 ∷ 6 ∷ 8 ∷ 9 ∷ 10 ∷ 11 ∷ 12 ∷ 18 ∷ []) (answerOf q .number) ≡ true) (λ _ _. refl) (λ _ _. refl) refl refl (λ _ _. refl) (λ _ _. refl) (λ _. refl) (λ _ _. refl)
       (λ _. refl) refl)
 
   refuses : (r .number ≡ 0 → ⊥) → done (sayFile s w p) ≡ false

@@ -21,7 +21,7 @@ use Rattle.pyramid.specs.Opens.{headIn, startChecks, fieldChecks, rateChecks, h
 use Rattle.pyramid.proofs.Opening.{start-passes, head-parts}
 use Rattle.pyramid.proofs.Ways.{apart, one-by, StopsIn, standOf, Stopped, walk-size, walk-stops, stop-below}
 use Rattle.why.specs.Reasons.{endOf, placeOf, reasonBy, sayStart, reasonOf, Said}
-use Rattle.why.proofs.Places.{end-is, count-before, place-is, stand-is}
+use Rattle.why.proofs.Places.{end-is, place-behind, stand-is}
 use Rattle.why.proofs.Stops.{Every, first-by, first-append}
 
 -- ---- the start
@@ -82,9 +82,9 @@ module _ (s : List ℕ) (w p : ℕ) where
 -- ---- the cases
 
 way-each : (P : Refusal → Type 0) (v : Way) (b : ℕ) (e : Refusal) → ((a : ℕ) → P (CutShort a)) → ((a c : ℕ) → P (BadCount a c)) → ((a : ℕ) → P (Trailing a)) → P e → P (firstOf (wayChecks v b) e)
-way-each P (Went q) b e cut count more end = first-by P (wayChecks (Went q) b) e (more (b - q), tt) (λ _. end)
-way-each P (Short j) b e cut count more end = first-by P (wayChecks (Short j) b) e (cut b, tt) (λ _. end)
-way-each P (Wrong j found) b e cut count more end = first-by P (wayChecks (Wrong j found) b) e (count j found, tt) (λ _. end)
+way-each P (Went q) b e cut count more end = first-by P (wayChecks (Went q) b) e ((λ _. more (b - q)), tt) (λ _. end)
+way-each P (Short j) b e cut count more end = first-by P (wayChecks (Short j) b) e ((λ _. cut b), tt) (λ _. end)
+way-each P (Wrong j found) b e cut count more end = first-by P (wayChecks (Wrong j found) b) e ((λ _. count j found), tt) (λ _. end)
 
 -- the opener says ten cases of a file, and no other
 pub says-each : (s : List ℕ) (w p : ℕ) (P : Refusal → Type 0) → ((a c : ℕ) → P (Done a c)) → ((a c : ℕ) → P (MinFilterSize a c)) → P BufferWasTooSmallForLevel → P TooLong
@@ -93,8 +93,8 @@ pub says-each : (s : List ℕ) (w p : ℕ) (P : Refusal → Type 0) → ((a c : 
 says-each s w p P end least level long width count cut point more rate =
     let h = headIn s in
     subst P (sym (file-by s w p))
-    (first-by P (startChecks s) (firstOf (later s w p) (sayWay s w p)) (long, (cut _, (count _ _, (cut _, tt))))
-    (λ _. first-by P (later s w p) (sayWay s w p) (width _ _, (width _ _, (least _ _, (long, (level, (level, (point _ _, (rate, tt))))))))
+    (first-by P (startChecks s) (firstOf (later s w p) (sayWay s w p)) ((λ _. long), ((λ _. cut _), ((λ _. count _ _), ((λ _. cut _), tt))))
+    (λ _. first-by P (later s w p) (sayWay s w p) ((λ _. width _ _), ((λ _. width _ _), ((λ _. least _ _), ((λ _. long), ((λ _. level), ((λ _. level), ((λ _. point _ _), ((λ _. rate), tt))))))))
     (λ _. way-each P (wayIn s h) (length s) (Done (levelIn s) (countIn s)) cut count more (end (levelIn s) (countIn s)))))
 
 -- ---- the walk
@@ -109,19 +109,19 @@ module _ (s : List ℕ) (h : Head) (body : h .body ≤ length s) where
   place-within j v e st =
       let i = way-stops j v e st in
       let one = i .some in
-      (omega (arith, one, end-is h j one, count-before h j, place-is h j one), omega (arith, i .within, stand-is h j one))
+      (place-behind h j one, omega (arith, i .within, stand-is h j one (i .most)))
 
   -- a wrong count is there
   pub wrong-there : (j found : ℕ) → wayIn s h ≡ Wrong j found → (placeOf h j + 4 ≤ length s) × (leAt 4 s (placeOf h j) ≡ found)
   wrong-there j found e =
       let i = way-stops j (Wrong j found) e refl in
-      let at = stand-is h j (i .some) in
+      let at = stand-is h j (i .some) (i .most) in
       one-by s (h .width) (countOf h j) j (standOf (h .width) (h .body) j (samplesTo h j)) (λ v. v ≡ Wrong j found → (placeOf h j + 4 ≤ length s) × (leAt 4 s (placeOf h j) ≡ found))
       (λ _. apart _ _ refl) (λ four _ z. (omega (arith, four, at), ap (λ q. leAt 4 s q) (sym at) ∙ cc)) (λ _ _ _. apart _ _ refl) (λ _ _ _. apart _ _ refl) (i .here)
 
   -- a cut is before the end of its section
   pub cut-before : (j : ℕ) → wayIn s h ≡ Short j → length s < endOf h j
-  cut-before j e = let i = way-stops j (Short j) e refl in omega (arith, stop-below s (h .width) (h .levels) (h .body) j (samplesTo h j) i, i .some, end-is h j (i .some))
+  cut-before j e = let i = way-stops j (Short j) e refl in omega (arith, stop-below s (h .width) (h .levels) (h .body) j (samplesTo h j) i, i .some, end-is h j (i .some) (i .most))
 
 -- what the walk says, and what each case tells, of a section 0 that says h
 pub way-by : (s : List ℕ) (h : Head) (c : ℕ) (P : Refusal → Type 0) → h .body ≤ length s
@@ -159,8 +159,8 @@ module _ (s : List ℕ) (w p : ℕ) (q : Passing (startChecks s)) where
   abbrev h : Head
   h = headIn s
 
-  no : (r : Refusal) → done r ≡ false → says 9 r ≡ false → says 10 r ≡ false → Said (headIn s) (length s) r
-  no = quiet (headIn s) (length s)
+  no : {A : Type 0} {r : Refusal} → done r ≡ false → says 9 r ≡ false → says 10 r ≡ false → A → Said (headIn s) (length s) r
+  no {r = r} z n t _ = quiet (headIn s) (length s) r z n t
 
   -- a cut in a later section, and a wrong count
   cut : (j : ℕ) → wayIn s h ≡ Short j → 2 ≤ j → Said h (length s) (Done (h .levels - (j - 2)) (countIn s))
@@ -176,6 +176,6 @@ module _ (s : List ℕ) (w p : ℕ) (q : Passing (startChecks s)) where
   pub said : Said (headIn s) (length s) (sayFile s w p)
   said =
       later-by s w p (Said h (length s)) q
-      (no _ refl refl refl, (no _ refl refl refl, (no _ refl refl refl, (no _ refl refl refl, (no _ refl refl refl, (no _ refl refl refl, (no _ refl refl refl, (no _ refl refl refl, tt))))))))
-      (λ _. way-by s h (countIn s) (Said h (length s)) (start-passes s q .1) (λ _ _ _. no _ refl refl refl) (λ _. record { level = λ _ n. absurd (n (omega arith)); wrong = off refl; cut = off refl })
+      (no refl refl refl, (no refl refl refl, (no refl refl refl, (no refl refl refl, (no refl refl refl, (no refl refl refl, (no refl refl refl, (no refl refl refl, tt))))))))
+      (λ _. way-by s h (countIn s) (Said h (length s)) (start-passes s q .1) (λ _ _. no refl refl refl) (λ _. record { level = λ _ n. absurd (n (omega arith)); wrong = off refl; cut = off refl })
       (λ e. record { level = off refl; wrong = off refl; cut = λ _. omega (arith, cut-before s h (start-passes s q .1) 1 e) }) cut wrong)

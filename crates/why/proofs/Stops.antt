@@ -6,18 +6,19 @@ use Rattle.answers.specs.declared.err.Refusal.{Refusal}
 use Rattle.answers.specs.Answers.{done}
 use Rattle.answers.specs.Checks.{Check, firstOf}
 use Rattle.answers.proofs.Passed.{Passing, off}
+use Rattle.why.specs.Laws.{StoppedBy}
 
--- of each refusal of the list; and, where all checks pass, of what stands behind them
+-- of each refusal of the list, where its test refuses; and, where all checks pass, of what stands behind them
 abbrev pub Every : (Refusal → Type 0) → List Check → Type 0
 Every P [] = Unit {0}
-Every P (c ∷ l) = P (c .1) × Every P l
+Every P (c ∷ l) = (c .0 ≡ true → P (c .1)) × Every P l
 
 pub first-by : (P : Refusal → Type 0) (l : List Check) (e : Refusal) → Every P l → (Passing l → P e) → P (firstOf l e)
 first-by P [] e a h = h tt
 first-by P (c ∷ l) e a h = pick (c .0) refl (λ k. first-by P l e (a .1) k) h
   where
     pick : (t : Bool) → c .0 ≡ t → ((Passing l → P e) → P (firstOf l e)) → (Passing (c ∷ l) → P e) → P (cond t (c .1) (firstOf l e))
-    pick true q rest h = a .0
+    pick true q rest h = a .0 q
     pick false q rest h = rest (λ k. h (q, k))
 
 -- a list that goes on ends with what the rest says
@@ -25,15 +26,7 @@ pub first-append : (l m : List Check) (e : Refusal) → firstOf (l ++ m) e ≡ f
 first-append [] m e = refl
 first-append (c ∷ l) m e = ap (λ r. cond (c .0) (c .1) r) (first-append l m e)
 
--- the check of the list that says r: its test refuses, and all before it pass
-pub record StoppedBy (l : List Check) (r : Refusal) : Type 0 where
-  pub before : List Check
-  pub after : List Check
-  pub test : Bool
-  pub is : l ≡ before ++ ((test, r) ∷ after)
-  pub refuses : test ≡ true
-  pub passed : Passing before
-
+-- the check that decides
 pub stopped : (l : List Check) (e : Refusal) → done e ≡ true → done (firstOf l e) ≡ false → StoppedBy l (firstOf l e)
 stopped [] e z h = off h z
 stopped (c ∷ l) e z h = pick (c .0) refl (λ g. stopped l e z g) h

@@ -43,7 +43,7 @@ module _ (s : List ℕ) (w p : ℕ) where
   accepted : reasonOf s w p .number ≡ 0 → Accepted (reasonOf s w p)
   accepted =
       reason-by s w p (λ r. r .number ≡ 0 → Accepted r) (λ _ z. absurd (omega arith)) (λ _ z. absurd (omega arith)) (λ _ _ z. absurd (omega arith)) (λ _ _ _ z. absurd (omega arith))
-      (λ _ r f. no-field r 0 f refl) (λ _ _ _ _ z. absurd (omega arith)) (λ k e _. inl (refl, (k, e), level-is (Went (length s)) e ∙ omega arith))
+      (λ _ r f. no-field 0 f refl) (λ _ _ _ _ z. absurd (omega arith)) (λ k e _. inl (refl, (k, e), level-is (Went (length s)) e ∙ omega arith))
       (λ k j e. cut k j e (eqb j 1) refl) (λ _ _ _ _ z. absurd (omega arith))
     where
       cut : Passing (headChecks s w p) → (j : ℕ) → wayIn s (headIn s) ≡ Short j → (b : Bool) → eqb j 1 ≡ b → _≡_ {A = ℕ} (cond b 10 0) 0 → Accepted (cutIn (headIn s) (length s) (cond b 10 0) j)
@@ -64,7 +64,7 @@ module _ (s : List ℕ) (w p : ℕ) (k : Passing (headChecks s w p)) (q : ℕ) (
       let z = walk-size (h .levels) s (h .width) (h .samples) (h .body) q (head-passes s w p k .there) e in
       let none : h .levels + 1 - (h .levels + 1) ≡ 0 = omega arith in
       let all : samplesTo h (h .levels + 1) ≡ h .samples = ap (λ d. countAt d (h .samples)) none in
-      (omega (arith, z .0, end-is h (h .levels + 1) (omega arith), ap (λ n. h .width * n) all), omega (arith, z .0), z .1)
+      (omega (arith, z .0, end-is h (h .levels + 1) (omega arith) (omega arith), ap (λ n. h .width * n) all), omega (arith, z .0), z .1)
 
   -- so the bytes in front of that place are a whole file
   trimmed : reasonOf (take q s) w p ≡ nothing
@@ -121,4 +121,4 @@ why-trimmed s w p {r} why n = subst (Trimmed s w p) (sym why) all n
     all : Trimmed s w p (reasonOf s w p)
     all =
         reason-by s w p (Trimmed s w p) (λ _ z. absurd (omega arith)) (λ _ z. absurd (omega arith)) (λ _ _ z. absurd (omega arith)) (λ _ _ _ z. absurd (omega arith))
-        (λ _ r f. no-field r 12 f refl) (λ k q e less _. here k q e less) (λ _ _ z. absurd (omega arith)) (λ _ j _. no-cut j 12 refl) (λ _ _ _ _ z. absurd (omega arith))
+        (λ _ r f. no-field 12 f refl) (λ k q e less _. here k q e less) (λ _ _ z. absurd (omega arith)) (λ _ j _. no-cut j 12 refl) (λ _ _ _ _ z. absurd (omega arith))

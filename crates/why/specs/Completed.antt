@@ -12,6 +12,7 @@ use Rattle.pyramid.specs.Files.{isCount}
 use Rattle.pyramid.specs.Opens.{countOf}
 use Rattle.why.specs.declared.Reason.{Reason}
 use Rattle.why.specs.Reasons.{because, nothing, endOf, placeOf, wantedOf}
+use Rattle.why.specs.Laws.{OfField}
 
 -- r is a cut: one that is refused, or one that is accepted
 abbrev pub Cut : Reason → Type 0
@@ -22,10 +23,10 @@ abbrev pub rightCount : Head → List ℕ → ℕ → Bool
 rightCount h t zero = isCount (leAt 4 t 0)
 rightCount h t (suc j) = eqb (leAt 4 t (placeOf h (suc j))) (countOf h (suc j))
 
--- the reason m of a file t that ends where its section j does: the next count is missing, or nothing is. Behind section 0 its fields may be refused, but not as a cut or
--- a wrong count
+-- the reason m of a file t that ends where its section j does: the next count is missing or, behind the last section, the file is whole. Once section 0 is there, one of its
+-- fields may be refused
 abbrev pub Ends : Head → List ℕ → ℕ → Reason → Type 0
-Ends h t zero m = (m .number ≡ 10) ⊎ (m .number ≡ 9) → m ≡ because 10 1 (length t) 4 0
+Ends h t zero m = (m ≡ because 10 1 (length t) 4 0) ⊎ OfField t m
 Ends h t (suc j) m = m ≡ cond (eqb (suc j) (h .levels + 1)) nothing (because 0 (suc j + 1) (length t) 4 0)
 
 -- r is the reason of a cut, and m that of the file t, which has the wanted bytes more and whose section 0 says h

@@ -1,2 +1,3 @@
 pub mod Reasons
+pub mod Laws
 pub mod Completed

@@ -14,8 +14,8 @@ use Rattle.sizes.specs.declared.Wavelet.the-variants.{Cdf53}
 use Rattle.sizes.specs.Lengths.{mostSamples}
 use Rattle.sizes.specs.Levels.{depthOf}
 use Rattle.pyramid.specs.declared.head.Head.{Head}
-use Rattle.pyramid.specs.Files.{mostBytes, newCount, bodySize}
-use Rattle.pyramid.specs.Opens.{headIn, startChecks, sayFile, samplesTo, countOf, lengthOf}
+use Rattle.pyramid.specs.Files.{mostBytes, newCount}
+use Rattle.pyramid.specs.Opens.{headIn, startChecks, sayFile, countOf, lengthOf}
 use Rattle.why.specs.declared.Reason.{Reason}
 
 abbrev pub because : ℕ → ℕ → ℕ → ℕ → ℕ → Reason
@@ -25,14 +25,15 @@ because n j p w f = record { number = n; section = j; place = p; wanted = w; fou
 abbrev pub nothing : Reason
 nothing = because 0 0 0 0 0
 
--- where section j ends, where its count stands, and what that must be. Section 0 is of either kind: "section 0's wanted count is 14"
+-- where section j ends, where its count stands, and what that must be. Section 0 is of either kind: "section 0's wanted count is 14"; each other one has its count, then
+-- its samples, and stands where the one before it ends
 abbrev pub endOf : Head → ℕ → ℕ
 endOf h zero = h .body
-endOf h (suc j) = h .body + bodySize (h .width) j (samplesTo h (suc j))
+endOf h (suc j) = endOf h j + (4 + lengthOf h (suc j))
 
 abbrev pub placeOf : Head → ℕ → ℕ
 placeOf h zero = 0
-placeOf h (suc j) = endOf h (suc j) - (4 + lengthOf h (suc j))
+placeOf h (suc j) = endOf h j
 
 abbrev pub wantedOf : Head → ℕ → ℕ
 wantedOf h zero = newCount
@@ -42,32 +43,32 @@ wantedOf h (suc j) = countOf h (suc j)
 abbrev pub missing : ℕ → ℕ → ℕ → ℕ
 missing b p e = cond (ltb b (p + 4)) (p + 4 - b) (e - b)
 
--- "for a cut the place is the file's length, found is 0": b bytes, cut in section j
+-- "for a cut the place is the file's length, found is 0": b bytes, cut in section j, with a number
 abbrev pub cutIn : Head → ℕ → ℕ → ℕ → Reason
-cutIn h b n j = because n j b (missing b (placeOf h j) (endOf h j)) 0
+cutIn h b number j = because number j b (missing b (placeOf h j) (endOf h j)) 0
 
--- the case that the opener says, of a file of b bytes: t tells whether section 0 is there, and h is what it says. A file that opens at a level above 0 is cut in section
--- L + 2 - level. The opener says the last nine cases of no file
+-- the case that the opener says, of a file of b bytes: `there` tells whether section 0 is there, and h is what it says. A file that opens at a level above 0 is cut in
+-- section L + 2 - level. The opener says the last nine cases of no file
 abbrev pub reasonBy : Bool → Head → ℕ → Refusal → Reason
-reasonBy t h b (Done level count) = cond (eqb level 0) nothing (cutIn h b 0 (h .levels + 2 - level))
-reasonBy t h b (MinFilterSize n least) = because 1 0 6 least n
-reasonBy t h b BufferWasTooSmallForLevel = because 4 0 5 (depthOf Cdf53 (h .samples)) (h .levels)
-reasonBy t h b TooLong = cond t (because 6 0 6 mostSamples (h .samples)) (because 6 0 0 mostBytes b)
-reasonBy t h b (OtherWidth file asked) = because 8 0 4 asked file
-reasonBy t h b (BadCount j found) = because 9 j (placeOf h j) (wantedOf h j) found
-reasonBy t h b (CutShort c) = cutIn h b 10 (cond t 1 0)
-reasonBy t h b (OtherPoint file asked) = because 11 0 10 asked file
-reasonBy t h b (Trailing more) = because 12 (h .levels + 1) (endOf h (h .levels + 1)) (endOf h (h .levels + 1)) b
-reasonBy t h b NoRate = because 18 0 14 1 0
-reasonBy t h b (ApproxSizeNotMatches a c) = nothing
-reasonBy t h b (OutputSizeIsNotValid a c) = nothing
-reasonBy t h b ZeroedBaseSize = nothing
-reasonBy t h b (NoRoom a c) = nothing
-reasonBy t h b (NoSuchPlace a c) = nothing
-reasonBy t h b BookFull = nothing
-reasonBy t h b AlreadyHeld = nothing
-reasonBy t h b NotHeld = nothing
-reasonBy t h b (DetailsSizeNotMatches a c) = nothing
+reasonBy there h b (Done level count) = cond (eqb level 0) nothing (cutIn h b 0 (h .levels + 2 - level))
+reasonBy there h b (MinFilterSize n least) = because 1 0 6 least n
+reasonBy there h b BufferWasTooSmallForLevel = because 4 0 5 (depthOf Cdf53 (h .samples)) (h .levels)
+reasonBy there h b TooLong = cond there (because 6 0 6 mostSamples (h .samples)) (because 6 0 0 mostBytes b)
+reasonBy there h b (OtherWidth file asked) = because 8 0 4 asked file
+reasonBy there h b (BadCount j found) = because 9 j (placeOf h j) (wantedOf h j) found
+reasonBy there h b (CutShort c) = cutIn h b 10 (cond there 1 0)
+reasonBy there h b (OtherPoint file asked) = because 11 0 10 asked file
+reasonBy there h b (Trailing more) = because 12 (h .levels + 1) (endOf h (h .levels + 1)) (endOf h (h .levels + 1)) b
+reasonBy there h b NoRate = because 18 0 14 1 0
+reasonBy there h b (ApproxSizeNotMatches a c) = because 2 0 0 0 0
+reasonBy there h b (OutputSizeIsNotValid a c) = because 3 0 0 0 0
+reasonBy there h b ZeroedBaseSize = because 5 0 0 0 0
+reasonBy there h b (NoRoom a c) = because 7 0 0 0 0
+reasonBy there h b (NoSuchPlace a c) = because 13 0 0 0 0
+reasonBy there h b BookFull = because 14 0 0 0 0
+reasonBy there h b AlreadyHeld = because 15 0 0 0 0
+reasonBy there h b NotHeld = because 16 0 0 0 0
+reasonBy there h b (DetailsSizeNotMatches a c) = because 17 0 0 0 0
 
 -- the first checks of the opener: the file is not too long, and section 0 is there
 abbrev pub sayStart : List ℕ → Refusal
@@ -77,7 +78,7 @@ sayStart s = firstOf (startChecks s) (Done 0 0)
 unfoldable pub reasonOf : List ℕ → ℕ → ℕ → Reason
 reasonOf s w p = reasonBy (done (sayStart s)) (headIn s) (length s) (sayFile s w p)
 
--- what the opener can say of a file of b bytes whose section 0 says h: the sections are those that h tells of, and a cut is before the end of its section
+-- what the opener can say of a file of b bytes whose section 0 says h: the sections are those that h tells of, and a cut is not behind the end of its section
 pub record Said (h : Head) (b : ℕ) (r : Refusal) : Type 0 where
   pub level : done r ≡ true → (answerOf r .first ≡ 0 → ⊥) → (answerOf r .first ≤ h .levels) × (b ≤ endOf h (h .levels + 2 - answerOf r .first))
   pub wrong : says 9 r ≡ true → (1 ≤ answerOf r .first) × (answerOf r .first ≤ h .levels + 1)

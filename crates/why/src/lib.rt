@@ -8,6 +8,7 @@ ghost use Rattle.pyramid.specs.Opens.{headIn, Read};
 ghost use Rattle.why.specs.Reasons.{because, endOf, placeOf, missing, cutIn, reasonBy, sayStart, reasonOf, Said};
 use answers::err::Refusal;
 use answers::err::is_done;
+use answers::err::numbers;
 use pyramid::MOST_BYTES;
 use pyramid::head::Head;
 use pyramid::head::NEW_COUNT;
@@ -128,7 +129,7 @@ fn file_reason(h: Head, b: usize, said: Refusal) -> Reason
             because(12, h.levels + 1, end, end, b)
         }
         Refusal::NoRate => because(18, 0, 14, 1, 0),
-        _ => because(0, 0, 0, 0, 0),
+        _ => because(numbers(said).number as usize, 0, 0, 0, 0),
     }
 }
 

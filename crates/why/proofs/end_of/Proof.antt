@@ -23,6 +23,6 @@ end-of-spec =
     (λ c. let pre = c .before .before .before .pre in omega (arith, few c, pre .0 .body, pre .0 .levels, pre .2))
     (λ c. let st = c .before .before .before in
     let a = st .args in (
-      ap (λ (n : ℕ). a .h .body + 4 * a .j + a .h .width * n) (c .before .samples-to .ensures .0) ∙ sym (end-is (a .h) (a .j) (st .pre .1)),
+      ap (λ (n : ℕ). a .h .body + 4 * a .j + a .h .width * n) (c .before .samples-to .ensures .0) ∙ sym (end-is (a .h) (a .j) (st .pre .1) (st .pre .2)),
       omega (arith, few c, st .pre .0 .body, st .pre .0 .levels, st .pre .2),
     )))

@@ -9,12 +9,15 @@ use borrow.Author.Tests.{eq-eqb, ne-eqb}
 use denote.Enum.Declared.{tagOf}
 use Rattle.answers.specs.declared.err.Refusal.{Refusal}
 use Rattle.answers.specs.declared.err.Refusal.the-variants.{Done, MinFilterSize, ApproxSizeNotMatches, OutputSizeIsNotValid, BufferWasTooSmallForLevel, ZeroedBaseSize, TooLong, NoRoom, OtherWidth, BadCount, CutShort, OtherPoint, Trailing, NoSuchPlace, BookFull, AlreadyHeld, NotHeld, DetailsSizeNotMatches, NoRate}
+use Rattle.answers.specs.declared.err.Answer.{Answer}
+use Rattle.answers.specs.Answers.{answerOf}
 use Rattle.answers.proofs.err.Refusal.{the-type}
 use Rattle.answers.proofs.Chain.{by, stop}
 use Rattle.answers.proofs.Passed.{off}
 use Rattle.pyramid.specs.declared.head.Head.{Head}
-use Rattle.why.specs.Reasons.{because, nothing, endOf, reasonBy, Said}
-use Rattle.why.proofs.Keys.{has, is-one}
+use Rattle.why.specs.Reasons.{because, endOf, reasonBy, Said}
+use Rattle.why.specs.Laws.{among}
+use Rattle.why.proofs.Keys.{is-one}
 use Rattle.why.proofs.Places.{wanted-is, told}
 use Rattle.why.proofs.file_reason.Statement.{statement}
 use Rattle.why.proofs.file_reason.Tie as tie
@@ -23,7 +26,7 @@ use Rattle.why.proofs.file_reason.Tie as tie
 abbrev keys : List ℕ
 keys = 2 ∷ 3 ∷ 5 ∷ 7 ∷ 13 ∷ 14 ∷ 15 ∷ 16 ∷ 17 ∷ []
 
-rest : (h : Head) (b : ℕ) (r : Refusal) → has keys (tagOf the-type r) ≡ true → nothing ≡ reasonBy true h b r
+rest : (h : Head) (b : ℕ) (r : Refusal) → among keys (tagOf the-type r) ≡ true → because (answerOf r .number) 0 0 0 0 ≡ reasonBy true h b r
 rest h b (Done a c) = off refl
 rest h b (MinFilterSize a c) = off refl
 rest h b (ApproxSizeNotMatches a c) = λ _. refl
@@ -68,7 +71,7 @@ file-reason-spec =
     (λ c κs. (count (c .before) .0, count (c .before) .1, c .before .before .before .before .pre .0 .levels))
     (λ c κs. search needs) (λ c. search needs)
     (λ c κs. let st = c .before .before in (st .pre .0, omega arith, omega arith, subst (Said (st .args .h) (st .args .b)) (c .enum-told3 .given .1) (st .pre .1) .cut refl))
-    (λ c. search needs) (λ c κs. search needs) (λ c. search needs) (λ c. search needs) (λ c κs. search needs) (λ c. search needs) (λ c κs. search needs) (λ c. search needs) (λ c κs. search needs) (λ c κs. search needs)
+    (λ c. search needs) (λ c κs. search needs) (λ c. search needs) (λ c. search needs) (λ c κs. search needs) (λ c. search needs) (λ c κs. search needs) (λ c. search needs) (λ c κs. search needs) (λ c κs. search needs) (λ c. search needs) (λ c κs. search needs)
     (λ c. told true _ _ (c .before .before .before .before .said .given .1) (by _ (ne-eqb _ _ (c .before .before .if1 .left)) (c .cut-in .ensures)))
     (λ c. told true _ _ (c .before .before .said2 .given .1) (c .because2 .ensures))
     (λ c. told true _ _ (c .before .before .enum-told .given .1) (c .because3 .ensures ∙ ap (λ (n : ℕ). because 4 0 5 n (c .before .before .before .before .args .h .levels)) (c .before .depth .ensures)))
@@ -85,4 +88,5 @@ file-reason-spec =
     told true _ _ (c .before .before .before .before .enum-told4 .given .1)
     (c .because8 .ensures ∙ ap (λ (e : ℕ). because 12 (st .args .h .levels + 1) e e (st .args .b)) (c .before .before .end-of .ensures .0)))
     (λ c. told true _ _ (c .before .enum-told5 .given .1) (c .because9 .ensures))
-    (λ c. let st = c .before .before in c .because10 .ensures ∙ rest (st .args .h) (st .args .b) (st .args .said) (is-one keys _ (c .before .match .keys11))))
+    (λ c. let st = c .before .before .before .before in
+    c .because10 .ensures ∙ ap (λ (a : Answer). because (a .number) 0 0 0 0) (c .before .before .numbers .ensures) ∙ rest (st .args .h) (st .args .b) (st .args .said) (is-one keys _ (c .before .before .before .match .keys11))))

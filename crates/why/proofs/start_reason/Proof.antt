@@ -15,7 +15,8 @@ use Rattle.pyramid.specs.declared.head.Head.{Head}
 use Rattle.pyramid.specs.Files.{newCount}
 use Rattle.pyramid.specs.Opens.{headIn}
 use Rattle.why.specs.Reasons.{because, missing, reasonBy, sayStart}
-use Rattle.why.proofs.Keys.{has, is-one}
+use Rattle.why.specs.Laws.{among}
+use Rattle.why.proofs.Keys.{is-one}
 use Rattle.why.proofs.Places.{told}
 use Rattle.why.proofs.Says.{start-by}
 use borrow.Author.Needs.{needs}
@@ -36,7 +37,7 @@ module _ (s : List ℕ) where
 
   -- what is neither too long nor a wrong count is a cut
   abbrev Cut : Refusal → Type 0
-  Cut r = done r ≡ false → has keys (tagOf the-type r) ≡ true
+  Cut r = done r ≡ false → among keys (tagOf the-type r) ≡ true
       → (4 ≤ length s → length s ≤ headIn s .body) × (because 10 0 (length s) (missing (length s) 0 (headIn s .body)) 0 ≡ reasonBy false (headIn s) (length s) r)
 
   rest : (r : Refusal) → r ≡ sayStart s → Cut r

@@ -1,0 +1,59 @@
+-- What the laws about the reason say, in words of their own.
+use mathlib.Core.Bool.{Bool, true, false, cond, _||_}
+use mathlib.Core.List.{List, [], _∷_, _++_}
+use mathlib.Core.Logic.{_⊎_}
+use mathlib.Core.Path.{_≡_}
+use Prim.Native.Nat.{ℕ, _+_, _-_, _/_, _≤_, _<_}
+use lib.Dec.{ltb, eqb}
+use lib.ListN.{length}
+use Rattle.answers.specs.declared.err.Answer.{Answer}
+use Rattle.answers.specs.declared.err.Refusal.{Refusal}
+use Rattle.answers.specs.Answers.{say}
+use Rattle.answers.specs.Checks.{Check}
+use Rattle.answers.proofs.Passed.{Passing}
+use Rattle.samples.specs.Le.{leAt}
+use Rattle.pyramid.specs.declared.walk.Way.the-variants.{Went}
+use Rattle.pyramid.specs.Opens.{headIn, headChecks, wayIn, countOf, countIn}
+use Rattle.why.specs.declared.Reason.{Reason}
+use Rattle.why.specs.Reasons.{nothing, endOf, placeOf}
+
+-- whether x is one of these
+abbrev pub among : List ℕ → ℕ → Bool
+among [] x = false
+among (k ∷ ks) x = eqb x k || among ks x
+
+-- the check of a list that says r: its test refuses, and all before it pass
+pub record StoppedBy (l : List Check) (r : Refusal) : Type 0 where
+  pub before : List Check
+  pub after : List Check
+  pub test : Bool
+  pub is : l ≡ before ++ ((test, r) ∷ after)
+  pub refuses : test ≡ true
+  pub passed : Passing before
+
+-- the answer of the opener that a reason other than 0 stands for: its number, and the two values that go with it
+abbrev pub answerBy : Reason → Answer
+answerBy r =
+    say (r .number)
+    (cond (among (1 ∷ 8 ∷ 11 ∷ []) (r .number)) (r .found) (cond (eqb (r .number) 9) (r .section) (cond (eqb (r .number) 10) (r .place) (cond (eqb (r .number) 12) (r .found - r .wanted) 0))))
+    (cond (among (1 ∷ 8 ∷ 11 ∷ []) (r .number)) (r .wanted) (cond (eqb (r .number) 9) (r .found) 0))
+
+-- room for the samples that opening gives back
+abbrev pub Room : List ℕ → ℕ → ℕ → ℕ → ℕ → Type 0
+Room s w o u v = (countIn s ≤ o / w) × (countIn s ≤ u / w) × (countIn s ≤ v / w)
+
+-- section 0 passes, and sections 1 to j are there, each with the count that it must have
+pub record Sound (s : List ℕ) (w p j : ℕ) : Type 0 where
+  pub head : Passing (headChecks s w p)
+  pub sections : (i : ℕ) → 1 ≤ i → i ≤ j → (leAt 4 s (placeOf (headIn s) i) ≡ countOf (headIn s) i) × (endOf (headIn s) i ≤ length s)
+
+-- a file that is whole: so are all its sections, and they end where it does
+abbrev pub Ended : List ℕ → ℕ → ℕ → Type 0
+Ended s w p = Passing (headChecks s w p) × (wayIn s (headIn s) ≡ Went (length s))
+
+-- a field of section 0 is refused: width and levels have one byte, the others four
+pub record OfField (s : List ℕ) (r : Reason) : Type 0 where
+  pub number : among (1 ∷ 4 ∷ 6 ∷ 8 ∷ 11 ∷ 18 ∷ []) (r .number) ≡ true
+  pub section : r .section ≡ 0
+  pub place : among (4 ∷ 5 ∷ 6 ∷ 10 ∷ 14 ∷ []) (r .place) ≡ true
+  pub found : leAt (cond (ltb (r .place) 6) 1 4) s (r .place) ≡ r .found
