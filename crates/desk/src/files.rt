@@ -84,7 +84,7 @@ pub extern "C" fn bk_pyramid_open(
     open(file, width as usize, point as usize, out, one, two)
 }
 
-// The first check that stopped the opener.
+// Why a file does not open, or opens cut: the opener's number, and the section, the place, what is wanted there and what is found.
 #[no_mangle]
 pub extern "C" fn bk_pyramid_why(file: &[u8], width: u32, point: u32) -> Reason
     ensures { λ r. ⌜ r ≡ reasonOf (now (file .entry)) width point ⌝ }

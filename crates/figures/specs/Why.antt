@@ -1,15 +1,34 @@
--- C-18's figures, each case of its table once: P6's file of 31 bytes and the same with a rate, asked for with width 1 and point 14 where nothing else stands. Number, section,
--- place, wanted, found.
+-- C-18's figures, every case of its table: P6's file of 31 bytes and the same with a rate, asked for with width 1 and point 14 where nothing else stands; and a file of 16 bits
+-- and three levels. Number, section, place, wanted, found.
 use mathlib.Core.List.{List, [], _∷_, _++_}
 use mathlib.Core.Path.{_≡_}
 use Prim.Native.Nat.{ℕ, _+_, _<_}
-use lib.ListN.{length, take, drop}
+use lib.ListN.{length, take, drop, replicate}
+use Rattle.dwt.specs.declared.filter.Filter.the-variants.{Cdf53I16}
+use Rattle.pyramid.specs.Files.{fileOf}
 use Rattle.why.specs.Reasons.{because, reasonOf}
 use Rattle.figures.specs.Worked.{thirtyOne, thirtyFive, unrated}
 
 -- one byte changed
 abbrev pub changed : ℕ → ℕ → List ℕ → List ℕ
 changed i b s = take i s ++ (b ∷ drop (i + 1) s)
+
+-- nine samples of 16 bits, all 0, three levels, point 7, 1,000 millihertz: sections of 2, 1, 2 and 4 samples, at 18, 26, 32 and 40
+abbrev pub fiftyTwo : List ℕ
+fiftyTwo =
+    0x0E ∷ 0 ∷ 0 ∷ 0 ∷ 0x02 ∷ 0x03 ∷ 0x09 ∷ 0 ∷ 0 ∷ 0 ∷ 0x07 ∷ 0 ∷ 0 ∷ 0 ∷ 0xE8 ∷ 0x03 ∷ 0 ∷ 0 ∷ 0x02 ∷ 0 ∷ 0 ∷ 0 ∷ 0 ∷ 0 ∷ 0 ∷ 0 ∷ 0x01 ∷ 0 ∷ 0 ∷ 0 ∷ 0 ∷ 0
+    ∷ 0x02 ∷ 0 ∷ 0 ∷ 0 ∷ 0 ∷ 0 ∷ 0 ∷ 0 ∷ 0x04 ∷ 0 ∷ 0 ∷ 0 ∷ 0 ∷ 0 ∷ 0 ∷ 0 ∷ 0 ∷ 0 ∷ 0 ∷ 0 ∷ []
+
+-- such a file, asked for with width 2 and point 7
+pub record Deeper : Type 0 where
+  pub bytes : fileOf Cdf53I16 3 7 1000 (replicate 18 0) ≡ fiftyTwo
+  pub whole : reasonOf fiftyTwo 2 7 ≡ because 0 0 0 0 0
+  pub width : reasonOf fiftyTwo 4 7 ≡ because 8 0 4 4 2
+  pub first : reasonOf (take 20 fiftyTwo) 2 7 ≡ because 10 1 20 2 0
+  pub count : reasonOf (take 41 fiftyTwo) 2 7 ≡ because 0 4 41 3 0
+  pub section : reasonOf (take 45 fiftyTwo) 2 7 ≡ because 0 4 45 7 0
+  pub wrong : reasonOf (changed 32 5 fiftyTwo) 2 7 ≡ because 9 3 32 2 5
+  pub more : reasonOf (fiftyTwo ++ (0 ∷ [])) 2 7 ≡ because 12 4 52 52 53
 
 pub record Why : Type 0 where
   -- "a whole file is all zeros"
@@ -53,3 +72,4 @@ pub record Why : Type 0 where
   pub first-width : reasonOf thirtyOne 2 15 ≡ because 8 0 4 2 1
   pub first-rate : reasonOf (changed 18 7 unrated) 1 14 ≡ because 18 0 14 1 0
   pub first-count : reasonOf (take 28 (changed 20 9 thirtyOne)) 1 14 ≡ because 9 2 20 1 9
+  pub deeper : Deeper

@@ -1,5 +1,5 @@
--- "A whole file is all zeros", of the files that writing makes: the reason of each, of either kind, is all zeros, and a file whose reason is all zeros is one of them, whoever
--- wrote it: that of its own samples and rate. A book takes these and no others.
+-- "A whole file is all zeros": the file of a recording, for a rate or of the old kind, has such a reason, and a file that has one is the file of the samples which it opens as
+-- and of its rate, whoever wrote it. The file checks of a book pass for these and no others; a book may still be full, or hold the point.
 use mathlib.Core.Bool.{Bool, cond}
 use mathlib.Core.List.{List, [], _∷_}
 use mathlib.Core.Path.{_≡_, refl, sym, ap, subst, _∙_}

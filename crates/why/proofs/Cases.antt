@@ -1,7 +1,7 @@
 -- The reason of any file, case by case, with what is known of the file in each: C-18's table as it is used in proofs.
 use mathlib.Core.Bool.{Bool, true, false, cond, _&&_}
 use mathlib.Core.List.{List, [], _∷_}
-use mathlib.Core.Logic.{⊎-elim}
+use mathlib.Core.Logic.{_⊎_, inl, inr, ⊎-elim}
 use mathlib.Core.Path.{_≡_, refl, sym, ap, subst, _∙_}
 use Prim.Native.Nat.{ℕ, _+_, _-_, _≤_, _<_}
 use native.Mathlib.Omega.{arith}
@@ -20,11 +20,11 @@ use Rattle.pyramid.specs.declared.head.Head.{Head}
 use Rattle.pyramid.specs.declared.walk.Way.{Way}
 use Rattle.pyramid.specs.declared.walk.Way.the-variants.{Went, Short, Wrong}
 use Rattle.pyramid.specs.Files.{mostBytes, newCount, isCount}
-use Rattle.pyramid.specs.Opens.{headIn, isNew, rateIn, startChecks, headChecks, wayIn, wayChecks, wholeDetails, countIn, sayFile}
+use Rattle.pyramid.specs.Opens.{headIn, isNew, startChecks, headChecks, wayIn, wayChecks, wholeDetails, countIn, sayFile}
 use Rattle.pyramid.proofs.Opening.{head-passes}
 use Rattle.pyramid.proofs.Ways.{walk-size}
 use Rattle.why.specs.declared.Reason.{Reason}
-use Rattle.why.specs.Laws.{among, OfField}
+use Rattle.why.specs.Laws.{among, fieldNumbers, OfField}
 use Rattle.why.specs.Reasons.{because, nothing, endOf, placeOf, wantedOf, cutIn, reasonBy, sayStart, reasonOf}
 use Rattle.why.proofs.Says.{start-by, reason-early, reason-later, reason-passed, later-by, way-stops}
 
@@ -33,8 +33,8 @@ abbrev pub numberOf : ℕ → ℕ
 numberOf j = cond (eqb j 1) 10 0
 
 -- a field of section 0 has none of the other numbers, and a cut has no others
-pub no-field : {A : Type 0} {s : List ℕ} {r : Reason} (n : ℕ) → OfField s r → among (1 ∷ 4 ∷ 6 ∷ 8 ∷ 11 ∷ 18 ∷ []) n ≡ false → r .number ≡ n → A
-no-field n f h e = off h (sym (ap (λ m. among (1 ∷ 4 ∷ 6 ∷ 8 ∷ 11 ∷ 18 ∷ []) m) e) ∙ f .number)
+pub no-field : {A : Type 0} {s : List ℕ} {r : Reason} (n : ℕ) → OfField s r → among fieldNumbers n ≡ false → r .number ≡ n → A
+no-field n f h e = off h (sym (ap (λ m. among fieldNumbers m) e) ∙ f .number)
 
 pub no-cut : {A : Type 0} (j n : ℕ) → among (10 ∷ 0 ∷ []) n ≡ false → numberOf j ≡ n → A
 no-cut j n h e = off h (sym (ap (λ m. among (10 ∷ 0 ∷ []) m) e) ∙ pick (eqb j 1))
@@ -126,7 +126,7 @@ module _ (s : List ℕ) (w p : ℕ) (Q : Reason → Type 0) where
           (λ k _. way k (wayIn s (headIn s)) refl) refl
         where
           of : {r : Refusal} {A : Type 0} → let x = reasonBy true (headIn s) (length s) r in
-              among (1 ∷ 4 ∷ 6 ∷ 8 ∷ 11 ∷ 18 ∷ []) (x .number) ≡ true → x .section ≡ 0 → among (4 ∷ 5 ∷ 6 ∷ 10 ∷ 14 ∷ []) (x .place) ≡ true
+              among fieldNumbers (x .number) ≡ true → x .section ≡ 0 → among (4 ∷ 5 ∷ 6 ∷ 10 ∷ 14 ∷ []) (x .place) ≡ true
               → leAt (cond (ltb (x .place) 6) 1 4) s (x .place) ≡ x .found → A → sayFile s w p ≡ r → Q (reasonOf s w p)
           of {r} n z a f _ g =
               let x = reasonBy true (headIn s) (length s) r in
@@ -135,3 +135,18 @@ module _ (s : List ℕ) (w p : ℕ) (Q : Reason → Type 0) where
           rate-none : (new : Bool) → (new && eqb (cond new (leAt 4 s 14) 0) 0) ≡ true → leAt 4 s 14 ≡ 0
           rate-none true t = eqb-true (leAt 4 s 14) 0 t
           rate-none false t = off refl t
+
+-- ---- about the call
+
+-- a field that is refused, or a file that is too long: "else the place is the field's first byte"
+pub why-field : (s : List ℕ) (w p : ℕ) {r : Reason} → r ≡ reasonOf s w p → among fieldNumbers (r .number) ≡ true → (r ≡ because 6 0 0 mostBytes (length s)) ⊎ OfField s r
+why-field s w p why n = subst (λ r. among fieldNumbers (r .number) ≡ true → (r ≡ because 6 0 0 mostBytes (length s)) ⊎ OfField s r) (sym why) all n
+  where
+    cut : (j : ℕ) (b : Bool) → among fieldNumbers (cond b 10 0) ≡ false
+    cut j true = refl
+    cut j false = refl
+
+    all : among fieldNumbers (reasonOf s w p .number) ≡ true → (reasonOf s w p ≡ because 6 0 0 mostBytes (length s)) ⊎ OfField s (reasonOf s w p)
+    all =
+        reason-by s w p (λ r. among fieldNumbers (r .number) ≡ true → (r ≡ because 6 0 0 mostBytes (length s)) ⊎ OfField s r) (λ _ _. inl refl) (λ _. off refl) (λ _ _. off refl) (λ _ _ _. off refl)
+        (λ _ r f _. inr f) (λ _ _ _ _. off refl) (λ _ _. off refl) (λ _ j _. off (cut j (eqb j 1))) (λ _ _ _ _. off refl)

@@ -285,27 +285,43 @@ module _ (s x : List ℕ) (w p : ℕ) (full : length x ≡ missing (length s) 0 
 
 -- ---- about the call
 
--- r is the reason of s, and m that of s with the wanted bytes more, whatever they are
-abbrev Completes : List ℕ → List ℕ → ℕ → ℕ → Reason → Type 0
-Completes s x w p r = Cut r → length x ≡ r .wanted → Completed (headIn (s ++ x)) (s ++ x) r (reasonOf (s ++ x) w p)
-
-pub why-completed : (s x : List ℕ) (w p : ℕ) {r m : Reason} → r ≡ reasonOf s w p → m ≡ reasonOf (s ++ x) w p → Cut r → length x ≡ r .wanted → Completed (headIn (s ++ x)) (s ++ x) r m
-why-completed s x w p {r} {m} er em cut full = subst (λ m. Completed (headIn (s ++ x)) (s ++ x) r m) (sym em) (subst (Completes s x w p) (sym er) all cut full)
+-- a cut is in section 0, in its count or behind it, or in a later one; no other case is one
+cut-by : (s : List ℕ) (w p : ℕ) (P : Reason → Type 0) → (length s < 4 → P (cutIn (headIn s) (length s) 10 0))
+    → (4 ≤ length s → isCount (leAt 4 s 0) ≡ true → length s < headIn s .body → P (cutIn (headIn s) (length s) 10 0))
+    → (Passing (headChecks s w p) → (j : ℕ) → wayIn s (headIn s) ≡ Short j → P (cutIn (headIn s) (length s) (numberOf j) j)) → Cut (reasonOf s w p) → P (reasonOf s w p)
+cut-by s w p P few short later =
+    reason-by s w p (λ r. Cut r → P r) (λ _ c. no 6 refl c) (λ b _. few b) (λ _ _ c. no 9 refl c) (λ four c less _. short four c less) (λ _ m f c. no-field-cut m f c) (λ _ _ _ _ c. no 12 refl c) (λ _ _ c. whole c)
+    (λ k j e _. later k j e) (λ _ _ _ _ c. no 9 refl c)
   where
-    no-cut-field : {A : Type 0} (m : Reason) → OfField s m → Cut m → A
-    no-cut-field m f (inl z) = no-field 10 f refl z
-    no-cut-field m f (inr z) = no-field 0 f refl (z .0)
+    no : {A : Type 0} (n : ℕ) {j : ℕ} → among (0 ∷ 10 ∷ []) n ≡ false → (n ≡ 10) ⊎ ((n ≡ 0) × (1 ≤ j)) → A
+    no n f (inl z) = off f (ap (λ i. among (0 ∷ 10 ∷ []) i) z)
+    no n f (inr z) = off f (ap (λ i. among (0 ∷ 10 ∷ []) i) (z .0))
 
-    no : {A : Type 0} (ks : List ℕ) (n : ℕ) {j : ℕ} → among ks n ≡ false → among ks 10 ≡ true → among ks 0 ≡ true → (n ≡ 10) ⊎ ((n ≡ 0) × (1 ≤ j)) → A
-    no ks n f ten zeroth (inl z) = off f (ap (λ i. among ks i) z ∙ ten)
-    no ks n f ten zeroth (inr z) = off f (ap (λ i. among ks i) (z .0) ∙ zeroth)
+    no-field-cut : {A : Type 0} (m : Reason) → OfField s m → Cut m → A
+    no-field-cut m f (inl z) = no-field 10 f refl z
+    no-field-cut m f (inr z) = no-field 0 f refl (z .0)
 
-    all : Completes s x w p (reasonOf s w p)
-    all =
-        reason-by s w p (Completes s x w p) (λ _ c. no (0 ∷ 10 ∷ []) 6 refl refl refl c) (λ b _ f. count-first s x w p f b) (λ _ _ c. no (0 ∷ 10 ∷ []) 9 refl refl refl c)
-        (λ four c less _ f. section-first s x w p f four c less) (λ _ m f c. no-cut-field m f c) (λ _ _ _ _ c. no (0 ∷ 10 ∷ []) 12 refl refl refl c) (λ _ _ c. whole c)
-        (λ k j e _ f. completed s x w p k j e f) (λ _ _ _ _ c. no (0 ∷ 10 ∷ []) 9 refl refl refl c)
-      where
-        whole : {A : Type 0} → Cut nothing → A
-        whole (inl z) = absurd (omega arith)
-        whole (inr z) = absurd (omega (arith, z .1))
+    whole : {A : Type 0} → Cut nothing → A
+    whole (inl z) = absurd (omega arith)
+    whole (inr z) = absurd (omega (arith, z .1))
+
+-- "for a cut the place is the file's length, found is 0", and something is wanted
+pub why-cut : (s : List ℕ) (w p : ℕ) {r : Reason} → r ≡ reasonOf s w p → Cut r → (r .place ≡ length s) × (r .found ≡ 0) × (1 ≤ r .wanted)
+why-cut s w p why cut =
+    subst (λ r. (r .place ≡ length s) × (r .found ≡ 0) × (1 ≤ r .wanted)) (sym why)
+    (cut-by s w p (λ r. (r .place ≡ length s) × (r .found ≡ 0) × (1 ≤ r .wanted)) (λ b. (refl, refl, omega (arith, broken-is (length s) 0 (headIn s .body) b)))
+    (λ four _ less. (refl, refl, omega (arith, less, rest-is (length s) 0 (headIn s .body) four))) (λ k j e. (refl, refl, some k j e)) (subst Cut why cut))
+  where
+    some : Passing (headChecks s w p) → (j : ℕ) → wayIn s (headIn s) ≡ Short j → 1 ≤ missing (length s) (placeOf (headIn s) j) (endOf (headIn s) j)
+    some k j e =
+        let q = placeOf (headIn s) j in
+        ⊎-elim (λ (b : length s < q + 4). omega (arith, broken-is (length s) q (endOf (headIn s) j) b))
+        (λ (b : q + 4 ≤ length s). omega (arith, cut-before s (headIn s) (head-passes s w p k .there) j e, rest-is (length s) q (endOf (headIn s) j) b)) (lt-or-le (length s) (q + 4))
+
+-- r is the reason of s, and m that of s with the wanted bytes more, whatever they are
+pub why-completed : (s x : List ℕ) (w p : ℕ) {r m : Reason} → r ≡ reasonOf s w p → m ≡ reasonOf (s ++ x) w p → Cut r → length x ≡ r .wanted → Completed (headIn (s ++ x)) (s ++ x) r m
+why-completed s x w p {r} er em cut full =
+    let Completes : Reason → Type 0 = λ r. length x ≡ r .wanted → Completed (headIn (s ++ x)) (s ++ x) r (reasonOf (s ++ x) w p) in
+    subst (λ m. Completed (headIn (s ++ x)) (s ++ x) r m) (sym em)
+    (subst Completes (sym er)
+    (cut-by s w p Completes (λ b f. count-first s x w p f b) (λ four c less f. section-first s x w p f four c less) (λ k j e f. completed s x w p k j e f) (subst Cut er cut)) full)

@@ -9,3 +9,4 @@ pub mod Again
 pub mod Mended
 pub mod Complete
 pub mod Whole
+pub mod Before

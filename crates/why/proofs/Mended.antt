@@ -1,27 +1,32 @@
 -- "For a wrong count, putting the wanted count at that place removes refusal 9 for that section": what may still be refused with 9 is a later section.
-use mathlib.Core.Bool.{false}
+use mathlib.Core.Bool.{Bool, true, false, cond}
 use mathlib.Core.List.{List}
+use mathlib.Core.Logic.{_⊎_, inl, inr, ⊎-elim}
 use mathlib.Core.Path.{_≡_, refl, sym, ap, subst, _∙_}
 use Prim.Native.Nat.{ℕ, _+_, _-_, _%_, _^_, _≤_, _<_}
 use native.Mathlib.Omega.{arith}
+use lib.Dec.{eqb}
 use lib.ListN.{length}
-use Rattle.answers.proofs.Passed.{Passing, off}
+use Rattle.order.proofs.Order.{lt-or-le}
+use Rattle.answers.proofs.Passed.{Passing, off, roomy}
 use Rattle.sizes.proofs.Counts.{count-at-le}
 use Rattle.samples.specs.Le.{leAt, stored}
 use Rattle.samples.proofs.LeLaws.{length-stored, stored-read, stored-before}
 use Rattle.pyramid.specs.declared.head.Head.{Head}
-use Rattle.pyramid.specs.declared.walk.Way.the-variants.{Short, Wrong}
-use Rattle.pyramid.specs.Files.{newCount, isCount}
+use Rattle.pyramid.specs.declared.walk.Way.{Way}
+use Rattle.pyramid.specs.declared.walk.Way.the-variants.{Went, Short, Wrong}
+use Rattle.pyramid.specs.Files.{mostBytes, newCount, isCount}
 use Rattle.pyramid.specs.Walks.{oneOf}
 use Rattle.pyramid.specs.Opens.{headIn, headChecks, wayIn, samplesTo, countOf}
 use Rattle.pyramid.proofs.Opening.{start-count, head-parts, head-passes}
 use Rattle.pyramid.proofs.Ways.{last-most, apart, one-by, StopsIn, Stopped}
 use Rattle.why.specs.declared.Reason.{Reason}
-use Rattle.why.specs.Reasons.{because, placeOf, wantedOf, reasonOf}
+use Rattle.why.specs.Reasons.{because, nothing, placeOf, wantedOf, reasonOf}
+use Rattle.why.specs.Laws.{among, sectionNumbers, Mended}
 use Rattle.why.proofs.Places.{wanted-is}
-use Rattle.why.proofs.Says.{way-stops, place-within, wrong-there}
-use Rattle.why.proofs.Cases.{no-field, no-cut, reason-by}
-use Rattle.why.proofs.Again.{Agree, common-body, stops-there, stops-later}
+use Rattle.why.proofs.Says.{way-stops, place-within, way-ends, wrong-there}
+use Rattle.why.proofs.Cases.{no-field, no-cut, reason-wrong, reason-trailing, reason-whole, reason-cut, reason-by}
+use Rattle.why.proofs.Again.{Agree, common-body, head-same, head-again, stops-there, stops-later}
 
 -- of a reason that may be any, what is to be shown where its number is 9: the other cases have other numbers
 module _ (P : Reason → Type 0) where
@@ -38,11 +43,14 @@ module _ (P : Reason → Type 0) where
 
 -- ---- section 0
 
-mend-start : (s : List ℕ) (w p : ℕ) → 4 ≤ length s → let t = stored 4 s 0 newCount in reasonOf t w p .number ≡ 9 → 0 < reasonOf t w p .section
-mend-start s w p four =
-    let t = stored 4 s 0 newCount in
-    nine-by (λ r. 0 < r .section) t w p (λ _ c. off c (ap isCount (stored-read 4 s 0 newCount four)))
-    (λ k j found e. way-stops t (headIn t) (head-passes t w p k .there) j (Wrong j found) e refl .some)
+mend-start : (s : List ℕ) (w p found : ℕ) → 4 ≤ length s → Mended (because 9 0 0 newCount found) (reasonOf (stored 4 s 0 newCount) w p)
+mend-start s w p found four = record { later = later; further = λ z. absurd (omega arith) }
+  where
+    later : reasonOf (stored 4 s 0 newCount) w p .number ≡ 9 → 0 < reasonOf (stored 4 s 0 newCount) w p .section
+    later =
+        let t = stored 4 s 0 newCount in
+        nine-by (λ r. 0 < r .section) t w p (λ _ c. off c (ap isCount (stored-read 4 s 0 newCount four)))
+        (λ k j found e. way-stops t (headIn t) (head-passes t w p k .there) j (Wrong j found) e refl .some)
 
 -- ---- a later section
 
@@ -72,6 +80,9 @@ module _ (s : List ℕ) (w p j found : ℕ) (k : Passing (headChecks s w p)) (e 
       let small : wantedOf h j % 256 ^ 4 ≡ wantedOf h j = omega (arith, wanted-is h j (i .some), last-most (j - 1) (samplesTo h j), count-at-le (h .levels + 1 - j) (h .samples), head-passes s w p k .short) in
       stored-read 4 s (placeOf h j) (wantedOf h j) inside ∙ small ∙ wanted-is h j (i .some)
 
+  head-is : headIn t ≡ headIn s
+  head-is = head-same s t (placeOf h j) same (omega (arith, behind, common-body s (head-parts s w p k .0)))
+
   long : placeOf h j ≤ length t
   long = omega (arith, inside, length-stored 4 s (placeOf h j) (wantedOf h j))
 
@@ -84,10 +95,47 @@ module _ (s : List ℕ) (w p j found : ℕ) (k : Passing (headChecks s w p)) (e 
       short : oneOf t (h .width) (countOf h j) j (placeOf h j) ≡ Short j → j < x
       short z = apart _ _ refl (sym (stops-there s t (placeOf h j) same w p k behind j (Wrong j found) e refl (omega arith) long (Short j) z refl) ∙ g)
 
-  mend-later : reasonOf t w p .number ≡ 9 → j < reasonOf t w p .section
+  -- section 0 passes again, and the walk comes to this section at least
+  again : Passing (headChecks t w p)
+  again =
+      let size = length-stored 4 s (placeOf h j) (wantedOf h j) in
+      head-again s t (placeOf h j) same w p k behind (omega (arith, behind, long)) (omega (arith, size, roomy mostBytes (length s) (head-parts s w p k .0 .0)))
+
+  reached : (x : ℕ) (v : Way) → wayIn t (headIn t) ≡ v → StopsIn x v → j ≤ x
+  reached x v g st =
+      one-by t (h .width) (countOf h j) j (placeOf h j) (λ u. oneOf t (h .width) (countOf h j) j (placeOf h j) ≡ u → j ≤ x) (λ _. short) (λ _ n _. absurd (n right)) (λ _ _ _. short)
+      (λ _ _ _ z. let f = stops-later s t (placeOf h j) same w p k behind j (Wrong j found) e refl (omega arith) long _ x z (subst (StopsIn x) (sym g) st) in omega (arith, f)) refl
+    where
+      short : oneOf t (h .width) (countOf h j) j (placeOf h j) ≡ Short j → j ≤ x
+      short z =
+          let f : x ≡ j = subst (StopsIn x) (sym g ∙ stops-there s t (placeOf h j) same w p k behind j (Wrong j found) e refl (omega arith) long (Short j) z refl) st in
+          omega (arith, f)
+
+  abbrev Further : Reason → Type 0
+  Further m = (among sectionNumbers (m .number) ≡ true) × ((m ≡ nothing) ⊎ (j ≤ m .section))
+
+  further : (v : Way) → wayIn t (headIn t) ≡ v → Further (reasonOf t w p)
+  further (Went q) g =
+      ⊎-elim
+      (λ (z : q < length t). subst Further (sym (reason-trailing t w p again q g z)) (refl, inr (omega (arith, i .most, ap (λ (h : Head). h .levels) head-is))))
+      (λ (z : length t ≤ q).
+      let f = way-ends t (headIn t) (head-passes t w p again .there) q g in
+      subst Further (sym (reason-whole t w p again (g ∙ ap (λ y. Went y) (omega (arith, z, f .2))))) (refl, inl refl))
+      (lt-or-le q (length t))
+  further (Short x) g = subst Further (sym (reason-cut t w p again x g)) (pick (eqb x 1), inr (reached x (Short x) g refl))
+    where
+      pick : (b : Bool) → among sectionNumbers (cond b 10 0) ≡ true
+      pick true = refl
+      pick false = refl
+  further (Wrong x f) g = subst Further (sym (reason-wrong t w p again x f g)) (refl, inr (reached x (Wrong x f) g refl))
+
+  mend-later : Mended (because 9 j (placeOf h j) (wantedOf h j) found) (reasonOf t w p)
   mend-later =
       let q = head-parts s w p k .0 in
-      nine-by (λ r. j < r .section) t w p (λ _ c. off c (ap isCount (same 4 0 (omega (arith, behind, common-body s q))) ∙ start-count s q)) (λ _ x f g. later x f g)
+      record {
+        later = nine-by (λ r. j < r .section) t w p (λ _ c. off c (ap isCount (same 4 0 (omega (arith, behind, common-body s q))) ∙ start-count s q)) (λ _ x f g. later x f g);
+        further = λ _. further (wayIn t (headIn t)) refl;
+      }
 
 -- ---- about the call
 
@@ -98,13 +146,9 @@ why-count s w p {r} e n =
     subst Stands (sym e)
     (nine-by Stands s w p (λ four _. (four, refl)) (λ k j found g. wrong-there s (headIn s) (head-passes s w p k .there) j found g) (sym (ap (λ (r : Reason). r .number) e) ∙ n))
 
--- with the wanted count at the place, a 9 is of a later section
-abbrev Later : List ℕ → ℕ → ℕ → Reason → Type 0
-Later s w p r = let t = stored 4 s (r .place) (r .wanted) in reasonOf t w p .number ≡ 9 → r .section < reasonOf t w p .section
-
 -- r is the reason of s, and m that of s with the wanted count at the place
-pub why-mended : (s : List ℕ) (w p : ℕ) {r m : Reason} → r ≡ reasonOf s w p → m ≡ reasonOf (stored 4 s (r .place) (r .wanted)) w p → r .number ≡ 9 → m .number ≡ 9 → r .section < m .section
-why-mended s w p {r} {m} er em n9 m9 =
-    let all : reasonOf s w p .number ≡ 9 → Later s w p (reasonOf s w p) = nine-by (Later s w p) s w p (λ four _. mend-start s w p four) (λ k j found e. mend-later s w p j found k e) in
-    let own : Later s w p r = subst (Later s w p) (sym er) (all (sym (ap (λ (r : Reason). r .number) er) ∙ n9)) in
-    subst (λ (m : Reason). r .section < m .section) (sym em) (own (sym (ap (λ (r : Reason). r .number) em) ∙ m9))
+pub why-mended : (s : List ℕ) (w p : ℕ) {r m : Reason} → r ≡ reasonOf s w p → m ≡ reasonOf (stored 4 s (r .place) (r .wanted)) w p → r .number ≡ 9 → Mended r m
+why-mended s w p {r} {m} er em n9 =
+    let Mends : Reason → Type 0 = λ r. Mended r (reasonOf (stored 4 s (r .place) (r .wanted)) w p) in
+    subst (Mended r) (sym em)
+    (subst Mends (sym er) (nine-by Mends s w p (λ four _. mend-start s w p (leAt 4 s 0) four) (λ k j found e. mend-later s w p j found k e) (sym (ap (λ (r : Reason). r .number) er) ∙ n9)))

@@ -1,70 +1,90 @@
 -- "The reason named is the opener's own, and everything before it passed": about the calls. r is what the reason's call returned, a what opening answered.
 use mathlib.Core.Bool.{Bool, true, false, cond}
-use mathlib.Core.List.{List, [], _∷_, _++_}
+use mathlib.Core.List.{List, _++_}
 use mathlib.Core.Logic.{_⊎_}
 use mathlib.Core.Path.{_≡_, refl, sym, ap, subst, _∙_}
 use Prim.Native.Nat.{ℕ, _+_, _-_, _/_, _≤_}
+use native.Mathlib.Omega.{arith}
 use borrow.Author.Tests.{le-ltb, eq-eqb, eqb-true, eqb-false, ne-eqb}
 use lib.Dec.{eqb}
 use lib.ListN.{length}
 use Rattle.answers.specs.declared.err.Answer.{Answer}
 use Rattle.answers.specs.declared.err.Refusal.{Refusal}
-use Rattle.answers.specs.declared.err.Refusal.the-variants.{Done, TooLong}
+use Rattle.answers.specs.declared.err.Refusal.the-variants.{Done}
 use Rattle.answers.specs.Answers.{answerOf, say, done}
 use Rattle.answers.specs.Checks.{firstOf}
-use Rattle.answers.proofs.Passed.{pass-on, through}
-use Rattle.sizes.specs.Lengths.{mostSamples}
+use Rattle.answers.proofs.Passed.{Passing, passing, pass-on, through, off}
+use Rattle.sizes.proofs.Counts.{count-at-le}
 use Rattle.pyramid.specs.declared.head.Head.{Head}
 use Rattle.pyramid.specs.declared.open.OpenAnswer.{OpenAnswer}
-use Rattle.pyramid.specs.Files.{mostBytes}
-use Rattle.pyramid.specs.Opens.{headIn, fileChecks, levelIn, countIn, areaChecks, roomsFor, WholeAreas, sayFile, sayOpen, OpenGives}
-use Rattle.pyramid.proofs.Opening.{file-rest, file-stop, whole-areas-pass, rooms-say}
+use Rattle.pyramid.specs.Opens.{headIn, startChecks, fileChecks, levelIn, countIn, areaChecks, roomsFor, WholeAreas, sayFile, sayOpen, OpenGives}
+use Rattle.pyramid.proofs.Opening.{start-refuses, start-passes, file-says, file-rest, file-stop, whole-areas-pass, rooms-say}
 use Rattle.why.specs.declared.Reason.{Reason}
-use Rattle.why.specs.Laws.{among, StoppedBy, Room}
-use Rattle.why.specs.Reasons.{because, nothing, cutIn, reasonBy, sayStart, reasonOf}
+use Rattle.why.specs.Laws.{among, sectionNumbers, fieldNumbers, StoppedBy, answerBy, Room}
+use Rattle.why.specs.Reasons.{nothing, cutIn, reasonBy, sayStart, reasonOf}
 use Rattle.why.proofs.Stops.{stopped}
-use Rattle.why.proofs.Says.{says-each}
+use Rattle.why.proofs.Says.{start-by, start-stops, reason-early, reason-later, later-by, says-each, way-ends, way-by}
 
--- ---- the number of each case
+-- ---- the answer of each case
 
-module _ (t : Bool) (h : Head) (b : ℕ) where
-  abbrev Numbered : Refusal → Type 0
-  Numbered r = reasonBy t h b r .number ≡ answerOf r .number
-
-  done-number : (x y : ℕ) → Numbered (Done x y)
-  done-number x y = pick (eqb x 0)
-    where
-      pick : (z : Bool) → (cond z nothing (cutIn h b 0 (h .levels + 2 - x))) .number ≡ 0
-      pick true = refl
-      pick false = refl
-
-  long-number : Numbered TooLong
-  long-number = pick t
-    where
-      pick : (z : Bool) → (cond z (because 6 0 6 mostSamples (h .samples)) (because 6 0 0 mostBytes b)) .number ≡ 6
-      pick true = refl
-      pick false = refl
-
+-- what the opener says, where it refuses, is what the reason stands for
 module _ (s : List ℕ) (w p : ℕ) where
-  -- it is the number of what the opener says of the file
+  abbrev h : Head
+  h = headIn s
+
+  abbrev b : ℕ
+  b = length s
+
+  abbrev Told : Bool → Refusal → Type 0
+  Told there r = done r ≡ false → answerOf r ≡ answerBy (reasonBy there (headIn s) (length s) r)
+
+  early-told : Told false (sayStart s)
+  early-told = start-by s (Told false) (λ _ _. refl) (λ _ _. refl) (λ _ _ _. refl) (λ _ _ _ _. refl) (λ _ z. off z refl)
+
+  later-told : Passing (startChecks s) → Told true (sayFile s w p)
+  later-told q =
+      later-by s w p (Told true) q
+      ((λ _ _. refl), ((λ _ _. refl), ((λ _ _. refl), ((λ _ _. refl), ((λ _ _. refl), ((λ _ _. refl), ((λ _ _. refl), ((λ _ _. refl), tt))))))))
+      (λ _. way-by s h (countIn s) (Told true) (start-passes s q .1) (λ i e _ _. ap (λ n. say 12 (b - n) 0) (way-ends s h (start-passes s q .1) i e .0)) (λ _ z. off z refl) (λ _ _. refl) (λ _ _ _ z. off z refl)
+      (λ _ _ _ _. refl))
+
+  file-told : done (sayFile s w p) ≡ false → answerOf (sayFile s w p) ≡ answerBy (reasonOf s w p)
+  file-told d = pick (done (sayStart s)) refl
+    where
+      pick : (z : Bool) → done (sayStart s) ≡ z → answerOf (sayFile s w p) ≡ answerBy (reasonOf s w p)
+      pick true e = later-told (passing (startChecks s) (Done 0 0) (start-refuses s) e) d ∙ sym (ap answerBy (reason-later s w p e))
+      pick false e = ap answerOf (start-stops s w p e) ∙ early-told e ∙ sym (ap answerBy (reason-early s w p e))
+
+  -- and its number that of what the opener says, also where it accepts the file
   why-number : reasonOf s w p .number ≡ answerOf (sayFile s w p) .number
   unfolding reasonOf
-  why-number =
-      let t = done (sayStart s) in
-      says-each s w p (Numbered t (headIn s) (length s)) (done-number t (headIn s) (length s)) (λ _ _. refl) refl (long-number t (headIn s) (length s)) (λ _ _. refl) (λ _ _. refl) (λ _. refl) (λ _ _. refl)
-      (λ _. refl) refl
+  why-number = pick (done (sayFile s w p)) refl
+    where
+      zero : (j : ℕ) (z : Bool) → (cond z nothing (cutIn h b 0 j)) .number ≡ 0
+      zero j true = refl
+      zero j false = refl
+
+      pick : (z : Bool) → done (sayFile s w p) ≡ z → reasonOf s w p .number ≡ answerOf (sayFile s w p) .number
+      pick true e =
+          let f = file-says s w p e in
+          ap (λ r. reasonBy (done (sayStart s)) h b r .number) f ∙ zero (h .levels + 2 - levelIn s) (eqb (levelIn s) 0) ∙ sym (ap (λ r. answerOf r .number) f)
+      pick false e = sym (ap (λ (a : Answer). a .number) (file-told e))
 
 -- ---- about the calls
+
+-- room for all samples that section 0 tells of is enough
+pub room-enough : (s : List ℕ) (w o u v : ℕ) → headIn s .samples ≤ o / w → headIn s .samples ≤ u / w → headIn s .samples ≤ v / w → Room s w o u v
+room-enough s w o u v a b c = let most = count-at-le (levelIn s) (headIn s .samples) in (omega (arith, most, a), omega (arith, most, b), omega (arith, most, c))
 
 module _ (s : List ℕ) (w p : ℕ) {r : Reason} (why : r ≡ reasonOf s w p) where
   number-is : r .number ≡ answerOf (sayFile s w p) .number
   number-is = ap (λ (r : Reason). r .number) why ∙ why-number s w p
 
   -- one of these: "7 is never reported"
-  pub why-numbers : among (0 ∷ 1 ∷ 4 ∷ 6 ∷ 8 ∷ 9 ∷ 10 ∷ 11 ∷ 12 ∷ 18 ∷ []) (r .number) ≡ true
+  pub why-numbers : among (fieldNumbers ++ sectionNumbers) (r .number) ≡ true
   why-numbers =
-      subst (λ n. among (0 ∷ 1 ∷ 4 ∷ 6 ∷ 8 ∷ 9 ∷ 10 ∷ 11 ∷ 12 ∷ 18 ∷ []) n ≡ true) (sym number-is)
-      (says-each s w p (λ q. among (0 ∷ 1 ∷ 4 ∷ 6 ∷ 8 ∷ 9 ∷ 10 ∷ 11 ∷ 12 ∷ 18 ∷ []) (answerOf q .number) ≡ true) (λ _ _. refl) (λ _ _. refl) refl refl (λ _ _. refl) (λ _ _. refl) (λ _. refl) (λ _ _. refl)
+      subst (λ n. among (fieldNumbers ++ sectionNumbers) n ≡ true) (sym number-is)
+      (says-each s w p (λ q. among (fieldNumbers ++ sectionNumbers) (answerOf q .number) ≡ true) (λ _ _. refl) (λ _ _. refl) refl refl (λ _ _. refl) (λ _ _. refl) (λ _. refl) (λ _ _. refl)
       (λ _. refl) refl)
 
   refuses : (r .number ≡ 0 → ⊥) → done (sayFile s w p) ≡ false
@@ -86,11 +106,11 @@ module _ (s : List ℕ) (w p : ℕ) {r : Reason} (why : r ≡ reasonOf s w p) wh
         pass-on (areaChecks w (length o) (length u) (length v)) (fileChecks s w p ++ roomsFor w (countIn s) (length o) (length u) (length v)) (Done (levelIn s) (countIn s))
         (whole-areas-pass w (length o) (length u) (length v) whole)
 
-    -- is refused with the reason's number, if there is one, whatever room there is
-    pub why-refused : (r .number ≡ 0 → ⊥) → a .answer .number ≡ r .number
-    why-refused n =
+    -- is refused with the reason's number, if there is one, whatever room there is; the two values of its answer are numbers of the reason too
+    pub why-answer : (r .number ≡ 0 → ⊥) → a .answer ≡ answerBy r
+    why-answer n =
         let e = past ∙ file-stop s w p (roomsFor w (countIn s) (length o) (length u) (length v)) (Done (levelIn s) (countIn s)) (refuses n) in
-        ap (λ (a : Answer). a .number) (opens .call .answer ∙ ap answerOf e) ∙ sym number-is
+        opens .call .answer ∙ ap answerOf e ∙ file-told s w p (refuses n) ∙ sym (ap answerBy why)
 
     rest : r .number ≡ 0 → a .answer ≡ answerOf (firstOf (roomsFor w (countIn s) (length o) (length u) (length v)) (Done (levelIn s) (countIn s)))
     rest z =
@@ -109,10 +129,10 @@ module _ (s : List ℕ) (w p : ℕ) {r : Reason} (why : r ≡ reasonOf s w p) wh
         (through (roomsFor w (countIn s) (length o) (length u) (length v)) (Done (levelIn s) (countIn s))
         (le-ltb (length o / w) (countIn s) (room .0), (le-ltb (length u / w) (countIn s) (room .1), (le-ltb (length v / w) (countIn s) (room .2), tt))))
 
-    -- so with such room opening answers the reason's number
+    -- so with such room opening answers the reason's number, and is done exactly where that is 0
     pub why-own : (r .number ≡ 0 → Room s w (length o) (length u) (length v)) → a .answer .number ≡ r .number
     why-own room = pick (eqb (r .number) 0) refl
       where
         pick : (t : Bool) → eqb (r .number) 0 ≡ t → a .answer .number ≡ r .number
         pick true e = let z = eqb-true (r .number) 0 e in ap (λ (a : Answer). a .number) (why-opens z (room z)) ∙ sym z
-        pick false e = why-refused (eqb-false (r .number) 0 e)
+        pick false e = ap (λ (a : Answer). a .number) (why-answer (eqb-false (r .number) 0 e))

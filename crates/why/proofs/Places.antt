@@ -5,7 +5,7 @@ use Prim.Native.Nat.{ℕ, zero, suc, _+_, _-_, _*_, _≤_}
 use native.Mathlib.Omega.{arith}
 use Rattle.answers.specs.declared.err.Refusal.{Refusal}
 use Rattle.sizes.specs.Lengths.{approxLength, detailsLength}
-use Rattle.sizes.specs.Levels.{countAt}
+use Rattle.sizes.specs.Levels.{afterLevels, countAt}
 use Rattle.sizes.proofs.Counts.{after-last}
 use Rattle.dwt.proofs.Cuts.{split-width}
 use Rattle.pyramid.specs.declared.head.Head.{Head}
@@ -26,6 +26,10 @@ end-is h (suc (suc j)) one most =
     let up : samplesTo h (suc j) ≡ approxLength n = ap (λ d. countAt d (h .samples)) a ∙ after-last approxLength (h .levels + 1 - suc (suc j)) (h .samples) in
     let c : lengthOf h (suc (suc j)) ≡ h .width * detailsLength n = ap (λ m. h .width * m) (ap (λ i. lastCount i n) b ∙ last-details (suc j) n (omega arith)) in
     omega (arith, end-is h (suc j) (omega arith) (omega arith), c, split-width (h .width) n, ap (λ m. h .width * m) up)
+
+pub samples-all : (h : Head) → samplesTo h (h .levels + 1) ≡ h .samples
+unfolding afterLevels
+samples-all h = let none : h .levels + 1 - (h .levels + 1) ≡ 0 = omega arith in ap (λ d. countAt d (h .samples)) none
 
 -- a section is its count and its samples
 pub place-ends : (h : Head) (j : ℕ) → 1 ≤ j → placeOf h j + (4 + lengthOf h j) ≡ endOf h j

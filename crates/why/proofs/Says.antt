@@ -2,7 +2,7 @@
 use mathlib.Core.Bool.{Bool, true, false, cond, not}
 use mathlib.Core.List.{List, _++_}
 use mathlib.Core.Path.{_≡_, refl, sym, ap, ap₂, subst, _∙_}
-use Prim.Native.Nat.{ℕ, _+_, _-_, _≤_, _<_}
+use Prim.Native.Nat.{ℕ, _+_, _-_, _*_, _≤_, _<_}
 use native.Mathlib.Omega.{arith}
 use borrow.Author.Tests.{ltb-true, ltb-false, eqb-true, eqb-false}
 use lib.Dec.{ltb, eqb}
@@ -21,7 +21,7 @@ use Rattle.pyramid.specs.Opens.{headIn, startChecks, fieldChecks, rateChecks, h
 use Rattle.pyramid.proofs.Opening.{start-passes, head-parts}
 use Rattle.pyramid.proofs.Ways.{apart, one-by, StopsIn, standOf, Stopped, walk-size, walk-stops, stop-below}
 use Rattle.why.specs.Reasons.{endOf, placeOf, reasonBy, sayStart, reasonOf, Said}
-use Rattle.why.proofs.Places.{end-is, place-behind, stand-is}
+use Rattle.why.proofs.Places.{end-is, samples-all, place-behind, stand-is}
 use Rattle.why.proofs.Stops.{Every, first-by, first-append}
 
 -- ---- the start
@@ -56,7 +56,7 @@ module _ (s : List ℕ) (w p : ℕ) where
   file-by = first-append (headChecks s w p) (wayChecks (wayIn s (headIn s)) (length s)) (Done (levelIn s) (countIn s)) ∙ first-append (startChecks s) later sayWay
 
   -- where the start refuses, the opener says that
-  start-stops : done (sayStart s) ≡ false → sayFile s w p ≡ sayStart s
+  pub start-stops : done (sayStart s) ≡ false → sayFile s w p ≡ sayStart s
   start-stops h = file-by ∙ other-end (startChecks s) (Done 0 0) (firstOf later sayWay) refl h
 
   pub reason-early : done (sayStart s) ≡ false → reasonOf s w p ≡ reasonBy false (headIn s) (length s) (sayStart s)
@@ -110,6 +110,12 @@ module _ (s : List ℕ) (h : Head) (body : h .body ≤ length s) where
       let i = way-stops j v e st in
       let one = i .some in
       (place-behind h j one, omega (arith, i .within, stand-is h j one (i .most)))
+
+  -- a walk that went on ends where the last section does, in the file
+  pub way-ends : (q : ℕ) → wayIn s h ≡ Went q → (q ≡ endOf h (h .levels + 1)) × (h .body ≤ q) × (q ≤ length s)
+  way-ends q e =
+      let z = walk-size (h .levels) s (h .width) (h .samples) (h .body) q body e in
+      (omega (arith, z .0, end-is h (h .levels + 1) (omega arith) (omega arith), ap (λ n. h .width * n) (samples-all h)), omega (arith, z .0), z .1)
 
   -- a wrong count is there
   pub wrong-there : (j found : ℕ) → wayIn s h ≡ Wrong j found → (placeOf h j + 4 ≤ length s) × (leAt 4 s (placeOf h j) ≡ found)

@@ -1,17 +1,21 @@
 -- From the first sections of a walk to all of them, and from one file to another that begins with the same sections.
 use mathlib.Core.List.{List}
+use mathlib.Core.Logic.{_⊎_, inl, inr}
 use mathlib.Core.Path.{_≡_, refl, sym, ap, ap₂, subst, _∙_}
 use Prim.Native.Nat.{ℕ, zero, suc, _+_, _-_, _*_, _≤_, _<_}
 use native.Mathlib.Nat.{zero-add, suc-add}
 use native.Mathlib.Omega.{arith}
 use lib.ListN.{length}
 use Rattle.samples.specs.Le.{leAt}
+use Rattle.order.proofs.Order.{lt-or-le}
 use Rattle.sizes.specs.Lengths.{approxLength, detailsLength}
 use Rattle.sizes.specs.Levels.{afterLevels, countAt}
+use Rattle.dwt.proofs.Cuts.{split-width}
 use Rattle.pyramid.specs.declared.walk.Way.{Way}
 use Rattle.pyramid.specs.declared.walk.Way.the-variants.{Went, Short, Wrong}
+use Rattle.pyramid.specs.Files.{bodySize}
 use Rattle.pyramid.specs.Walks.{oneOf, goOn, walkOf, lastCount}
-use Rattle.pyramid.proofs.Ways.{apart, one-by, one-went, StopsIn, one-stops, go-stops, go-went, walk-size, last-details, standOf, Stopped}
+use Rattle.pyramid.proofs.Ways.{apart, one-by, one-went, StopsIn, one-stops, go-stops, go-went, walk-size, last-details, last-stands, standOf, Stopped}
 
 -- ---- from some sections to more
 
@@ -84,3 +88,45 @@ stop-same s t k l p (suc (suc x)) m v h i same long =
     ap (λ y. walkOf t k y m p) a
     ∙ ap (λ u. goOn u (λ y. oneOf t k (detailsLength m) (suc x + 1) y)) before
     ∙ ap₂ (λ n y. oneOf t k n y q) (sym (ap (λ y. lastCount y m) a ∙ last-details (suc x) m (omega arith))) c
+
+-- ---- each section of a walk
+
+-- levels one after the other
+pub count-more : (b a n : ℕ) → countAt a (countAt b n) ≡ countAt (b + a) n
+unfolding afterLevels
+count-more zero a n = ap (λ i. countAt i n) (sym (zero-add a))
+count-more (suc b) a n = count-more b a (approxLength n) ∙ ap (λ i. countAt i n) (sym (suc-add b a))
+
+one-count : (s : List ℕ) (k c i p q : ℕ) → oneOf s k c i p ≡ Went q → leAt 4 s p ≡ c
+one-count s k c i p q = one-by s k c i p (λ v. v ≡ Went q → leAt 4 s p ≡ c) (λ _. apart _ _ refl) (λ _ _. apart _ _ refl) (λ _ _ _. apart _ _ refl) (λ _ e _ _. e)
+
+-- section i of a walk that went to the end is there, with its count
+abbrev pub Has : List ℕ → ℕ → ℕ → ℕ → ℕ → Type 0
+Has s k p i m = (leAt 4 s (standOf k p i m) ≡ lastCount (i - 1) m) × (p + bodySize k (i - 1) m ≤ length s)
+
+pub walk-each : (l : ℕ) (s : List ℕ) (k n p q : ℕ) → p ≤ length s → walkOf s k l n p ≡ Went q → (i : ℕ) → 1 ≤ i → i ≤ l + 1 → Has s k p i (countAt (l + 1 - i) n)
+unfolding walkOf afterLevels
+walk-each zero s k n p q h e i one most =
+    let z = one-went s k n 1 p q h e in
+    let at : standOf k p 1 n ≡ p = omega arith in
+    let i1 : 1 ≡ i = omega arith in
+    subst (λ i. Has s k p i (countAt (0 + 1 - i) n)) i1 (ap (λ y. leAt 4 s y) at ∙ one-count s k n 1 p q e, omega (arith, z .exact, z .within))
+walk-each (suc l) s k n p q h e i one most = pick (lt-or-le i (l + 2)) (walk-each l s k (approxLength n) p)
+  where
+    g : (q′ : ℕ) × (walkOf s k l (approxLength n) p ≡ Went q′) × (oneOf s k (detailsLength n) (suc l + 1) q′ ≡ Went q)
+    g = go-went (walkOf s k l (approxLength n) p) (λ x. oneOf s k (detailsLength n) (suc l + 1) x) q e
+
+    pick : (i < l + 2) ⊎ (l + 2 ≤ i) → ((q : ℕ) → p ≤ length s → walkOf s k l (approxLength n) p ≡ Went q → (i : ℕ) → 1 ≤ i → i ≤ l + 1 → Has s k p i (countAt (l + 1 - i) (approxLength n))) → Has s k p i (countAt (suc l + 1 - i) n)
+    pick (inl low) rest =
+        let b : suc (l + 1 - i) ≡ suc l + 1 - i = omega arith in
+        subst (λ d. Has s k p i (countAt d n)) b (rest (g .0) h (g .1) i one (omega arith))
+    pick (inr high) rest =
+        let z = walk-size l s k (approxLength n) p (g .0) h (g .1) in
+        let o = one-went s k (detailsLength n) (suc l + 1) (g .0) q (z .1) (g .2) in
+        let at = last-stands k l n p (g .0) (z .0) in
+        let last : suc l + 1 ≡ i = omega arith in
+        let none : 0 ≡ suc l + 1 - (suc l + 1) = omega arith in
+        let b : suc l + 1 - 1 ≡ suc l = omega arith in
+        let count = ap (λ y. leAt 4 s y) at ∙ one-count s k (detailsLength n) (suc l + 1) (g .0) q (g .2) ∙ sym (ap (λ y. lastCount y n) b ∙ last-details (suc l) n (omega arith)) in
+        subst (λ i. Has s k p i (countAt (suc l + 1 - i) n)) last
+        (subst (λ d. Has s k p (suc l + 1) (countAt d n)) none (count, omega (arith, z .0, o .exact, o .within, split-width k n)))

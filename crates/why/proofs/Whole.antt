@@ -3,38 +3,35 @@ use mathlib.Core.Bool.{Bool, true, false, cond}
 use mathlib.Core.List.{List}
 use mathlib.Core.Logic.{_⊎_, inl, inr}
 use mathlib.Core.Path.{_≡_, refl, sym, ap, subst, _∙_}
-use Prim.Native.Nat.{ℕ, _+_, _-_, _*_, _≤_, _<_}
+use Prim.Native.Nat.{ℕ, _+_, _-_, _≤_, _<_}
 use native.Mathlib.Omega.{arith}
-use borrow.Author.Tests.{eqb-false}
+use borrow.Author.Tests.{eq-eqb, eqb-false, ne-eqb}
 use lib.Dec.{eqb}
 use lib.ListN.{length, take}
 use lib.Seq.{length-take-le}
+use Rattle.answers.specs.declared.err.Answer.{Answer}
 use Rattle.answers.proofs.Passed.{Passing, roomy}
-use Rattle.sizes.specs.Levels.{afterLevels, countAt}
 use Rattle.samples.proofs.LeLaws.{leAt-take}
+use Rattle.pyramid.specs.declared.open.OpenAnswer.{OpenAnswer}
 use Rattle.pyramid.specs.declared.walk.Way.{Way}
 use Rattle.pyramid.specs.declared.walk.Way.the-variants.{Went, Short}
 use Rattle.pyramid.specs.Files.{mostBytes}
-use Rattle.pyramid.specs.Opens.{headIn, headChecks, wayIn, wholeDetails, levelIn, samplesTo}
+use Rattle.pyramid.specs.Opens.{headIn, headChecks, wayIn, wholeDetails, levelIn, WholeAreas, OpenGives}
 use Rattle.pyramid.proofs.Opening.{head-parts, head-passes}
-use Rattle.pyramid.proofs.Ways.{walk-size}
 use Rattle.why.specs.declared.Reason.{Reason}
+use Rattle.why.specs.Laws.{Room, Ended}
 use Rattle.why.specs.Reasons.{nothing, endOf, cutIn, reasonOf}
 use Rattle.why.proofs.Walking.{walk-same}
-use Rattle.why.proofs.Places.{end-is}
-use Rattle.why.proofs.Says.{way-stops}
+use Rattle.why.proofs.Says.{way-stops, way-ends}
 use Rattle.why.proofs.Cases.{no-field, no-cut, reason-whole, reason-by}
+use Rattle.why.proofs.Opener.{why-opens}
 use Rattle.why.proofs.Again.{Agree, common-body, head-same, head-again}
 
 module _ (s : List ℕ) (w p : ℕ) where
-  -- section 0 passes, and the sections end where the file does
-  abbrev pub Ended : Type 0
-  Ended = Passing (headChecks s w p) × (wayIn s (headIn s) ≡ Went (length s))
-
   -- a file that is accepted: all of it is there, or it is cut in section j and opens at level L + 2 - j
   abbrev Accepted : Reason → Type 0
   Accepted r =
-      ((r ≡ nothing) × Ended × (levelIn s ≡ 0))
+      ((r ≡ nothing) × Ended s w p × (levelIn s ≡ 0))
       ⊎ ((2 ≤ r .section) × (r .section ≤ headIn s .levels + 1) × (levelIn s ≡ headIn s .levels + 2 - r .section))
 
   level-is : (v : Way) → wayIn s (headIn s) ≡ v → levelIn s ≡ headIn s .levels - wholeDetails v (headIn s .levels)
@@ -56,27 +53,18 @@ module _ (s : List ℕ) (w p : ℕ) where
 -- ---- bytes behind the file
 
 module _ (s : List ℕ) (w p : ℕ) (k : Passing (headChecks s w p)) (q : ℕ) (e : wayIn s (headIn s) ≡ Went q) where
-  -- the walk ends where the last section does, in the file
-  went-end : (q ≡ endOf (headIn s) (headIn s .levels + 1)) × (headIn s .body ≤ q) × (q ≤ length s)
-  unfolding afterLevels
-  went-end =
-      let h = headIn s in
-      let z = walk-size (h .levels) s (h .width) (h .samples) (h .body) q (head-passes s w p k .there) e in
-      let none : h .levels + 1 - (h .levels + 1) ≡ 0 = omega arith in
-      let all : samplesTo h (h .levels + 1) ≡ h .samples = ap (λ d. countAt d (h .samples)) none in
-      (omega (arith, z .0, end-is h (h .levels + 1) (omega arith) (omega arith), ap (λ n. h .width * n) all), omega (arith, z .0), z .1)
-
-  -- so the bytes in front of that place are a whole file
+  -- the bytes up to where the last section ends are a whole file
   trimmed : reasonOf (take q s) w p ≡ nothing
   trimmed =
       let h = headIn s in
+      let ends = way-ends s h (head-passes s w p k .there) q e in
       let t = take q s in
-      let far = went-end .1 in
-      let long : length t ≡ q = length-take-le q s (went-end .2) in
+      let far = ends .1 in
+      let long : length t ≡ q = length-take-le q s (ends .2) in
       let same : Agree s t q = λ n i b. leAt-take n q s i b in
       let head = head-same s t q same (omega (arith, far, common-body s (head-parts s w p k .0))) in
       let short = roomy mostBytes (length s) (head-parts s w p k .0 .0) in
-      let again = head-again s t q same w p k far (omega (arith, far, long)) (omega (arith, long, went-end .2, short)) in
+      let again = head-again s t q same w p k far (omega (arith, far, long)) (omega (arith, long, ends .2, short)) in
       reason-whole t w p again
       (ap (λ h. wayIn t h) head
       ∙ walk-same (h .levels) s t (h .width) (h .samples) (h .body) q (head-passes s w p k .there) e (λ i b. same 4 i b) (omega (arith, long))
@@ -100,13 +88,32 @@ module _ (s : List ℕ) (w p : ℕ) {r : Reason} (why : r ≡ reasonOf s w p) wh
   pub zeros-why : Ended s w p → r ≡ nothing
   zeros-why e = why ∙ reason-whole s w p (e .0) (e .1)
 
-  -- an accepted cut: section 2 or a later one, and the level that opening gives is that many sections from the end
+  -- so the number 0 and section 0 are enough to tell one
+  pub why-none : r .number ≡ 0 → r .section ≡ 0 → r ≡ nothing
+  why-none z none = pick (accepts z)
+    where
+      pick : Accepted s w p r → r ≡ nothing
+      pick (inl a) = a .0
+      pick (inr a) = absurd (omega (arith, a .0, none))
+
+  -- an accepted cut is in section 2 or a later one, and its level is L + 2 less the section: the last section gives level 1
   pub why-level : r .number ≡ 0 → 1 ≤ r .section → (2 ≤ r .section) × (r .section ≤ headIn s .levels + 1) × (levelIn s ≡ headIn s .levels + 2 - r .section)
   why-level z one = pick (accepts z)
     where
       pick : Accepted s w p r → (2 ≤ r .section) × (r .section ≤ headIn s .levels + 1) × (levelIn s ≡ headIn s .levels + 2 - r .section)
       pick (inl a) = absurd (omega (arith, one, ap (λ (r : Reason). r .section) (a .0)))
       pick (inr a) = a
+
+-- so opening, with areas of whole samples and room, gives level 0 of a whole file, and of a cut one L + 2 less the section
+pub why-opened : (s : List ℕ) (w p : ℕ) {r : Reason} → r ≡ reasonOf s w p → (o u v : List ℕ) (a : OpenAnswer) (o′ u′ v′ : List ℕ) → OpenGives s w p o u v a o′ u′ v′
+    → WholeAreas w (length o) (length u) (length v) → Room s w (length o) (length u) (length v) → r .number ≡ 0 → a .answer .first ≡ cond (eqb (r .section) 0) 0 (headIn s .levels + 2 - r .section)
+why-opened s w p {r} why o u v a o′ u′ v′ opens whole room z = ap (λ (a : Answer). a .first) (why-opens s w p why opens whole z room) ∙ pick (accepts s w p why z)
+  where
+    pick : Accepted s w p r → levelIn s ≡ cond (eqb (r .section) 0) 0 (headIn s .levels + 2 - r .section)
+    pick (inl a) = a .2 ∙ sym (ap (λ b. cond b 0 (headIn s .levels + 2 - r .section)) (eq-eqb (r .section) 0 (ap (λ (r : Reason). r .section) (a .0))))
+    pick (inr a) = a .2 ∙ sym (ap (λ b. cond b 0 (headIn s .levels + 2 - r .section)) (ne-eqb (r .section) 0 (λ n. omega (arith, a .0))))
+
+-- ---- bytes behind it
 
 abbrev Trimmed : List ℕ → ℕ → ℕ → Reason → Type 0
 Trimmed s w p r = r .number ≡ 12 → (r .place < length s) × (reasonOf (take (r .place) s) w p ≡ nothing)
@@ -116,7 +123,7 @@ pub why-trimmed : (s : List ℕ) (w p : ℕ) {r : Reason} → r ≡ reasonOf s w
 why-trimmed s w p {r} why n = subst (Trimmed s w p) (sym why) all n
   where
     here : Passing (headChecks s w p) → (q : ℕ) → wayIn s (headIn s) ≡ Went q → q < length s → let i = endOf (headIn s) (headIn s .levels + 1) in (i < length s) × (reasonOf (take i s) w p ≡ nothing)
-    here k q e less = subst (λ i. (i < length s) × (reasonOf (take i s) w p ≡ nothing)) (went-end s w p k q e .0) (less, trimmed s w p k q e)
+    here k q e less = subst (λ i. (i < length s) × (reasonOf (take i s) w p ≡ nothing)) (way-ends s (headIn s) (head-passes s w p k .there) q e .0) (less, trimmed s w p k q e)
 
     all : Trimmed s w p (reasonOf s w p)
     all =

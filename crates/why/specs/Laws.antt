@@ -22,6 +22,13 @@ abbrev pub among : List ℕ → ℕ → Bool
 among [] x = false
 among (k ∷ ks) x = eqb x k || among ks x
 
+-- the numbers of a reason: those of the fields of section 0 and of a file that is too long, and those of the sections
+abbrev pub fieldNumbers : List ℕ
+fieldNumbers = 1 ∷ 4 ∷ 6 ∷ 8 ∷ 11 ∷ 18 ∷ []
+
+abbrev pub sectionNumbers : List ℕ
+sectionNumbers = 0 ∷ 9 ∷ 10 ∷ 12 ∷ []
+
 -- the check of a list that says r: its test refuses, and all before it pass
 pub record StoppedBy (l : List Check) (r : Refusal) : Type 0 where
   pub before : List Check
@@ -53,7 +60,13 @@ Ended s w p = Passing (headChecks s w p) × (wayIn s (headIn s) ≡ Went (length
 
 -- a field of section 0 is refused: width and levels have one byte, the others four
 pub record OfField (s : List ℕ) (r : Reason) : Type 0 where
-  pub number : among (1 ∷ 4 ∷ 6 ∷ 8 ∷ 11 ∷ 18 ∷ []) (r .number) ≡ true
+  pub number : among fieldNumbers (r .number) ≡ true
   pub section : r .section ≡ 0
   pub place : among (4 ∷ 5 ∷ 6 ∷ 10 ∷ 14 ∷ []) (r .place) ≡ true
   pub found : leAt (cond (ltb (r .place) 6) 1 4) s (r .place) ≡ r .found
+
+-- r is a wrong count, and m the reason of the file with the wanted count at the place: a 9 is of a later section. Behind section 0 the opener comes as far as before, and no
+-- field is refused
+pub record Mended (r m : Reason) : Type 0 where
+  pub later : m .number ≡ 9 → r .section < m .section
+  pub further : 1 ≤ r .section → (among sectionNumbers (m .number) ≡ true) × ((m ≡ nothing) ⊎ (r .section ≤ m .section))
