@@ -7,8 +7,9 @@
  *
  *   desk          a tour: four recordings are made and kept as pyramid files, with their sampling rates. Files are cut, opened,
  *                 drawn and marked with notes, and kept in a route book, where one is opened and one is withdrawn. An old file,
- *                 which has no rate, is opened too. A file is damaged in every way that is found, and each time it is said why it
- *                 does not open. One recording comes in pieces. Then the library is made to refuse with every refusal's number
+ *                 which has no rate, is opened too. A file is damaged, cut and asked for what it is not, and each time it is said
+ *                 why it does not open, or opens cut. One recording comes in pieces. Then the library is made to refuse with every
+ *                 refusal's number
  *   desk FILE     what a pyramid file says of itself, the level that it opens at, its rate and its overview; and why, where it
  *                 does not open, or opens cut
  *   desk --help   this
@@ -74,16 +75,36 @@ static void say_rate(uint32_t rate) {
 
 /* ---- why a file does not open, or opens cut: each reason in one sentence, for the person at the desk */
 
-/* A cut: in which part the file stops, and how much is missing at least. */
-static void say_cut(bk_reason r) {
-    printf("The file stops at byte %llu, ", (unsigned long long)r.place);
-    if (r.section == 0)
-        printf("before its header is whole");
-    else if (r.section == 1)
-        printf("before its coarsest level is whole");
+/* How many bytes the whole file has, by a head that passes the checks: an old file, which has no rate, 4 less than a new one. */
+static uint64_t whole_length(bk_head head) {
+    bk_answer size = bk_pyramid_size(head.width, head.samples, head.levels);
+    expect("the size of the whole file", size, BK_DONE);
+    return head.rate == 0 ? size.first - 4 : size.first;
+}
+
+static const char *bytes_word(unsigned long long count) { return count == 1 ? "byte" : "bytes"; }
+
+/* A cut: which part is not whole, and how many bytes are missing, in all where the header is there, and at least of that part. */
+static void say_cut(bk_reason r, bk_head head) {
+    unsigned long long ends = r.place, wanted = r.wanted, lacks;
+    if (ends == 0) {
+        printf("The file is empty.\n");
+        return;
+    }
+    printf("The file ends after %llu %s, before ", ends, bytes_word(ends));
+    if (r.section == 0) {
+        printf("its header is whole: it lacks at least %llu %s.\n", wanted, bytes_word(wanted));
+        return;
+    }
+    if (r.section == 1)
+        printf("its coarsest level is whole, and does not open");
     else
-        printf("before section %llu is whole, and opens with less detail", (unsigned long long)r.section);
-    printf(": at least %llu %s missing.\n", (unsigned long long)r.wanted, r.wanted == 1 ? "byte is" : "bytes are");
+        printf("section %llu of %lu is whole, and opens with less detail", (unsigned long long)r.section,
+               (unsigned long)head.levels + 1);
+    lacks = whole_length(head) - ends;
+    printf(": by its header it lacks %llu %s", lacks, bytes_word(lacks));
+    if (r.section <= head.levels) printf(", at least %llu of them there", wanted); /* in the last one all of them are */
+    printf(".\n");
 }
 
 /* A width that is not the one asked: the file's own may be asked for, or is no width. */
@@ -97,46 +118,54 @@ static void say_width(unsigned long long wanted, unsigned long long found) {
 /* A wrong count: the first of the file, or that of a section. */
 static void say_count(bk_reason r) {
     if (r.section == 0)
-        printf("The file begins with the number %llu, and a pyramid file with %llu, or 10 if it is an old one.\n",
+        printf("This is no pyramid file, or its beginning is damaged (the first number is %llu, not %llu or 10): fetch it again.\n",
                (unsigned long long)r.found, (unsigned long long)r.wanted);
     else
-        printf("Section %llu counts %llu samples at byte %llu, and has %llu by the header: fetch the file again.\n",
-               (unsigned long long)r.section, (unsigned long long)r.found, (unsigned long long)r.place,
+        printf("At byte %llu the count of section %llu is %llu, and by the header should be %llu: fetch the file again.\n",
+               (unsigned long long)r.place, (unsigned long long)r.section, (unsigned long long)r.found,
                (unsigned long long)r.wanted);
+}
+
+/* Levels that a recording of so many samples as the header says cannot have. */
+static void say_levels(unsigned long long wanted, unsigned long long found) {
+    if (found == 0)
+        printf("The header says 0 levels, and no file has fewer than 1: fetch it again.\n");
+    else
+        printf("The header says %llu levels, and its number of samples allows %llu at most: fetch the file again.\n", found,
+               wanted);
 }
 
 /* A length above its limit: that of the file, of which no more than found bytes were read, or that of the recording. */
 static void say_too_long(bk_reason r) {
     unsigned long long wanted = r.wanted, found = r.found;
     if (r.place == 0)
-        printf("The file has %llu bytes or more, and no pyramid file has more than %llu.\n", found, wanted);
+        printf("The file has %llu bytes or more, and no pyramid file has more than %llu: fetch it again.\n", found, wanted);
     else
         printf("The header says %llu samples, and no file has more than %llu: fetch it again.\n", found, wanted);
 }
 
-/* A reason as a sentence. */
-static void say_reason(bk_reason r) {
+/* A reason as a sentence, beside what the file says of itself. */
+static void say_reason(bk_reason r, bk_head head) {
     unsigned long long wanted = r.wanted, found = r.found;
     switch (r.number) {
     case BK_DONE:
         if (r.section != 0)
-            say_cut(r);
+            say_cut(r, head);
         else
             printf("The file is whole.\n");
         break;
     case BK_MIN_FILTER_SIZE:
         printf("The header says %llu samples, and no file has fewer than %llu: fetch it again.\n", found, wanted);
         break;
-    case BK_BUFFER_WAS_TOO_SMALL_FOR_LEVEL:
-        printf("The header says %llu levels, and its recording has 1 to %llu: fetch the file again.\n", found, wanted);
-        break;
+    case BK_BUFFER_WAS_TOO_SMALL_FOR_LEVEL: say_levels(wanted, found); break;
     case BK_TOO_LONG: say_too_long(r); break;
     case BK_OTHER_WIDTH: say_width(wanted, found); break;
     case BK_BAD_COUNT: say_count(r); break;
-    case BK_CUT_SHORT: say_cut(r); break;
+    case BK_CUT_SHORT: say_cut(r, head); break;
     case BK_OTHER_POINT: printf("The file is of point %llu, and point %llu was asked for.\n", found, wanted); break;
     case BK_TRAILING:
-        printf("The file has %llu bytes, and only the first %llu belong to it: cut off the others.\n", found, wanted);
+        printf("By its header the file ends after %llu of its %llu bytes: the others were added, or the header is damaged.\n",
+               wanted, found);
         break;
     case BK_NO_RATE: printf("The header says a sampling rate of 0, which is none: fetch the file again.\n"); break;
     default: printf("There is no sentence for %llu.\n", (unsigned long long)r.number);
@@ -155,7 +184,7 @@ static void say_why(const uint8_t *file, size_t length, uint32_t width, uint32_t
     }
     if (r.number == BK_DONE && r.section == 0) return;
     printf("    ");
-    say_reason(r);
+    say_reason(r, bk_pyramid_head(file, length));
 }
 
 /* ---- recordings: made by integers alone, so that they are the same everywhere */
@@ -406,7 +435,7 @@ typedef struct damage {
     uint32_t width, point;
 } damage;
 
-/* Damages a file, which has room for 37 bytes, and says why it does not open; then the damage is undone. */
+/* Damages a file, which has room for 37 bytes, and says why it does not open, or opens cut; then the damage is undone. */
 static void tour_damage(uint8_t *file, const damage *d) {
     uint8_t before = file[d->place];
     bk_reason r;
@@ -414,7 +443,7 @@ static void tour_damage(uint8_t *file, const damage *d) {
     r = bk_pyramid_why(file, d->length, d->width, d->point);
     printf("%s: number %llu, section %llu, place %llu, wanted %llu, found %llu\n    ", d->what, (unsigned long long)r.number,
            (unsigned long long)r.section, (unsigned long long)r.place, (unsigned long long)r.wanted, (unsigned long long)r.found);
-    say_reason(r);
+    say_reason(r, bk_pyramid_head(file, d->length));
     file[d->place] = before;
 }
 
@@ -427,7 +456,7 @@ static void tour_mend(uint8_t *file, size_t length, uint32_t width, uint32_t poi
     }
     put_sample(file + r.place, 4, (int32_t)r.wanted);
     printf("the count %llu put at byte %llu: ", (unsigned long long)r.wanted, (unsigned long long)r.place);
-    say_reason(bk_pyramid_why(file, length, width, point));
+    say_reason(bk_pyramid_why(file, length, width, point), bk_pyramid_head(file, length));
 }
 
 /* Every reason but that of a file over the limit, on the file of five samples of 8 bits, two levels, point 14. */
@@ -864,7 +893,7 @@ static int tour(void) {
     printf("\n== an old file, which has no rate\n");
     tour_old_file();
 
-    printf("\n== why a file does not open\n");
+    printf("\n== why a file does not open, or opens cut\n");
     tour_reasons();
 
     printf("\n== the sections of point 16\n");

@@ -57,8 +57,8 @@
  * are: what bk_pyramid_size, bk_pyramid_section, bk_book_find and bk_band_window_T give when done, and the first number of
  * bk_book_room, whose second counts points; the numbers of 10 and 12; the length of 9 (0, length) and the count of section 0; and
  * of 7 those of the file that is written and those of a book. All other lengths and counts in an answer are samples. In a bk_reason
- * the place is a byte; wanted and found are bytes for 0, 8, 10 and 12, for 6 at place 0 and for the count of section 0, and samples
- * for 1, for 6 at place 6 and for the other counts.
+ * the place is a byte; wanted and found are bytes for 0, 8, 10 and 12, for 6 at place 0 and for the count of section 0, samples for
+ * 1, for 6 at place 6 and for the other counts, levels for 4, point numbers for 11 and millihertz for 18.
  *
  * Old and new files, and the rate. A pyramid file is of one of two kinds. A new file has the sampling rate in its section 0, whose
  * count is 14; an old file has no rate, and its count is 10. Versions before 0.10.0 wrote old files. The write calls here write
@@ -137,10 +137,10 @@ extern "C" {
 #define BK_VERSION_PATCH 0
 
 /*
- * What every call but bk_pyramid_why returns, alone or as the field answer of a struct. `number` is 0 when the call is done, else
- * the number of the first check that refused; the checks are made in the order in which a call's comment lists them. `first` and
- * `second` are 0 unless the table, or a call that is done, says otherwise. Compare the fields of a struct and not its bytes: those
- * between them are not written.
+ * What the calls return, alone or as the field answer of a struct; bk_pyramid_why, bk_stream_written, bk_refusal_name and
+ * bk_refusal_sentence do not. `number` is 0 when the call is done, else the number of the first check that refused; the checks are
+ * made in the order in which a call's comment lists them. `first` and `second` are 0 unless the table, or a call that is done, says
+ * otherwise. Compare the fields of a struct and not its bytes: those between them are not written.
  */
 typedef struct bk_answer {
     uint32_t number;
@@ -689,8 +689,8 @@ typedef struct bk_opened {
  * Which one it is: 9 (0, ..) is a length where one of the three byte lengths is ragged, else section 0's count; 9 with another
  * first number is that section's. 6 is the file's where file_bytes is over the limit, else the samples that its head says. 8 with
  * two equal numbers: the file has the width that was asked, and it is not 1, 2 or 4. 10 always means that too little is left:
- * nothing of this file can be shown. bk_pyramid_why tells them apart too, says at which byte the file is wrong, and needs no area;
- * its comment has what to do.
+ * nothing of this file can be shown. bk_pyramid_why, which needs no area, tells them apart too, but for a ragged length: it says at
+ * which byte the file is wrong or ends, and its comment has what to do.
  *
  * Changed in 0.10.0: what is returned; new files are taken too; 18 is new. 4 to 13 bytes with a count of section 0 that is neither
  * 10 nor 14 are 9, and were 10. An old file with bytes behind it, 67,108,975 to 67,108,978 in all, is 12, and was 6.
@@ -709,65 +709,78 @@ bk_opened bk_pyramid_open(const uint8_t *file, size_t file_bytes, uint32_t width
 typedef struct bk_reason {
     uint64_t number;  /* of the refusal: 1, 4, 6, 8, 9, 10, 11, 12 or 18; 0 where the file opens, whole or cut */
     uint64_t section; /* the section at which the opener stopped; 0 also where the file is too long, and where it is whole */
-    uint64_t place;   /* a byte of the file, counted from 0: the first of what is wrong; of a cut file_bytes, where it ends */
-    uint64_t wanted;  /* what should stand there, or its limit; of a cut how many bytes are missing there */
-    uint64_t found;   /* what stands there; of a cut 0 */
+    uint64_t place;   /* a byte of the file, counted from 0: the first of what is wrong; of a cut file_bytes, one past the last */
+    uint64_t wanted;  /* what should stand there, or a limit; of 8 and 11 what was asked for; of 12 the file's proper length; of a
+                         cut how many bytes the part being read lacks */
+    uint64_t found;   /* what stands there; of 12, and of 6 at place 0, file_bytes; of a cut 0 */
 } bk_reason;
 
 /*
  * Why a pyramid file, or the front of one, does not open, or opens cut. `file` is held to the checks of bk_pyramid_open, in their
- * order, asked for `width` and `point`. What is returned is the first that it does not pass or, where it opens, the section that a
- * cut broke. The file has passed all checks before that. Of those after it nothing is said: put the one thing right, ask again.
+ * order, asked for `width` and `point`. What is returned is the first that it does not pass; where it opens cut, the first section
+ * that is not whole; of a whole file five zeros. The file has passed all checks before that. Of those after it nothing is said: put
+ * the one thing right, ask again.
  *
  * It has no refusal of its own. No area is lent to it, and it changes no byte. So its number is never 7, nor the 9 of an area's
  * byte length: it is the number that bk_pyramid_open answers where its areas hold whole samples, and enough of them. Section 0 and
  * the counts are read, and no sample: a few bytes of each level, however long the recording is. bk_refusal_name and
  * bk_refusal_sentence take the number as (uint32_t)r.number; of 0 they say that the call is done, also where the file opens cut.
  *
- * The fields, and below them what to do. n is the number of samples that section 0 says, levels the number of levels. A number is
- * put at a place as a u32: four bytes, little-endian.
+ * The fields, and below them what to do. n and levels are the samples and the levels that bk_pyramid_head gives. A number is put at
+ * a place as a u32: four bytes, little-endian.
  *
- *   number  section          place              wanted                  found
+ *   number  section          place              wanted                    found
  *
- *   0       0                0                  0                       0
+ *   0       0                0                  0                         0
  *           The file is whole, and opens at level 0. Nothing is to be done.
- *   0       2 to levels + 1  file_bytes         bytes that are missing  0
- *           The file was cut in this section, or right before it. It opens with less detail, at level levels + 2 - section. For
- *           more detail fetch the rest, at least wanted bytes from byte place on.
- *   1       0                6                  3, the fewest           n
+ *   0       2 to levels + 1  file_bytes         bytes the part lacks      0
+ *           The file ends in this section, or right before it. It opens with less detail, at level levels + 2 - section. For more
+ *           detail fetch the rest, from byte place on; wanted is what the part being read lacks, perhaps only a count. If the file
+ *           was not cut, section 0 is damaged, or bytes before its end were lost: fetch all of it again.
+ *   1       0                6                  3, the fewest             n
  *           No file has so few samples: fetch it again.
- *   4       0                5                  the 5/3 depth of n      levels
+ *   4       0                5                  the 5/3 depth of n        levels
  *           levels is 0, or more than the depth, so levels or n is damaged: fetch the file again.
- *   6       0                0                  67108978, the most      file_bytes
+ *   6       0                0                  67108978, the most        file_bytes
  *           No file has so many bytes, and none of them was read. If a file may stand in front, ask about the first wanted bytes.
- *   6       0                6                  16777216, the most      n
+ *   6       0                6                  16777216, the most        n
  *           No file has so many samples: fetch it again.
- *   8       0                4                  the width asked         the file's width
- *           If found is 1, 2 or 4, the file may be of that width: ask for it. Else the byte there is damaged: fetch the file again.
- *   9       0                0                  14                      the count of section 0
+ *   8       0                4                  the width asked           the file's width
+ *           If found is 1, 2 or 4, the file may be of that width: ask for it. If found is another number, or you know that the
+ *           recording has the width asked, byte 4 is damaged: fetch the file again.
+ *   9       0                0                  14                        the count of section 0
  *           This is no pyramid file, or the count is damaged: fetch it again. wanted is 14 also for what may have been an old file,
- *           whose count is 10. If nothing but the count is damaged, 14 put there mends a new file, and 10 an old one.
- *   9       1 to levels + 1  its count's place  what n, levels give     its count
+ *           whose count is 10. If nothing but the count is damaged, 14 put there mends a new file, and 10 an old one: try both in a
+ *           copy, and go by the one with which the file is whole.
+ *   9       1 to levels + 1  its count's place  the right count           its count
  *           The count is damaged, or bytes before it are damaged, lost or added: fetch the file again. If nothing but the count is
- *           damaged, wanted put there mends it. In any case the answer is then no longer 9, or it is 9 of a later section.
- *   10      0 or 1           file_bytes         bytes that are missing  0
- *           The file was cut too early, and nothing of it can be shown: fetch the rest, at least wanted bytes from byte place on.
- *   11      0                10                 the point asked         the file's point
- *           The file says another point. If it is the file that you want, ask for found; else look for the file of wanted.
- *   12      levels + 1       its proper length  the same                file_bytes
- *           The found - wanted bytes from byte place on do not belong to the file: cut them off, and it is whole.
- *   18      0                14                 1, the least            0
+ *           damaged, wanted put there mends it: do that in a copy. In any case the answer is then no longer 9, or it is 9 of a
+ *           later section. So a copy that then opens need not be mended: if the damage is elsewhere, the four bytes were a right
+ *           count, or samples, and other samples may open.
+ *   10      0 or 1           file_bytes         bytes the part lacks      0
+ *           The file ends in this section, or right before it, and nothing of it can be shown: fetch the rest, as for 0. If it was
+ *           not cut, it may also be no pyramid file.
+ *   11      0                10                 the point asked           the file's point
+ *           The file says another point: it is another file, or its point is damaged. If it is the file that you want, ask for
+ *           found; else look for the file of wanted.
+ *   12      levels + 1       as wanted          the file's proper length  file_bytes
+ *           By section 0 the file has wanted bytes: others were added behind it, or section 0 is damaged, for example the width in
+ *           byte 4. If you know the width to be right, lend the first wanted bytes alone, which open as a whole file; else cut
+ *           nothing off, and fetch the file again.
+ *   18      0                14                 1, the least              0
  *           A new file whose rate is 0. If you know the rate, put it there, in millihertz; else fetch the file again.
  *
- * How many bytes a cut wants (10, and 0 with a section): those that are missing of the part that was being read, and no more. That
- * is the section's count, 4 bytes, as long as these are not all there, and after that the section. A file that ends right behind a
- * section, and is not whole, wants the 4 bytes of the next count. When so many bytes have come, ask again. Once a count is there,
- * its section is cut, or the count is wrong, which is 9. Once section 0 is there, its fields are checked. Once any other section is
- * there, the next one is cut or, if it was the last, the file is whole. How long the whole file is, is said at bk_pyramid_sample.
+ * How many bytes a cut wants (10, and 0 with a section): those that the part being read lacks, and no more. That is the section's
+ * count, 4 bytes, as long as these are not all there, and after that the section. A file that ends right behind a section, and is
+ * not whole, wants the 4 bytes of the next count. When so many bytes have come, ask again. Once a count is there, its section is
+ * cut, or the count is wrong, which is 9. Once section 0 is there, its fields are checked, and if they pass, section 1 is cut. Once
+ * any other section is there, the next one is cut or, if it was the last, the file is whole. How long the whole file is can be told
+ * once section 0 is there: bk_pyramid_sample's comment says how.
  *
- * After other calls. What bk_pyramid_head refuses is checked before width and point: ask here for any, for example for 0 and 0.
- * bk_pyramid_sample refuses a file with this number; where it is 0, only with 13. Where bk_pyramid_section or bk_book_add says 10,
- * the number here is 10, or 0 with the section that a cut broke.
+ * After other calls ask here for the same width and point; after bk_book_add for the width that bk_pyramid_head gives. What
+ * bk_pyramid_head refuses is checked before width and point: then ask for any, for example for 0 and 0. bk_pyramid_sample refuses a
+ * file with this number; where it is 0, only with 13. Where bk_pyramid_section or bk_book_add says 10, the number here is 10, or 0
+ * with the first section that is not whole.
  *
  * New in 0.11.0.
  *
@@ -794,7 +807,8 @@ typedef struct bk_sample {
  * The answer tells neither the level nor the rate. The sample is the recording's own where the file is whole, that is where
  * file_bytes is what bk_pyramid_size says of the head's width, samples and levels, or 4 less for an old file, whose head has the
  * rate 0. Where the file was cut, ask bk_pyramid_open once which level is left, and then here for the column that bk_note_column
- * gives at that level. bk_pyramid_why tells both without room: whether the file is whole, and which level is left.
+ * gives at that level. bk_pyramid_why tells both without room: whether the file is whole and, with the head's levels, which level
+ * is left.
  *
  * Refused, in this order: as bk_pyramid_open from 6 (over 67,108,978 bytes) to 12, then
  *   13 (place, count)   place is not one of 0 to count - 1; count is what bk_pyramid_open would give back
@@ -895,7 +909,7 @@ bk_answer bk_book_fresh(uint8_t *area, size_t area_bytes);
  *                        fits in its place if its size is at most the free room and the size that bk_book_find says together
  *   14                   the book holds 64 points, or the file has more bytes than the free room
  * From 6 to 12 these are what bk_pyramid_open says of the file, asked for its own width, but that it is refused with 10 also where
- * a part of it would open. So bk_pyramid_why, asked for its own width and `point`, says where.
+ * a part of it would open. So bk_pyramid_why, asked for its own width and `point`, says at which byte it is wrong or ends.
  * Which one it is: 7 is always the area's, and 10 always the file's. 6 is the area's where area_bytes is over 4,294,967,295; else
  * the file's where file_bytes is over 67,108,978; else the samples that its head says. 9 (0, 0) is the book's where bk_book_room
  * answers the same; where bk_book_room is done, and for every other 9, it is the file's. 14 is the 64 points where bk_book_room
