@@ -690,7 +690,7 @@ typedef struct bk_opened {
  * first number is that section's. 6 is the file's where file_bytes is over the limit, else the samples that its head says. 8 with
  * two equal numbers: the file has the width that was asked, and it is not 1, 2 or 4. 10 always means that too little is left:
  * nothing of this file can be shown. bk_pyramid_why, which needs no area, tells them apart too, but for a ragged length: it says at
- * which byte the file is wrong or ends, and its comment has what to do.
+ * which byte that shows, and its comment has what to do.
  *
  * Changed in 0.10.0: what is returned; new files are taken too; 18 is new. 4 to 13 bytes with a count of section 0 that is neither
  * 10 nor 14 are 9, and were 10. An old file with bytes behind it, 67,108,975 to 67,108,978 in all, is 12, and was 6.
@@ -709,9 +709,10 @@ bk_opened bk_pyramid_open(const uint8_t *file, size_t file_bytes, uint32_t width
 typedef struct bk_reason {
     uint64_t number;  /* of the refusal: 1, 4, 6, 8, 9, 10, 11, 12 or 18; 0 where the file opens, whole or cut */
     uint64_t section; /* the section at which the opener stopped; 0 also where the file is too long, and where it is whole */
-    uint64_t place;   /* a byte of the file, counted from 0: the first of what is wrong; of a cut file_bytes, one past the last */
-    uint64_t wanted;  /* what should stand there, or a limit; of 8 and 11 what was asked for; of 12 the file's proper length; of a
-                         cut how many bytes the part being read lacks */
+    uint64_t place;   /* a byte, counted from 0: the first of the field or count at which the opener stopped; 0 also where the file
+                         is too long; of a cut file_bytes, one past the last byte */
+    uint64_t wanted;  /* what the check wants there, or a limit; of 8 and 11 what was asked for; of 12 the file's proper length; of
+                         a cut how many bytes the part being read lacks */
     uint64_t found;   /* what stands there; of 12, and of 6 at place 0, file_bytes; of a cut 0 */
 } bk_reason;
 
@@ -719,7 +720,7 @@ typedef struct bk_reason {
  * Why a pyramid file, or the front of one, does not open, or opens cut. `file` is held to the checks of bk_pyramid_open, in their
  * order, asked for `width` and `point`. What is returned is the first that it does not pass; where it opens cut, the first section
  * that is not whole; of a whole file five zeros. The file has passed all checks before that. Of those after it nothing is said: put
- * the one thing right, ask again.
+ * it right, then ask again.
  *
  * It has no refusal of its own. No area is lent to it, and it changes no byte. So its number is never 7, nor the 9 of an area's
  * byte length: it is the number that bk_pyramid_open answers where its areas hold whole samples, and enough of them. Section 0 and
@@ -755,18 +756,18 @@ typedef struct bk_reason {
  *   9       1 to levels + 1  its count's place  the right count           its count
  *           The count is damaged, or bytes before it are damaged, lost or added: fetch the file again. If nothing but the count is
  *           damaged, wanted put there mends it: do that in a copy. In any case the answer is then no longer 9, or it is 9 of a
- *           later section. So a copy that then opens need not be mended: if the damage is elsewhere, the four bytes were a right
- *           count, or samples, and other samples may open.
+ *           later section. That a copy then opens does not show that it is mended: if the damage is elsewhere, the four bytes were
+ *           a right count, or samples, and other samples may open.
  *   10      0 or 1           file_bytes         bytes the part lacks      0
- *           The file ends in this section, or right before it, and nothing of it can be shown: fetch the rest, as for 0. If it was
- *           not cut, it may also be no pyramid file.
+ *           The file ends in this section, or right before it, and nothing of it can be shown: fetch the rest, as for number 0. If
+ *           it was not cut, it may also be no pyramid file.
  *   11      0                10                 the point asked           the file's point
  *           The file says another point: it is another file, or its point is damaged. If it is the file that you want, ask for
  *           found; else look for the file of wanted.
  *   12      levels + 1       as wanted          the file's proper length  file_bytes
  *           By section 0 the file has wanted bytes: others were added behind it, or section 0 is damaged, for example the width in
- *           byte 4. If you know the width to be right, lend the first wanted bytes alone, which open as a whole file; else cut
- *           nothing off, and fetch the file again.
+ *           byte 4. If you know that section 0 is right, its count too, lend the first wanted bytes alone, which open as a whole
+ *           file; else cut nothing off, and fetch the file again.
  *   18      0                14                 1, the least              0
  *           A new file whose rate is 0. If you know the rate, put it there, in millihertz; else fetch the file again.
  *
@@ -784,7 +785,7 @@ typedef struct bk_reason {
  *
  * New in 0.11.0.
  *
- * For example, of the 35 bytes that bk_pyramid_write_i8 makes of 0, 3, -4, 1, 7 at 2 levels for point 14, at any rate, asked for
+ * For example, of the 35 bytes that bk_pyramid_write_i8 makes of 0, 3, -4, 1, 7 at 2 levels for point 14 and some rate, asked for
  * width 1 and point 14, in the order of the table: the first 10 are 10, 0, 10, 8, 0; the first 22 are 10, 1, 22, 2, 0; the first 24
  * are 0, 2, 24, 4, 0; the first 28 are 0, 2, 28, 1, 0; all 35 are 0, 0, 0, 0, 0; with two bytes behind them they are 12, 3, 35, 35,
  * 37; and with 9 in byte 24, where the count of section 2 begins, they are 9, 2, 24, 1, 9.
@@ -909,7 +910,7 @@ bk_answer bk_book_fresh(uint8_t *area, size_t area_bytes);
  *                        fits in its place if its size is at most the free room and the size that bk_book_find says together
  *   14                   the book holds 64 points, or the file has more bytes than the free room
  * From 6 to 12 these are what bk_pyramid_open says of the file, asked for its own width, but that it is refused with 10 also where
- * a part of it would open. So bk_pyramid_why, asked for its own width and `point`, says at which byte it is wrong or ends.
+ * a part of it would open. So bk_pyramid_why, asked for its own width and `point`, says at which byte that shows.
  * Which one it is: 7 is always the area's, and 10 always the file's. 6 is the area's where area_bytes is over 4,294,967,295; else
  * the file's where file_bytes is over 67,108,978; else the samples that its head says. 9 (0, 0) is the book's where bk_book_room
  * answers the same; where bk_book_room is done, and for every other 9, it is the file's. 14 is the 64 points where bk_book_room

@@ -1,4 +1,4 @@
--- "Everything before it passed", of the sections: a reason that names section j says that section 0 passes and that all sections before j are there, with their counts.
+-- "Everything before it passed", of the sections: where the reason names section j, from 1 on, section 0 passes and all sections before j are there, with their counts.
 use mathlib.Core.Bool.{Bool, true, false, cond}
 use mathlib.Core.List.{List, [], _∷_}
 use mathlib.Core.Logic.{_⊎_, inl, inr}

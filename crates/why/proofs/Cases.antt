@@ -24,11 +24,11 @@ use Rattle.pyramid.specs.Opens.{headIn, isNew, startChecks, headChecks, wayIn, 
 use Rattle.pyramid.proofs.Opening.{head-passes}
 use Rattle.pyramid.proofs.Ways.{walk-size}
 use Rattle.why.specs.declared.Reason.{Reason}
-use Rattle.why.specs.Laws.{among, fieldNumbers, OfField}
+use Rattle.why.specs.Laws.{among, fieldNumbers, fieldPlace, OfField}
 use Rattle.why.specs.Reasons.{because, nothing, endOf, placeOf, wantedOf, cutIn, reasonBy, sayStart, reasonOf}
 use Rattle.why.proofs.Says.{start-by, reason-early, reason-later, reason-passed, later-by, way-stops}
 
--- the number of a cut in section j: the opener refuses one in section 1
+-- the number of a cut in section j, from 1 on: the opener refuses one in section 1
 abbrev pub numberOf : ℕ → ℕ
 numberOf j = cond (eqb j 1) 10 0
 
@@ -126,7 +126,7 @@ module _ (s : List ℕ) (w p : ℕ) (Q : Reason → Type 0) where
           (λ k _. way k (wayIn s (headIn s)) refl) refl
         where
           of : {r : Refusal} {A : Type 0} → let x = reasonBy true (headIn s) (length s) r in
-              among fieldNumbers (x .number) ≡ true → x .section ≡ 0 → among (4 ∷ 5 ∷ 6 ∷ 10 ∷ 14 ∷ []) (x .place) ≡ true
+              among fieldNumbers (x .number) ≡ true → x .section ≡ 0 → x .place ≡ fieldPlace (x .number)
               → leAt (cond (ltb (x .place) 6) 1 4) s (x .place) ≡ x .found → A → sayFile s w p ≡ r → Q (reasonOf s w p)
           of {r} n z a f _ g =
               let x = reasonBy true (headIn s) (length s) r in
@@ -138,15 +138,18 @@ module _ (s : List ℕ) (w p : ℕ) (Q : Reason → Type 0) where
 
 -- ---- about the call
 
--- a field that is refused, or a file that is too long: "else the place is the field's first byte"
-pub why-field : (s : List ℕ) (w p : ℕ) {r : Reason} → r ≡ reasonOf s w p → among fieldNumbers (r .number) ≡ true → (r ≡ because 6 0 0 mostBytes (length s)) ⊎ OfField s r
-why-field s w p why n = subst (λ r. among fieldNumbers (r .number) ≡ true → (r ≡ because 6 0 0 mostBytes (length s)) ⊎ OfField s r) (sym why) all n
-  where
-    cut : (j : ℕ) (b : Bool) → among fieldNumbers (cond b 10 0) ≡ false
-    cut j true = refl
-    cut j false = refl
+-- "else the place is the field's first byte": a field, or the whole file where it is too long
+abbrev Fielded : List ℕ → Reason → Type 0
+Fielded s r = among fieldNumbers (r .number) ≡ true → ((mostBytes < length s) × (r ≡ because 6 0 0 mostBytes (length s))) ⊎ OfField s r
 
-    all : among fieldNumbers (reasonOf s w p .number) ≡ true → (reasonOf s w p ≡ because 6 0 0 mostBytes (length s)) ⊎ OfField s (reasonOf s w p)
+pub why-field : (s : List ℕ) (w p : ℕ) {r : Reason} → r ≡ reasonOf s w p → among fieldNumbers (r .number) ≡ true → ((mostBytes < length s) × (r ≡ because 6 0 0 mostBytes (length s))) ⊎ OfField s r
+why-field s w p why = subst (Fielded s) (sym why) all
+  where
+    cut : (b : Bool) → among fieldNumbers (cond b 10 0) ≡ false
+    cut true = refl
+    cut false = refl
+
+    all : Fielded s (reasonOf s w p)
     all =
-        reason-by s w p (λ r. among fieldNumbers (r .number) ≡ true → (r ≡ because 6 0 0 mostBytes (length s)) ⊎ OfField s r) (λ _ _. inl refl) (λ _. off refl) (λ _ _. off refl) (λ _ _ _. off refl)
-        (λ _ r f _. inr f) (λ _ _ _ _. off refl) (λ _ _. off refl) (λ _ j _. off (cut j (eqb j 1))) (λ _ _ _ _. off refl)
+        reason-by s w p (Fielded s) (λ g _. inl (g, refl)) (λ _. off refl) (λ _ _. off refl) (λ _ _ _. off refl) (λ _ r f _. inr f) (λ _ _ _ _. off refl) (λ _ _. off refl)
+        (λ _ j _. off (cut (eqb j 1))) (λ _ _ _ _. off refl)

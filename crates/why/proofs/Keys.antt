@@ -1,4 +1,4 @@
--- The last arm of a match is told that a tag is one of those that no other arm among: as a test, which computes at each tag.
+-- The last arm of a match is told that a tag is one of those that no other arm has: as a test, which computes at each tag.
 use mathlib.Core.Bool.{Bool, true, false, _||_}
 use mathlib.Core.List.{List, [], _∷_}
 use mathlib.Core.Logic.{inl, inr}

@@ -106,7 +106,7 @@ module _ (s : List ℕ) (w p : ℕ) {r : Reason} (why : r ≡ reasonOf s w p) wh
         pass-on (areaChecks w (length o) (length u) (length v)) (fileChecks s w p ++ roomsFor w (countIn s) (length o) (length u) (length v)) (Done (levelIn s) (countIn s))
         (whole-areas-pass w (length o) (length u) (length v) whole)
 
-    -- is refused with the reason's number, if there is one, whatever room there is; the two values of its answer are numbers of the reason too
+    -- is refused with the reason's number, if that is not 0, whatever room there is; and its whole answer can be read off the reason
     pub why-answer : (r .number ≡ 0 → ⊥) → a .answer ≡ answerBy r
     why-answer n =
         let e = past ∙ file-stop s w p (roomsFor w (countIn s) (length o) (length u) (length v)) (Done (levelIn s) (countIn s)) (refuses n) in

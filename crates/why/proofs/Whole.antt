@@ -115,17 +115,17 @@ why-opened s w p {r} why o u v a o′ u′ v′ opens whole room z = ap (λ (a :
 
 -- ---- bytes behind it
 
+-- 12: the place is in the file, which is too long by the bytes from there on, and the bytes in front of it are a whole file
 abbrev Trimmed : List ℕ → ℕ → ℕ → Reason → Type 0
-Trimmed s w p r = r .number ≡ 12 → (r .place < length s) × (reasonOf (take (r .place) s) w p ≡ nothing)
+Trimmed s w p r = (r .place < length s) × (r .wanted ≡ r .place) × (r .found ≡ length s) × (reasonOf (take (r .place) s) w p ≡ nothing)
 
--- 12: the place is in the file, and the bytes in front of it are a whole one
-pub why-trimmed : (s : List ℕ) (w p : ℕ) {r : Reason} → r ≡ reasonOf s w p → r .number ≡ 12 → (r .place < length s) × (reasonOf (take (r .place) s) w p ≡ nothing)
-why-trimmed s w p {r} why n = subst (Trimmed s w p) (sym why) all n
+pub why-trimmed : (s : List ℕ) (w p : ℕ) {r : Reason} → r ≡ reasonOf s w p → r .number ≡ 12 → (r .place < length s) × (r .wanted ≡ r .place) × (r .found ≡ length s) × (reasonOf (take (r .place) s) w p ≡ nothing)
+why-trimmed s w p why = subst (λ r. r .number ≡ 12 → Trimmed s w p r) (sym why) all
   where
     here : Passing (headChecks s w p) → (q : ℕ) → wayIn s (headIn s) ≡ Went q → q < length s → let i = endOf (headIn s) (headIn s .levels + 1) in (i < length s) × (reasonOf (take i s) w p ≡ nothing)
     here k q e less = subst (λ i. (i < length s) × (reasonOf (take i s) w p ≡ nothing)) (way-ends s (headIn s) (head-passes s w p k .there) q e .0) (less, trimmed s w p k q e)
 
-    all : Trimmed s w p (reasonOf s w p)
+    all : reasonOf s w p .number ≡ 12 → Trimmed s w p (reasonOf s w p)
     all =
-        reason-by s w p (Trimmed s w p) (λ _ z. absurd (omega arith)) (λ _ z. absurd (omega arith)) (λ _ _ z. absurd (omega arith)) (λ _ _ _ z. absurd (omega arith))
-        (λ _ r f. no-field 12 f refl) (λ k q e less _. here k q e less) (λ _ _ z. absurd (omega arith)) (λ _ j _. no-cut j 12 refl) (λ _ _ _ _ z. absurd (omega arith))
+        reason-by s w p (λ r. r .number ≡ 12 → Trimmed s w p r) (λ _ z. absurd (omega arith)) (λ _ z. absurd (omega arith)) (λ _ _ z. absurd (omega arith)) (λ _ _ _ z. absurd (omega arith))
+        (λ _ r f. no-field 12 f refl) (λ k q e less _. let z = here k q e less in (z .0, refl, refl, z .1)) (λ _ _ z. absurd (omega arith)) (λ _ j _. no-cut j 12 refl) (λ _ _ _ _ z. absurd (omega arith))

@@ -31,11 +31,11 @@ Ends h t (suc j) m = m ≡ cond (eqb (suc j) (h .levels + 1)) nothing (because 0
 
 -- r is the reason of a cut, and m that of the file t, which has the wanted bytes more and whose section 0 says h
 pub record Completed (h : Head) (t : List ℕ) (r m : Reason) : Type 0 where
-  -- a broken count is there: where it is right, the bytes behind it are missing; else it is 9
+  -- a count that was broken is whole: where it is right, the bytes behind it are missing; else it is 9
   pub count : r .place < placeOf h (r .section) + 4
       → (length t ≡ placeOf h (r .section) + 4)
       × (m
       ≡ cond (rightCount h t (r .section)) (because (r .number) (r .section) (length t) (endOf h (r .section) - length t) 0)
       (because 9 (r .section) (placeOf h (r .section)) (wantedOf h (r .section)) (leAt 4 t (placeOf h (r .section)))))
-  -- else the section is there
+  -- else the section is whole
   pub section : placeOf h (r .section) + 4 ≤ r .place → (length t ≡ endOf h (r .section)) × Ends h t (r .section) m

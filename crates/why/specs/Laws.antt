@@ -38,7 +38,7 @@ pub record StoppedBy (l : List Check) (r : Refusal) : Type 0 where
   pub refuses : test ≡ true
   pub passed : Passing before
 
--- the answer of the opener that a reason other than 0 stands for: its number, and the two values that go with it
+-- the answer of the opener that a reason stands for whose number is not 0: that number, and the two values that go with it
 abbrev pub answerBy : Reason → Answer
 answerBy r =
     say (r .number)
@@ -58,11 +58,15 @@ pub record Sound (s : List ℕ) (w p j : ℕ) : Type 0 where
 abbrev pub Ended : List ℕ → ℕ → ℕ → Type 0
 Ended s w p = Passing (headChecks s w p) × (wayIn s (headIn s) ≡ Went (length s))
 
--- a field of section 0 is refused: width and levels have one byte, the others four
+-- where the field stands that a number is about: width, levels, point, rate, else the samples
+abbrev pub fieldPlace : ℕ → ℕ
+fieldPlace n = cond (eqb n 8) 4 (cond (eqb n 4) 5 (cond (eqb n 11) 10 (cond (eqb n 18) 14 6)))
+
+-- r is about a field of section 0: the place is the field's, and what is found stands there. Width and levels have one byte, the others four
 pub record OfField (s : List ℕ) (r : Reason) : Type 0 where
   pub number : among fieldNumbers (r .number) ≡ true
   pub section : r .section ≡ 0
-  pub place : among (4 ∷ 5 ∷ 6 ∷ 10 ∷ 14 ∷ []) (r .place) ≡ true
+  pub place : r .place ≡ fieldPlace (r .number)
   pub found : leAt (cond (ltb (r .place) 6) 1 4) s (r .place) ≡ r .found
 
 -- r is a wrong count, and m the reason of the file with the wanted count at the place: a 9 is of a later section. Behind section 0 the opener comes as far as before, and no

@@ -1,5 +1,5 @@
--- Why a file does not open, from C-18: "name the first check that stopped the opener: refusal number, section, byte place, number wanted, number found". The opener's own
--- refusal tells the case; the table here has the other four numbers of each.
+-- Why a file does not open, from C-18: "name the first check that stopped the opener: refusal number, section, byte place, number wanted, number found". What the
+-- opener says of the file tells the case; the table here has the other four numbers of each.
 use mathlib.Core.Bool.{Bool, true, cond}
 use mathlib.Core.List.{List}
 use mathlib.Core.Path.{_≡_}
@@ -25,7 +25,7 @@ because n j p w f = record { number = n; section = j; place = p; wanted = w; fou
 abbrev pub nothing : Reason
 nothing = because 0 0 0 0 0
 
--- where section j ends, where its count stands, and what that must be. Section 0 is of either kind: "section 0's wanted count is 14"; each other one has its count, then
+-- where section j ends, where its count stands, and what is wanted there. Section 0 is of either kind: "section 0's wanted count is 14"; each other one has its count, then
 -- its samples, and stands where the one before it ends
 abbrev pub endOf : Head → ℕ → ℕ
 endOf h zero = h .body
@@ -47,8 +47,8 @@ missing b p e = cond (ltb b (p + 4)) (p + 4 - b) (e - b)
 abbrev pub cutIn : Head → ℕ → ℕ → ℕ → Reason
 cutIn h b number j = because number j b (missing b (placeOf h j) (endOf h j)) 0
 
--- the case that the opener says, of a file of b bytes: `there` tells whether section 0 is there, and h is what it says. A file that opens at a level above 0 is cut in
--- section L + 2 - level. The opener says the last nine cases of no file
+-- what `sayFile` says, of a file of b bytes: `there` tells whether the first checks pass, so that section 0 is there, and h is what that says. A file that opens at a level
+-- above 0 is cut in section L + 2 - level. `sayFile` never says the last nine cases
 abbrev pub reasonBy : Bool → Head → ℕ → Refusal → Reason
 reasonBy there h b (Done level count) = cond (eqb level 0) nothing (cutIn h b 0 (h .levels + 2 - level))
 reasonBy there h b (MinFilterSize n least) = because 1 0 6 least n

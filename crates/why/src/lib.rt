@@ -91,7 +91,7 @@ fn start_missing(s: &[u8]) -> usize
     4 + read_u32(s, 0) as usize - s.len()
 }
 
-// Section 0 is not there: a file that is too long, a wrong count, or a cut.
+// The first checks refuse: a file that is too long, a wrong count of section 0, or a cut in it.
 fn start_reason(s: &[u8], start: Refusal) -> Reason
     requires { ⌜ (start ≡ sayStart (now s)) × (done start ≡ false) ⌝ }
     ensures { λ r. ⌜ r ≡ reasonBy false (headIn (now (s .entry))) (length (now (s .entry))) start ⌝ }
@@ -103,7 +103,7 @@ fn start_reason(s: &[u8], start: Refusal) -> Reason
     }
 }
 
-// Section 0 says h, of a file of b bytes: what the opener says of the file.
+// The reason of a file of b bytes whose section 0 says h, from what the opener says of it.
 fn file_reason(h: Head, b: usize, said: Refusal) -> Reason
     requires { ⌜ Read h × Said h b said ⌝ }
     ensures { λ r. ⌜ r ≡ reasonBy true h b said ⌝ }
