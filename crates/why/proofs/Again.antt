@@ -1,6 +1,6 @@
 -- A file t that has the numbers of a file s as far as its walk came: section 0 passes again, and the walk comes to the same section.
 use mathlib.Core.Bool.{Bool, true, false, cond, not, _&&_}
-use mathlib.Core.List.{List, _++_}
+use mathlib.Core.List.{List, [], _∷_, _++_}
 use mathlib.Core.Logic.{⊎-elim}
 use mathlib.Core.Path.{_≡_, refl, sym, ap, ap₂, subst, _∙_}
 use Prim.Native.Nat.{ℕ, suc, _+_, _-_, _≤_, _<_}
@@ -8,6 +8,7 @@ use native.Mathlib.Omega.{arith}
 use borrow.Author.Tests.{le-ltb, eqb-true}
 use lib.Dec.{eqb}
 use lib.ListN.{length}
+use Rattle.answers.specs.declared.err.Refusal.the-variants.{NoRate}
 use Rattle.answers.proofs.Passed.{Passing, pass-both}
 use Rattle.sizes.specs.Lengths.{approxLength}
 use Rattle.sizes.specs.Levels.{afterLevels, countAt}
@@ -21,14 +22,11 @@ use Rattle.pyramid.specs.Walks.{oneOf, walkOf}
 use Rattle.pyramid.specs.Opens.{headIn, isNew, rateIn, startChecks, fieldChecks, rateChecks, headChecks, wayIn, samplesTo, countOf}
 use Rattle.pyramid.proofs.Opening.{which-count, start-count, head-parts, head-passes}
 use Rattle.pyramid.proofs.Ways.{StopsIn, Stopped}
+use Rattle.why.specs.Laws.{Agree}
 use Rattle.why.specs.Reasons.{placeOf}
 use Rattle.why.proofs.Walking.{walk-stays, walk-later, walk-next, stop-same}
 use Rattle.why.proofs.Places.{stand-is}
 use Rattle.why.proofs.Says.{way-stops}
-
--- the numbers that end below c are the same
-abbrev pub Agree : List ℕ → List ℕ → ℕ → Type 0
-Agree s t c = (n q : ℕ) → q + n ≤ c → leAt n t q ≡ leAt n s q
 
 module _ (s : List ℕ) (q : Passing (startChecks s)) where
   pub common-body : commonSize ≤ headIn s .body
@@ -44,28 +42,45 @@ module _ (s t : List ℕ) (c : ℕ) (same : Agree s t c) where
     body = ap (λ n. 4 + n) (same 4 0 (omega arith)) x;
   }
 
-  module _ (w p : ℕ) (k : Passing (headChecks s w p)) (far : headIn s .body ≤ c) where
-    head-is : headIn t ≡ headIn s
-    head-is = head-same (omega (arith, far, common-body s (head-parts s w p k .0)))
+  module _ (q : Passing (startChecks s)) (far : headIn s .body ≤ c) where
+    pub head-stays : headIn t ≡ headIn s
+    head-stays = head-same (omega (arith, far, common-body s q))
 
-    new-same : isNew t ≡ isNew s
-    new-same = ap (λ n. eqb n newCount) (same 4 0 (omega (arith, far, common-body s (head-parts s w p k .0))))
+    count-stays : leAt 4 t 0 ≡ leAt 4 s 0
+    count-stays = same 4 0 (omega (arith, far, common-body s q))
 
     rate-same : rateIn t ≡ rateIn s
-    rate-same = ap (λ z. cond z (leAt 4 t commonSize) 0) new-same ∙ pick (isNew s) refl
+    rate-same = ap (λ n. cond (eqb n newCount) (leAt 4 t commonSize) 0) count-stays ∙ pick (isNew s) refl
       where
         pick : (z : Bool) → isNew s ≡ z → cond z (leAt 4 t commonSize) 0 ≡ cond z (leAt 4 s commonSize) 0
         pick true e = same 4 commonSize (omega (arith, far, eqb-true (leAt 4 s 0) newCount e))
         pick false e = refl
 
+    pub rate-stays : rateChecks t ≡ rateChecks s
+    rate-stays = ap₂ (λ n b. (eqb n newCount && eqb b 0, NoRate) ∷ []) count-stays rate-same
+
+    -- the start passes again
+    pub start-again : headIn s .body ≤ length t → length t ≤ mostBytes → Passing (startChecks t)
+    start-again long short = (
+      le-ltb mostBytes (length t) short,
+      (
+        le-ltb (length t) 4 (omega (arith, common-body s q)),
+        (ap (λ n. not (isCount n)) count-stays ∙ ap not (start-count s q), (le-ltb (length t) (headIn t .body) (omega (arith, long, ap (λ (h : Head). h .body) head-stays)), tt)),
+      ),
+    )
+
+  module _ (w p : ℕ) (k : Passing (headChecks s w p)) (far : headIn s .body ≤ c) where
+    parts : Passing (startChecks s) × Passing (fieldChecks (headIn s) w p) × Passing (rateChecks s)
+    parts = head-parts s w p k
+
+    head-is : headIn t ≡ headIn s
+    head-is = head-stays (parts .0) far
+
     -- section 0 passes again
     pub head-again : headIn s .body ≤ length t → length t ≤ mostBytes → Passing (headChecks t w p)
     head-again long short =
-        let q = head-parts s w p k in
-        let c = common-body s (q .0) in
-        pass-both (startChecks t) (fieldChecks (headIn t) w p ++ rateChecks t)
-        (le-ltb mostBytes (length t) short, (le-ltb (length t) 4 (omega (arith, c)), (ap (λ n. not (isCount n)) (same 4 0 (omega (arith, far, c))) ∙ ap not (start-count s (q .0)), (le-ltb (length t) (headIn t .body) (omega (arith, long, ap (λ (h : Head). h .body) head-is)), tt))))
-        (pass-both (fieldChecks (headIn t) w p) (rateChecks t) (subst (λ h. Passing (fieldChecks h w p)) (sym head-is) (q .1)) (ap₂ (λ a b. a && eqb b 0) new-same rate-same ∙ q .2 .0, tt))
+        pass-both (startChecks t) (fieldChecks (headIn t) w p ++ rateChecks t) (start-again (parts .0) far long short)
+        (pass-both (fieldChecks (headIn t) w p) (rateChecks t) (subst (λ h. Passing (fieldChecks h w p)) (sym head-is) (parts .1)) (subst Passing (sym (rate-stays (parts .0) far)) (parts .2)))
 
     -- the walk of s stops in section j
     module _ (j : ℕ) (v : Way) (e : wayIn s (headIn s) ≡ v) (st : StopsIn j v) (near : placeOf (headIn s) j ≤ c) (long : placeOf (headIn s) j ≤ length t) where

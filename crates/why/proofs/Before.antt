@@ -1,9 +1,9 @@
 -- "Everything before it passed", of the sections: where the reason names section j, from 1 on, section 0 passes and all sections before j are there, with their counts.
 use mathlib.Core.Bool.{Bool, true, false, cond}
-use mathlib.Core.List.{List, [], _∷_}
+use mathlib.Core.List.{List}
 use mathlib.Core.Logic.{_⊎_, inl, inr}
 use mathlib.Core.Path.{_≡_, refl, sym, ap, subst, _∙_}
-use Prim.Native.Nat.{ℕ, suc, _+_, _-_, _*_, _≤_, _<_}
+use Prim.Native.Nat.{ℕ, suc, _+_, _-_, _≤_, _<_}
 use native.Mathlib.Omega.{arith}
 use lib.Dec.{eqb}
 use lib.ListN.{length}
@@ -19,7 +19,7 @@ use Rattle.pyramid.specs.declared.walk.Way.the-variants.{Went, Short, Wrong}
 use Rattle.pyramid.specs.Walks.{walkOf}
 use Rattle.pyramid.specs.Opens.{headIn, headChecks, wayIn, samplesTo, countOf}
 use Rattle.pyramid.proofs.Opening.{head-passes}
-use Rattle.pyramid.proofs.Ways.{StopsIn, standOf}
+use Rattle.pyramid.proofs.Ways.{StopsIn}
 use Rattle.why.specs.declared.Reason.{Reason}
 use Rattle.why.specs.Reasons.{nothing, endOf, placeOf, cutIn, reasonOf}
 use Rattle.why.specs.Laws.{Sound}

@@ -30,13 +30,13 @@ use Rattle.pyramid.proofs.Opening.{which-count, start-count, start-passes, head
 use Rattle.pyramid.proofs.Ways.{apart, one-by, StopsIn, standOf, Stopped, last-details, walk-size}
 use Rattle.why.specs.declared.Reason.{Reason}
 use Rattle.why.specs.Reasons.{because, nothing, endOf, placeOf, wantedOf, missing, cutIn, reasonOf}
-use Rattle.why.specs.Laws.{among, OfField}
+use Rattle.why.specs.Laws.{Agree, among, OfField}
 use Rattle.why.specs.Completed.{Cut, rightCount, Ends, Completed}
 use Rattle.why.proofs.Walking.{one-goes}
 use Rattle.why.proofs.Places.{end-is, place-ends, place-far, stand-is, next-place}
 use Rattle.why.proofs.Says.{way-stops, place-within, wrong-there, cut-before}
 use Rattle.why.proofs.Cases.{numberOf, no-field, reason-wrong, reason-cut, reason-whole, reason-by}
-use Rattle.why.proofs.Again.{Agree, head-same, head-again, goes-there, next-stops, stops-there}
+use Rattle.why.proofs.Again.{head-same, head-again, goes-there, next-stops, stops-there}
 
 -- what stands in front of more bytes
 pub front : (s x : List ℕ) → Agree s (s ++ x) (length s)

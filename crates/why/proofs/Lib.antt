@@ -10,3 +10,4 @@ pub mod Mended
 pub mod Complete
 pub mod Whole
 pub mod Before
+pub mod Unread

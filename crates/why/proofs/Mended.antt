@@ -22,11 +22,11 @@ use Rattle.pyramid.proofs.Opening.{start-count, head-parts, head-passes}
 use Rattle.pyramid.proofs.Ways.{last-most, apart, one-by, StopsIn, Stopped}
 use Rattle.why.specs.declared.Reason.{Reason}
 use Rattle.why.specs.Reasons.{because, nothing, placeOf, wantedOf, reasonOf}
-use Rattle.why.specs.Laws.{among, sectionNumbers, Mended}
+use Rattle.why.specs.Laws.{Agree, among, sectionNumbers, Mended}
 use Rattle.why.proofs.Places.{wanted-is}
 use Rattle.why.proofs.Says.{way-stops, place-within, way-ends, wrong-there}
 use Rattle.why.proofs.Cases.{no-field, no-cut, reason-wrong, reason-trailing, reason-whole, reason-cut, reason-by}
-use Rattle.why.proofs.Again.{Agree, common-body, head-same, head-again, stops-there, stops-later}
+use Rattle.why.proofs.Again.{common-body, head-same, head-again, stops-there, stops-later}
 
 -- of a reason that may be any, what is to be shown where its number is 9: the other cases have other numbers
 module _ (P : Reason → Type 0) where

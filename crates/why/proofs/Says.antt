@@ -11,14 +11,14 @@ use Rattle.answers.specs.declared.err.Refusal.{Refusal}
 use Rattle.answers.specs.declared.err.Refusal.the-variants.{Done, MinFilterSize, BufferWasTooSmallForLevel, TooLong, OtherWidth, BadCount, CutShort, OtherPoint, Trailing, NoRate}
 use Rattle.answers.specs.Answers.{says, done}
 use Rattle.answers.specs.Checks.{Check, firstOf}
-use Rattle.answers.proofs.Passed.{Passing, through, other-end, pass-both, pass-on, off}
+use Rattle.answers.proofs.Passed.{Passing, through, other-end, both-pass, pass-both, off}
 use Rattle.samples.specs.Le.{leAt}
 use Rattle.pyramid.specs.declared.head.Head.{Head}
 use Rattle.pyramid.specs.declared.walk.Way.{Way}
 use Rattle.pyramid.specs.declared.walk.Way.the-variants.{Went, Short, Wrong}
 use Rattle.pyramid.specs.Files.{mostBytes, isCount}
 use Rattle.pyramid.specs.Opens.{headIn, startChecks, fieldChecks, rateChecks, headChecks, wayIn, wayChecks, wholeDetails, levelIn, countIn, samplesTo, countOf, sayFile}
-use Rattle.pyramid.proofs.Opening.{start-passes, head-parts}
+use Rattle.pyramid.proofs.Opening.{start-passes}
 use Rattle.pyramid.proofs.Ways.{apart, one-by, StopsIn, standOf, Stopped, walk-size, walk-stops, stop-below}
 use Rattle.why.specs.Reasons.{endOf, placeOf, reasonBy, sayStart, reasonOf, Said}
 use Rattle.why.proofs.Places.{end-is, samples-all, place-behind, stand-is}
@@ -67,12 +67,16 @@ module _ (s : List ℕ) (w p : ℕ) where
   unfolding reasonOf
   reason-later h = ap (λ t. reasonBy t (headIn s) (length s) (sayFile s w p)) h
 
+  -- where the start passes, what stands behind it
+  pub reason-start : Passing (startChecks s) → reasonOf s w p ≡ reasonBy true (headIn s) (length s) (firstOf later sayWay)
+  reason-start q =
+      reason-later (ap done (through (startChecks s) (Done 0 0) q)) ∙ ap (λ r. reasonBy true (headIn s) (length s) r) (file-by ∙ through (startChecks s) (firstOf later sayWay) q)
+
   -- where all of section 0 passes, what the walk says
   pub reason-passed : Passing (headChecks s w p) → reasonOf s w p ≡ reasonBy true (headIn s) (length s) sayWay
-  unfolding sayFile
   reason-passed k =
-      reason-later (ap done (through (startChecks s) (Done 0 0) (head-parts s w p k .0)))
-      ∙ ap (λ r. reasonBy true (headIn s) (length s) r) (pass-on (headChecks s w p) (wayChecks (wayIn s (headIn s)) (length s)) (Done (levelIn s) (countIn s)) k)
+      let q = both-pass (startChecks s) later k in
+      reason-start (q .0) ∙ ap (λ r. reasonBy true (headIn s) (length s) r) (through later sayWay (q .1))
 
   -- where the start passes, what holds of each refusal behind it, and of the walk where all of section 0 passes
   pub later-by : (P : Refusal → Type 0) → Passing (startChecks s) → Every P later → (Passing (headChecks s w p) → P sayWay) → P (sayFile s w p)

@@ -130,3 +130,37 @@ walk-each (suc l) s k n p q h e i one most = pick (lt-or-le i (l + 2)) (walk-eac
         let count = ap (λ y. leAt 4 s y) at ∙ one-count s k (detailsLength n) (suc l + 1) (g .0) q (g .2) ∙ sym (ap (λ y. lastCount y n) b ∙ last-details (suc l) n (omega arith)) in
         subst (λ i. Has s k p i (countAt (suc l + 1 - i) n)) last
         (subst (λ d. Has s k p (suc l + 1) (countAt d n)) none (count, omega (arith, z .0, o .exact, o .within, split-width k n)))
+
+-- ---- other samples
+
+-- a section with the same count, in a list as long, has the same way
+one-alike : (s t : List ℕ) (k c i p : ℕ) → length t ≡ length s → p ≤ length s → (p + 4 ≤ length s → leAt 4 t p ≡ leAt 4 s p) → oneOf t k c i p ≡ oneOf s k c i p
+one-alike s t k c i p e h same =
+    one-by s k c i p (λ v. oneOf t k c i p ≡ v) (λ few. one-broken t k c i p (omega arith) (omega arith))
+    (λ four n. let g = same (omega arith) in one-by t k c i p (λ v. v ≡ Wrong i (leAt 4 s p)) (λ z. absurd (omega arith)) (λ _ _. ap (λ f. Wrong i f) g) (λ _ z _. absurd (n (sym g ∙ z))) (λ _ z _. absurd (n (sym g ∙ z))))
+    (λ four z less. let g = same (omega arith) in one-by t k c i p (λ v. v ≡ Short i) (λ _. refl) (λ _ n. absurd (n (g ∙ z))) (λ _ _ _. refl) (λ _ _ room. absurd (omega arith)))
+    (λ four z room. one-goes t k c i p (same (omega arith) ∙ z) (omega arith))
+
+-- so has a walk over such sections
+pub walk-alike : (l : ℕ) (s t : List ℕ) (k n p : ℕ) → length t ≡ length s → p ≤ length s
+    → ((i : ℕ) → 1 ≤ i → i ≤ l + 1 → let q = standOf k p i (countAt (l + 1 - i) n) in q + 4 ≤ length s → leAt 4 t q ≡ leAt 4 s q) → walkOf t k l n p ≡ walkOf s k l n p
+unfolding walkOf afterLevels
+walk-alike zero s t k n p e h same = one-alike s t k n 1 p e h (subst (λ q. q + 4 ≤ length s → leAt 4 t q ≡ leAt 4 s q) at (same 1 (omega arith) (omega arith)))
+  where
+    at : standOf k p 1 n ≡ p
+    at = omega arith
+walk-alike (suc l) s t k n p e h same =
+    ap (λ v. goOn v (λ x. oneOf t k (detailsLength n) (suc l + 1) x)) (walk-alike l s t k (approxLength n) p e h inner) ∙ pick (walkOf s k l (approxLength n) p) refl
+  where
+    inner : (i : ℕ) → 1 ≤ i → i ≤ l + 1 → let q = standOf k p i (countAt (l + 1 - i) (approxLength n)) in q + 4 ≤ length s → leAt 4 t q ≡ leAt 4 s q
+    inner i one low = let b : suc l + 1 - i ≡ suc (l + 1 - i) = omega arith in subst (λ d. let q = standOf k p i (countAt d n) in q + 4 ≤ length s → leAt 4 t q ≡ leAt 4 s q) b (same i one (omega arith))
+
+    pick : (v : Way) → walkOf s k l (approxLength n) p ≡ v → goOn v (λ x. oneOf t k (detailsLength n) (suc l + 1) x) ≡ goOn v (λ x. oneOf s k (detailsLength n) (suc l + 1) x)
+    pick (Went q) g =
+        let z = walk-size l s k (approxLength n) p q h g in
+        let at = last-stands k l n p q (z .0) in
+        let none : suc l + 1 - (suc l + 1) ≡ 0 = omega arith in
+        let last = subst (λ d. let q = standOf k p (suc l + 1) (countAt d n) in q + 4 ≤ length s → leAt 4 t q ≡ leAt 4 s q) none (same (suc l + 1) (omega arith) (omega arith)) in
+        one-alike s t k (detailsLength n) (suc l + 1) q e (z .1) (subst (λ q. q + 4 ≤ length s → leAt 4 t q ≡ leAt 4 s q) at last)
+    pick (Short j) g = refl
+    pick (Wrong j found) g = refl

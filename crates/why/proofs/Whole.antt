@@ -19,13 +19,13 @@ use Rattle.pyramid.specs.Files.{mostBytes}
 use Rattle.pyramid.specs.Opens.{headIn, headChecks, wayIn, wholeDetails, levelIn, WholeAreas, OpenGives}
 use Rattle.pyramid.proofs.Opening.{head-parts, head-passes}
 use Rattle.why.specs.declared.Reason.{Reason}
-use Rattle.why.specs.Laws.{Room, Ended}
+use Rattle.why.specs.Laws.{Agree, Room, Ended}
 use Rattle.why.specs.Reasons.{nothing, endOf, cutIn, reasonOf}
 use Rattle.why.proofs.Walking.{walk-same}
 use Rattle.why.proofs.Says.{way-stops, way-ends}
 use Rattle.why.proofs.Cases.{no-field, no-cut, reason-whole, reason-by}
 use Rattle.why.proofs.Opener.{why-opens}
-use Rattle.why.proofs.Again.{Agree, common-body, head-same, head-again}
+use Rattle.why.proofs.Again.{common-body, head-same, head-again}
 
 module _ (s : List ℕ) (w p : ℕ) where
   -- a file that is accepted: all of it is there, or it is cut in section j and opens at level L + 2 - j

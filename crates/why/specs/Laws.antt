@@ -74,3 +74,13 @@ pub record OfField (s : List ℕ) (r : Reason) : Type 0 where
 pub record Mended (r m : Reason) : Type 0 where
   pub later : m .number ≡ 9 → r .section < m .section
   pub further : 1 ≤ r .section → (among sectionNumbers (m .number) ≡ true) × ((m ≡ nothing) ⊎ (r .section ≤ m .section))
+
+-- t has the numbers of s, as far as they end at c or before
+abbrev pub Agree : List ℕ → List ℕ → ℕ → Type 0
+Agree s t c = (n q : ℕ) → q + n ≤ c → leAt n t q ≡ leAt n s q
+
+-- t differs from s in samples alone: section 0 is the same, and so is each count that is there
+pub record Alike (s t : List ℕ) : Type 0 where
+  pub size : length t ≡ length s
+  pub head : Agree s t (headIn s .body)
+  pub counts : (i : ℕ) → 1 ≤ i → i ≤ headIn s .levels + 1 → placeOf (headIn s) i + 4 ≤ length s → leAt 4 t (placeOf (headIn s) i) ≡ leAt 4 s (placeOf (headIn s) i)
