@@ -869,26 +869,16 @@ static void tour_book(const recording *r, const pyramid_file *f) {
     free(b.area);
 }
 
-static int tour(void) {
-    static const uint64_t notes[] = {700, 2600, 5900};
-    static const size_t pieces[] = {256, 0, 2, 3, 0, 340};
-    recording r[3];
-    pyramid_file f[3];
-    opened seen[3];
-    size_t cuts[5], i;
-    printf("== three recordings, kept as files\n");
-    r[0] = record("bearing", 14, 2, 25600000, 6000, bearing);
-    r[1] = record("gear box", 15, 4, 51200000, 20000, gears);
-    r[2] = record("run-up", 16, 2, 2048000, 601, run_up);
-    for (i = 0; i < 3; i++) f[i] = keep(&r[i]);
-
+/* Files that are whole, cut, old and damaged; f is that of point 16. */
+static void tour_files(const pyramid_file *f) {
+    size_t cuts[5];
     printf("\n== what a cut leaves of point 16\n");
-    cuts[0] = f[2].length;
-    cuts[1] = f[2].length - 1;
+    cuts[0] = f->length;
+    cuts[1] = f->length - 1;
     cuts[2] = 400;
     cuts[3] = 100;
     cuts[4] = 20;
-    tour_cuts(&f[2], cuts, 5);
+    tour_cuts(f, cuts, 5);
 
     printf("\n== an old file, which has no rate\n");
     tour_old_file();
@@ -897,7 +887,31 @@ static int tour(void) {
     tour_reasons();
 
     printf("\n== the sections of point 16\n");
-    tour_sections(&f[2]);
+    tour_sections(f);
+}
+
+/* Each refusal's number, provoked. */
+static void tour_refusals(const recording *r, const pyramid_file *f) {
+    printf("\n== every refusal\n");
+    tour_refused_transforms();
+    tour_refused_pieces();
+    tour_refused_files(r, f);
+    tour_refused_books(r, f);
+}
+
+static int tour(void) {
+    static const uint64_t notes[] = {700, 2600, 5900};
+    static const size_t pieces[] = {256, 0, 2, 3, 0, 340};
+    recording r[3];
+    pyramid_file f[3];
+    opened seen[3];
+    size_t i;
+    printf("== three recordings, kept as files\n");
+    r[0] = record("bearing", 14, 2, 25600000, 6000, bearing);
+    r[1] = record("gear box", 15, 4, 51200000, 20000, gears);
+    r[2] = record("run-up", 16, 2, 2048000, 601, run_up);
+    for (i = 0; i < 3; i++) f[i] = keep(&r[i]);
+    tour_files(&f[2]);
 
     printf("\n== overviews, and notes\n");
     for (i = 3; i-- > 0;) seen[i] = tour_overview(&r[i], &f[i]);
@@ -911,11 +925,7 @@ static int tour(void) {
     printf("\n== point 16 once more, in pieces\n");
     tour_pieces(&r[2], pieces, 6);
 
-    printf("\n== every refusal\n");
-    tour_refused_transforms();
-    tour_refused_pieces();
-    tour_refused_files(&r[2], &f[2]);
-    tour_refused_books(&r[2], &f[2]);
+    tour_refusals(&r[2], &f[2]);
     for (i = 0; i < 3; i++) {
         free(r[i].samples);
         free(f[i].bytes);
