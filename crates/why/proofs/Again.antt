@@ -17,7 +17,7 @@ use Rattle.samples.specs.Le.{leAt}
 use Rattle.pyramid.specs.declared.head.Head.{Head}
 use Rattle.pyramid.specs.declared.walk.Way.{Way}
 use Rattle.pyramid.specs.declared.walk.Way.the-variants.{Went, Short}
-use Rattle.pyramid.specs.Files.{mostBytes, oldCount, newCount, isCount, commonSize}
+use Rattle.pyramid.specs.Files.{mostBytes, oldCount, newCount, isCount, newSize, commonSize}
 use Rattle.pyramid.specs.Walks.{oneOf, walkOf}
 use Rattle.pyramid.specs.Opens.{headIn, isNew, rateIn, startChecks, fieldChecks, rateChecks, headChecks, wayIn, samplesTo, countOf}
 use Rattle.pyramid.proofs.Opening.{which-count, start-count, head-parts, head-passes}
@@ -28,9 +28,12 @@ use Rattle.why.proofs.Walking.{walk-stays, walk-later, walk-next, stop-
 use Rattle.why.proofs.Places.{stand-is}
 use Rattle.why.proofs.Says.{way-stops}
 
-module _ (s : List ℕ) (q : Passing (startChecks s)) where
-  pub common-body : commonSize ≤ headIn s .body
-  common-body = ⊎-elim (λ (e : leAt 4 s 0 ≡ oldCount). omega arith) (λ (e : leAt 4 s 0 ≡ newCount). omega arith) (which-count (leAt 4 s 0) (start-count s q))
+-- section 0 with a count that it can have is one of the two kinds
+pub body-size : (s : List ℕ) → isCount (leAt 4 s 0) ≡ true → (commonSize ≤ headIn s .body) × (headIn s .body ≤ newSize)
+body-size s c = ⊎-elim (λ (e : leAt 4 s 0 ≡ oldCount). (omega arith, omega arith)) (λ (e : leAt 4 s 0 ≡ newCount). (omega arith, omega arith)) (which-count (leAt 4 s 0) c)
+
+pub common-body : (s : List ℕ) → Passing (startChecks s) → commonSize ≤ headIn s .body
+common-body s q = body-size s (start-count s q) .0
 
 module _ (s t : List ℕ) (c : ℕ) (same : Agree s t c) where
   pub head-same : commonSize ≤ c → headIn t ≡ headIn s

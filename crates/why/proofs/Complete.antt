@@ -23,10 +23,10 @@ use Rattle.samples.proofs.LeLaws.{leAt-same}
 use Rattle.pyramid.specs.declared.head.Head.{Head}
 use Rattle.pyramid.specs.declared.walk.Way.{Way}
 use Rattle.pyramid.specs.declared.walk.Way.the-variants.{Went, Short, Wrong}
-use Rattle.pyramid.specs.Files.{mostBytes, oldCount, newCount, isCount, commonSize}
+use Rattle.pyramid.specs.Files.{mostBytes, newCount, isCount, commonSize, newSize}
 use Rattle.pyramid.specs.Walks.{oneOf, lastCount}
 use Rattle.pyramid.specs.Opens.{headIn, startChecks, headChecks, wayIn, samplesTo, countOf, lengthOf}
-use Rattle.pyramid.proofs.Opening.{which-count, start-count, start-passes, head-parts, head-passes}
+use Rattle.pyramid.proofs.Opening.{start-count, start-passes, head-parts, head-passes}
 use Rattle.pyramid.proofs.Ways.{apart, one-by, StopsIn, standOf, Stopped, last-details, walk-size}
 use Rattle.why.specs.declared.Reason.{Reason}
 use Rattle.why.specs.Reasons.{because, nothing, endOf, placeOf, wantedOf, missing, cutIn, reasonOf}
@@ -36,7 +36,7 @@ use Rattle.why.proofs.Walking.{one-goes}
 use Rattle.why.proofs.Places.{end-is, place-ends, place-far, stand-is, next-place}
 use Rattle.why.proofs.Says.{way-stops, place-within, wrong-there, cut-before}
 use Rattle.why.proofs.Cases.{numberOf, no-field, reason-wrong, reason-cut, reason-whole, reason-by}
-use Rattle.why.proofs.Again.{head-same, head-again, goes-there, next-stops, stops-there}
+use Rattle.why.proofs.Again.{body-size, head-same, head-again, goes-there, next-stops, stops-there}
 
 -- what stands in front of more bytes
 pub front : (s x : List ℕ) → Agree s (s ++ x) (length s)
@@ -93,7 +93,7 @@ module _ (s : List ℕ) (w p : ℕ) (k : Passing (headChecks s w p)) (j : ℕ) (
       let m = samplesTo h j in
       let deep = depth-at-most Cdf53 23 (h .samples) (hd .short) in
       let q = head-parts s w p k .0 in
-      let body : h .body ≤ 18 = ⊎-elim (λ (e : leAt 4 s 0 ≡ oldCount). omega arith) (λ (e : leAt 4 s 0 ≡ newCount). omega arith) (which-count (leAt 4 s 0) (start-count s q)) in
+      let body = body-size s (start-count s q) .1 in
       omega (arith, end-is h j one most, body, deep, hd .deep, mul-le-mul-right m (n .1), ap (λ i. i * m) (hd .width), count-at-le (h .levels + 1 - j) (h .samples), hd .short)
 
 -- ---- a cut in section j, after section 0
@@ -254,8 +254,8 @@ module _ (s x : List ℕ) (w p : ℕ) (full : length x ≡ missing (length s) 0 
       now : length (s ++ x) ≡ headIn (s ++ x) .body
       now = omega (arith, length-append s x, full, less, same, rest-is (length s) 0 (headIn s .body) four)
 
-      short : headIn (s ++ x) .body ≤ 18
-      short = let z = ap isCount same ∙ c in ⊎-elim (λ (e : leAt 4 (s ++ x) 0 ≡ oldCount). omega arith) (λ (e : leAt 4 (s ++ x) 0 ≡ newCount). omega arith) (which-count (leAt 4 (s ++ x) 0) z)
+      short : headIn (s ++ x) .body ≤ newSize
+      short = body-size (s ++ x) (ap isCount same ∙ c) .1
 
       -- no section is there
       none : {A : Type 0} → Passing (headChecks (s ++ x) w p) → (q : ℕ) → wayIn (s ++ x) (headIn (s ++ x)) ≡ Went q → A

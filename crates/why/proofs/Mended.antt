@@ -86,30 +86,23 @@ module _ (s : List ℕ) (w p j found : ℕ) (k : Passing (headChecks s w p)) (e 
   long : placeOf h j ≤ length t
   long = omega (arith, inside, length-stored 4 s (placeOf h j) (wantedOf h j))
 
-  -- so this section is there or cut, and a wrong count is a later one's
-  later : (x f : ℕ) → wayIn t (headIn t) ≡ Wrong x f → j < x
-  later x f g =
-      one-by t (h .width) (countOf h j) j (placeOf h j) (λ u. oneOf t (h .width) (countOf h j) j (placeOf h j) ≡ u → j < x) (λ _. short) (λ _ n _. absurd (n right)) (λ _ _ _. short)
-      (λ _ _ _ z. stops-later s t (placeOf h j) same w p k behind j (Wrong j found) e refl (omega arith) long _ x z (subst (StopsIn x) (sym g) refl)) refl
+  -- so the walk of t is cut in this section, or stops in a later one
+  reached : (x : ℕ) (v : Way) → wayIn t (headIn t) ≡ v → StopsIn x v → (j < x) ⊎ (v ≡ Short j)
+  reached x v g st =
+      one-by t (h .width) (countOf h j) j (placeOf h j) (λ u. oneOf t (h .width) (countOf h j) j (placeOf h j) ≡ u → (j < x) ⊎ (v ≡ Short j)) (λ _. short) (λ _ n _. absurd (n right)) (λ _ _ _. short)
+      (λ _ _ _ z. inl (stops-later s t (placeOf h j) same w p k behind j (Wrong j found) e refl (omega arith) long _ x z (subst (StopsIn x) (sym g) st))) refl
     where
-      short : oneOf t (h .width) (countOf h j) j (placeOf h j) ≡ Short j → j < x
-      short z = apart _ _ refl (sym (stops-there s t (placeOf h j) same w p k behind j (Wrong j found) e refl (omega arith) long (Short j) z refl) ∙ g)
+      short : oneOf t (h .width) (countOf h j) j (placeOf h j) ≡ Short j → (j < x) ⊎ (v ≡ Short j)
+      short z = inr (sym g ∙ stops-there s t (placeOf h j) same w p k behind j (Wrong j found) e refl (omega arith) long (Short j) z refl)
 
-  -- section 0 passes again, and the walk comes to this section at least
+  later : (x f : ℕ) → wayIn t (headIn t) ≡ Wrong x f → j < x
+  later x f g = ⊎-elim (λ (z : j < x). z) (λ (z : Wrong x f ≡ Short j). apart _ _ refl z) (reached x (Wrong x f) g refl)
+
+  -- section 0 passes again
   again : Passing (headChecks t w p)
   again =
       let size = length-stored 4 s (placeOf h j) (wantedOf h j) in
       head-again s t (placeOf h j) same w p k behind (omega (arith, behind, long)) (omega (arith, size, roomy mostBytes (length s) (head-parts s w p k .0 .0)))
-
-  reached : (x : ℕ) (v : Way) → wayIn t (headIn t) ≡ v → StopsIn x v → j ≤ x
-  reached x v g st =
-      one-by t (h .width) (countOf h j) j (placeOf h j) (λ u. oneOf t (h .width) (countOf h j) j (placeOf h j) ≡ u → j ≤ x) (λ _. short) (λ _ n _. absurd (n right)) (λ _ _ _. short)
-      (λ _ _ _ z. let f = stops-later s t (placeOf h j) same w p k behind j (Wrong j found) e refl (omega arith) long _ x z (subst (StopsIn x) (sym g) st) in omega (arith, f)) refl
-    where
-      short : oneOf t (h .width) (countOf h j) j (placeOf h j) ≡ Short j → j ≤ x
-      short z =
-          let f : x ≡ j = subst (StopsIn x) (sym g ∙ stops-there s t (placeOf h j) same w p k behind j (Wrong j found) e refl (omega arith) long (Short j) z refl) st in
-          omega (arith, f)
 
   abbrev Further : Reason → Type 0
   Further m = (among sectionNumbers (m .number) ≡ true) × ((m ≡ nothing) ⊎ (j ≤ m .section))
@@ -122,12 +115,12 @@ module _ (s : List ℕ) (w p j found : ℕ) (k : Passing (headChecks s w p)) (e 
       let f = way-ends t (headIn t) (head-passes t w p again .there) q g in
       subst Further (sym (reason-whole t w p again (g ∙ ap (λ y. Went y) (omega (arith, z, f .2))))) (refl, inl refl))
       (lt-or-le q (length t))
-  further (Short x) g = subst Further (sym (reason-cut t w p again x g)) (pick (eqb x 1), inr (reached x (Short x) g refl))
+  further (Short x) g = subst Further (sym (reason-cut t w p again x g)) (pick (eqb x 1), inr (⊎-elim (λ (z : j < x). omega arith) (λ (z : Short x ≡ Short j). let f : x ≡ j = cc in omega arith) (reached x (Short x) g refl)))
     where
       pick : (b : Bool) → among sectionNumbers (cond b 10 0) ≡ true
       pick true = refl
       pick false = refl
-  further (Wrong x f) g = subst Further (sym (reason-wrong t w p again x f g)) (refl, inr (reached x (Wrong x f) g refl))
+  further (Wrong x f) g = subst Further (sym (reason-wrong t w p again x f g)) (refl, inr (omega (arith, later x f g)))
 
   mend-later : Mended (because 9 j (placeOf h j) (wantedOf h j) found) (reasonOf t w p)
   mend-later =
