@@ -1,7 +1,7 @@
 // A pyramid file of 8 bits and point 14 on standard input: the bytes of its sections, and windows of the deepest level's two bands. Each is a part of the file itself.
 ghost use Rattle.std.specs.Prelude.{◌≡◌};
-ghost use Rattle.view_windows.specs.Windows.{windowIn};
-ghost use Rattle.file_open.specs.Opens.{sectionIn};
+ghost use Rattle.view_windows.specs.Windows.{window_in};
+ghost use Rattle.file_open.specs.Opens.{section_in};
 
 use file_open::section::section;
 use libc::{STDIN_FILENO, STDOUT_FILENO};
@@ -42,7 +42,7 @@ fn print_section(s: &[u8], number: usize) {
 
 // A window of the deepest approximations or of the deepest details, which are sections 1 and 2: bytes of the file's own block.
 fn window(s: &[u8], band: u32, start: usize, count: usize) -> &[u8]
-    ensures result_value { result.now ≡ windowIn 1 (sectionIn s.now 1 14 1) (sectionIn s.now 1 14 2) band start count }
+    ensures result_value { result.now ≡ window_in 1 (section_in s.now 1 14 1) (section_in s.now 1 14 2) band start count }
     ensures ref_ptr_value { result.ref_ptr.0 ≡ s.entry.ref_ptr.0 }
 {
     let approx = section(s, WIDTH, POINT, 1);

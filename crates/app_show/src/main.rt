@@ -1,7 +1,7 @@
 // A pyramid file on standard input: what its section 0 says, and the samples that opening it for its own width and point gives.
 ghost use Rattle.std.specs.Prelude.{◌/◌, ◌≤◌, length};
 ghost use Rattle.base_samples.specs.Integers.{Width};
-ghost use Rattle.file_open.specs.Opens.{OpenGives, ownWidth, ownPoint};
+ghost use Rattle.file_open.specs.Opens.{OpenGives, own_width, own_point};
 
 use base_samples::integers::get;
 use base_signs::{Number, signed};
@@ -62,7 +62,7 @@ fn print_samples(k: usize, s: &[u8], n: usize)
 
 // The file s, opened for the width and the point that its section 0 says, and for 1 and 0 where it is too short to say.
 fn open_own(s: &[u8], out: &mut [u8], one: &mut [u8], two: &mut [u8]) -> OpenAnswer
-    ensures { OpenGives s.now (ownWidth s.now) (ownPoint s.now) out.old one.old two.old result out.new one.new two.new }
+    ensures { OpenGives s.now (own_width s.now) (own_point s.now) out.old one.old two.old result out.new one.new two.new }
 {
     open(s, own_width(s), own_point(s), out, one, two)
 }

@@ -37,8 +37,8 @@ cases a b =
     ∷ BookFull ∷ AlreadyHeld ∷ NotHeld ∷ DetailsSizeNotMatches a b ∷ NoRate ∷ []
 
 -- the case that three numbers tell
-abbrev pub refusalOf : Answer → Refusal
-refusalOf r = get_or (cases r.first r.second) r.number TooLong
+abbrev pub refusal_of : Answer → Refusal
+refusal_of r = get_or (cases r.first r.second) r.number TooLong
 
 -- whether this has the number n
 abbrev pub says : ℕ → Refusal → Bool

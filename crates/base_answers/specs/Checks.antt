@@ -23,8 +23,8 @@ abbrev pub tight : ℕ → ℕ → Check
 tight have need = (ltb have need, NoRoom have need)
 
 -- "7, 7": two work areas
-abbrev pub twoAreas : ℕ → ℕ → ℕ → List Check
-twoAreas u v need = tight u need ∷ tight v need ∷ []
+abbrev pub two_areas : ℕ → ℕ → ℕ → List Check
+two_areas u v need = tight u need ∷ tight v need ∷ []
 
 -- "place outside its range": place, limit
 abbrev pub outside : ℕ → ℕ → Check
@@ -35,8 +35,8 @@ abbrev pub left : Refusal → List ℕ → List ℕ → List ℕ
 left s new old = cond (done s) new old
 
 -- an area with `new` at its front; behind it the bytes that were there
-abbrev pub inFront : List ℕ → List ℕ → List ℕ
-inFront new old = new ++ drop (length new) old
+abbrev pub in_front : List ℕ → List ℕ → List ℕ
+in_front new old = new ++ drop (length new) old
 
 -- "after a done call work areas beyond their needed front are unchanged": the front is k bytes where the call is done, and nothing where it is refused
 unfoldable pub Spared : Refusal → ℕ → List ℕ → List ℕ → Type 0

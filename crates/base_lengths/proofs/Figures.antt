@@ -4,7 +4,7 @@ use mathlib.Core.Path.{◌≡◌, refl}
 use Prim.Native.Nat.{ℕ, zero, suc, ◌/◌}
 use lib.Dec.{ltb}
 use Rattle.base_lengths.specs.declared.Wavelet.TheVariants.{Cdf53, Cdf97}
-use Rattle.base_lengths.specs.Levels.{depthWithin, depthFrom, depth_of}
+use Rattle.base_lengths.specs.Levels.{depth_within, depth_from, depth_of}
 use Rattle.base_lengths.proofs.Depths.{depth-power}
 
 pub record Depths53 : Type 0 where
@@ -17,7 +17,7 @@ pub record Depths53 : Type 0 where
   pub at_most : depth_of Cdf53 16777216 ≡ 23
 
 pub depths53 : Depths53
-unfolding depthWithin depthFrom
+unfolding depth_within depth_from
 depths53 = record { at-2 = refl; at-3 = refl; at-4 = refl; at_5 = refl; at_8 = refl; at_9 = refl; at_most = depth-power 23 }
 
 pub record Depths97 : Type 0 where
@@ -29,15 +29,15 @@ pub record Depths97 : Type 0 where
   pub at-13 : depth_of Cdf97 13 ≡ 3
 
 pub depths97 : Depths97
-unfolding depthWithin depthFrom
+unfolding depth_within depth_from
 depths97 = record { at-3 = refl; at-4 = refl; at-6 = refl; at_7 = refl; at-12 = refl; at-13 = refl }
 
 -- floor(log2 n) of n, 1 or more, counted up to k: how often n halves, rounded down, before it is 1
-unfoldable pub floorLog2 : ℕ → ℕ → ℕ
-floorLog2 zero n = 0
-floorLog2 (suc k) n = cond (ltb n 2) 0 (suc (floorLog2 k (n / 2)))
+unfoldable pub floor_log2 : ℕ → ℕ → ℕ
+floor_log2 zero n = 0
+floor_log2 (suc k) n = cond (ltb n 2) 0 (suc (floor_log2 k (n / 2)))
 
 -- a depth of floor(log2 n) would gain a level at 4 and at 8
-pub log-gains : (floorLog2 4 4 ≡ suc (depth_of Cdf53 4)) × (floorLog2 8 8 ≡ suc (depth_of Cdf53 8))
-unfolding depthWithin depthFrom floorLog2
+pub log-gains : (floor_log2 4 4 ≡ suc (depth_of Cdf53 4)) × (floor_log2 8 8 ≡ suc (depth_of Cdf53 8))
+unfolding depth_within depth_from floor_log2
 log-gains = (refl, refl)

@@ -19,38 +19,38 @@ use Rattle.base_answers.proofs.Chain.{same}
 use Rattle.base_answers.proofs.Endings.{left-done, left-refused}
 use Rattle.base_lengths.specs.declared.Wavelet.{Wavelet}
 use Rattle.base_lengths.specs.declared.Wavelet.TheVariants.{Cdf53, Cdf97}
-use Rattle.base_lengths.specs.Lengths.{mostSamples, approxLength, detailsLength, smallestOf, expectedApprox, expectedDetails}
-use Rattle.base_lengths.specs.Calls.{forwardChecks, sayForward, inverseChecks, sayInverse, Level, Forward, Inverse}
+use Rattle.base_lengths.specs.Lengths.{most_samples, approx_length, details_length, smallest_of, expected_approx, expected_details}
+use Rattle.base_lengths.specs.Calls.{forward_checks, say_forward, inverse_checks, say_inverse, Level, Forward, Inverse}
 
 -- lengths that an inverse expects are those of a level
-pub expected : (w : Wavelet) (a d n : ℕ) → n ≡ a + d → a ≡ expectedApprox n → d ≡ expectedDetails w n → (smallestOf w ≤ n) × (a ≡ approxLength n) × (d ≡ detailsLength n)
+pub expected : (w : Wavelet) (a d n : ℕ) → n ≡ a + d → a ≡ expected_approx n → d ≡ expected_details w n → (smallest_of w ≤ n) × (a ≡ approx_length n) × (d ≡ details_length n)
 expected Cdf53 a d n e p q = (omega arith, omega arith, omega arith)
 expected Cdf97 a d n e p q = (omega arith, omega arith, omega arith)
 
-pub forward-ready : (w : Wavelet) (k x a d : ℕ) → done (sayForward w k x a d) ≡ true → Level w k (x / k) x a d
-unfolding sayForward
+pub forward-ready : (w : Wavelet) (k x a d : ℕ) → done (say_forward w k x a d) ≡ true → Level w k (x / k) x a d
+unfolding say_forward
 forward-ready w k x a d h =
-    let p = passing (ragged k x ∷ ragged k a ∷ ragged k d ∷ forwardChecks w (x / k) (a / k) (d / k)) (Done 0 0) (refl, (refl, (refl, (refl, (refl, (refl, (refl, tt))))))) h in
+    let p = passing (ragged k x ∷ ragged k a ∷ ragged k d ∷ forward_checks w (x / k) (a / k) (d / k)) (Done 0 0) (refl, (refl, (refl, (refl, (refl, (refl, (refl, tt))))))) h in
     let q = p.1.1.1 in
     record {
-      long = roomy (x / k) (smallestOf w) q.1.0;
-      short = roomy mostSamples (x / k) q.0;
+      long = roomy (x / k) (smallest_of w) q.1.0;
+      short = roomy most_samples (x / k) q.0;
       samples = whole k x p.0;
-      approx = whole k a p.1.0 ∙ ap (λ n. k * n) (right (a / k) (approxLength (x / k)) q.1.1.0);
-      details = whole k d p.1.1.0 ∙ ap (λ n. k * n) (right (d / k) (detailsLength (x / k)) q.1.1.1.0);
+      approx = whole k a p.1.0 ∙ ap (λ n. k * n) (right (a / k) (approx_length (x / k)) q.1.1.0);
+      details = whole k d p.1.1.0 ∙ ap (λ n. k * n) (right (d / k) (details_length (x / k)) q.1.1.1.0);
     }
 
-pub inverse-ready : (w : Wavelet) (k a d o : ℕ) → done (sayInverse w k a d o) ≡ true → Level w k (o / k) o a d
-unfolding sayInverse
+pub inverse-ready : (w : Wavelet) (k a d o : ℕ) → done (say_inverse w k a d o) ≡ true → Level w k (o / k) o a d
+unfolding say_inverse
 inverse-ready w k a d o h =
-    let p = passing (ragged k a ∷ ragged k d ∷ ragged k o ∷ inverseChecks w (a / k) (d / k) (o / k)) (Done 0 0) (refl, (refl, (refl, (refl, (refl, (refl, (refl, (refl, (refl, tt))))))))) h in
+    let p = passing (ragged k a ∷ ragged k d ∷ ragged k o ∷ inverse_checks w (a / k) (d / k) (o / k)) (Done 0 0) (refl, (refl, (refl, (refl, (refl, (refl, (refl, (refl, (refl, tt))))))))) h in
     let q = p.1.1.1 in
     let r = q.1.1.1 in
     let e =
-    expected w (a / k) (d / k) (o / k) (right (o / k) (a / k + d / k) r.0) (right (a / k) (expectedApprox (o / k)) r.1.0) (right (d / k) (expectedDetails w (o / k)) r.1.1.0) in
+    expected w (a / k) (d / k) (o / k) (right (o / k) (a / k + d / k) r.0) (right (a / k) (expected_approx (o / k)) r.1.0) (right (d / k) (expected_details w (o / k)) r.1.1.0) in
     record {
       long = e.0;
-      short = roomy mostSamples (o / k) q.1.1.0;
+      short = roomy most_samples (o / k) q.1.1.0;
       samples = whole k o p.1.1.0;
       approx = whole k a p.0 ∙ ap (λ n. k * n) e.1;
       details = whole k d p.1.0 ∙ ap (λ n. k * n) e.2;
@@ -63,44 +63,44 @@ whole-passes k n b e = same (b % k) 0 (rw e (mul-mod_right k n))
 pub count-is : (k n b : ℕ) → 0 < k → b ≡ k * n → b / k ≡ n
 count-is k n b p e = rw e (mul-div_right n p)
 
-pub forward-fits : (w : Wavelet) (k n x a d : ℕ) → 0 < k → Level w k n x a d → sayForward w k x a d ≡ Done 0 0
-unfolding sayForward
+pub forward-fits : (w : Wavelet) (k n x a d : ℕ) → 0 < k → Level w k n x a d → say_forward w k x a d ≡ Done 0 0
+unfolding say_forward
 forward-fits w k n x a d p l =
-    through (ragged k x ∷ ragged k a ∷ ragged k d ∷ forwardChecks w (x / k) (a / k) (d / k)) (Done 0 0)
-    (rw (count-is k n x p l.samples, count-is k (approxLength n) a p l.approx, count-is k (detailsLength n) d p l.details) (
+    through (ragged k x ∷ ragged k a ∷ ragged k d ∷ forward_checks w (x / k) (a / k) (d / k)) (Done 0 0)
+    (rw (count-is k n x p l.samples, count-is k (approx_length n) a p l.approx, count-is k (details_length n) d p l.details) (
       whole-passes k n x l.samples,
       (
-        whole-passes k (approxLength n) a l.approx,
+        whole-passes k (approx_length n) a l.approx,
         (
-          whole-passes k (detailsLength n) d l.details,
-          (le-ltb mostSamples n l.short, (le-ltb n (smallestOf w) l.long, (same (approxLength n) (approxLength n) refl, (same (detailsLength n) (detailsLength n) refl, tt)))),
+          whole-passes k (details_length n) d l.details,
+          (le-ltb most_samples n l.short, (le-ltb n (smallest_of w) l.long, (same (approx_length n) (approx_length n) refl, (same (details_length n) (details_length n) refl, tt)))),
         ),
       ),
     ))
 
 -- and the other way
-pub expects : (w : Wavelet) (n : ℕ) → smallestOf w ≤ n → (n ≡ approxLength n + detailsLength n) × (approxLength n ≡ expectedApprox n) × (detailsLength n ≡ expectedDetails w n)
+pub expects : (w : Wavelet) (n : ℕ) → smallest_of w ≤ n → (n ≡ approx_length n + details_length n) × (approx_length n ≡ expected_approx n) × (details_length n ≡ expected_details w n)
 expects Cdf53 n h = (omega arith, omega arith, omega arith)
 expects Cdf97 n h = (omega arith, omega arith, omega arith)
 
-pub inverse-fits : (w : Wavelet) (k n x a d : ℕ) → 0 < k → Level w k n x a d → sayInverse w k a d x ≡ Done 0 0
-unfolding sayInverse
+pub inverse-fits : (w : Wavelet) (k n x a d : ℕ) → 0 < k → Level w k n x a d → say_inverse w k a d x ≡ Done 0 0
+unfolding say_inverse
 inverse-fits w k n x a d p l =
     let e = expects w n l.long in
-    through (ragged k a ∷ ragged k d ∷ ragged k x ∷ inverseChecks w (a / k) (d / k) (x / k)) (Done 0 0)
-    (rw (count-is k n x p l.samples, count-is k (approxLength n) a p l.approx, count-is k (detailsLength n) d p l.details) (
-      whole-passes k (approxLength n) a l.approx,
+    through (ragged k a ∷ ragged k d ∷ ragged k x ∷ inverse_checks w (a / k) (d / k) (x / k)) (Done 0 0)
+    (rw (count-is k n x p l.samples, count-is k (approx_length n) a p l.approx, count-is k (details_length n) d p l.details) (
+      whole-passes k (approx_length n) a l.approx,
       (
-        whole-passes k (detailsLength n) d l.details,
+        whole-passes k (details_length n) d l.details,
         (
           whole-passes k n x l.samples,
           (
-            le-ltb mostSamples (approxLength n) (omega (arith, l.short)),
+            le-ltb most_samples (approx_length n) (omega (arith, l.short)),
             (
-              le-ltb mostSamples (detailsLength n) (omega (arith, l.short)),
+              le-ltb most_samples (details_length n) (omega (arith, l.short)),
               (
-                le-ltb mostSamples n l.short,
-                (same n (approxLength n + detailsLength n) e.0, (same (approxLength n) (expectedApprox n) e.1, (same (detailsLength n) (expectedDetails w n) e.2, tt))),
+                le-ltb most_samples n l.short,
+                (same n (approx_length n + details_length n) e.0, (same (approx_length n) (expected_approx n) e.1, (same (details_length n) (expected_details w n) e.2, tt))),
               ),
             ),
           ),
@@ -110,7 +110,7 @@ inverse-fits w k n x a d p l =
 
 module _ (w : Wavelet) (k : ℕ) (low high : List ℕ → List ℕ) (x a d : List ℕ) where
   abbrev said : Refusal
-  said = sayForward w k (length x) (length a) (length d)
+  said = say_forward w k (length x) (length a) (length d)
 
   -- s is what the checks said, and r its numbers
   pub forward-done : (s : Refusal) (r : Answer) (a' d' : List ℕ) → s ≡ said → r ≡ answer_of s → done s ≡ true → a' ≡ low x → d' ≡ high x → Forward w k low high x a d r a' d'
@@ -134,17 +134,17 @@ module _ (w : Wavelet) (k : ℕ) (low high : List ℕ → List ℕ) (x a d : Lis
   forward-decides r s a₁ d₁ a₂ d₂ p q = (p.answer ∙ sym q.answer, p.approx ∙ sym q.approx, p.details ∙ sym q.details)
 
 module _ (w : Wavelet) (k : ℕ) (back : List ℕ → List ℕ → List ℕ) (a d o : List ℕ) where
-  abbrev saidBack : Refusal
-  saidBack = sayInverse w k (length a) (length d) (length o)
+  abbrev said_back : Refusal
+  said_back = say_inverse w k (length a) (length d) (length o)
 
-  pub inverse-done : (s : Refusal) (r : Answer) (o' : List ℕ) → s ≡ saidBack → r ≡ answer_of s → done s ≡ true → o' ≡ back a d → Inverse w k back a d o r o'
-  inverse-done s r o' es er z p = let t : done saidBack ≡ true = rw es at z in record { answer = er ∙ ap answer_of es; output = p ∙ sym (left-done saidBack (back a d) o t) }
+  pub inverse-done : (s : Refusal) (r : Answer) (o' : List ℕ) → s ≡ said_back → r ≡ answer_of s → done s ≡ true → o' ≡ back a d → Inverse w k back a d o r o'
+  inverse-done s r o' es er z p = let t : done said_back ≡ true = rw es at z in record { answer = er ∙ ap answer_of es; output = p ∙ sym (left-done said_back (back a d) o t) }
 
-  pub inverse-refused : (s : Refusal) (r : Answer) → s ≡ saidBack → r ≡ answer_of s → done s ≡ false → Inverse w k back a d o r o
-  inverse-refused s r es er z = let t : done saidBack ≡ false = rw es at z in record { answer = er ∙ ap answer_of es; output = sym (left-refused saidBack (back a d) o t) }
+  pub inverse-refused : (s : Refusal) (r : Answer) → s ≡ said_back → r ≡ answer_of s → done s ≡ false → Inverse w k back a d o r o
+  inverse-refused s r es er z = let t : done said_back ≡ false = rw es at z in record { answer = er ∙ ap answer_of es; output = sym (left-refused said_back (back a d) o t) }
 
   pub inverse-ran : (n : ℕ) (r : Answer) (o' : List ℕ) → 0 < k → Level w k n (length o) (length a) (length d) → Inverse w k back a d o r o' → o' ≡ back a d
-  inverse-ran n r o' p l h = h.output ∙ left-done saidBack (back a d) o (ap done (inverse-fits w k n (length o) (length a) (length d) p l))
+  inverse-ran n r o' p l h = h.output ∙ left-done said_back (back a d) o (ap done (inverse-fits w k n (length o) (length a) (length d) p l))
 
   pub inverse-decides : (r s : Answer) (o₁ o₂ : List ℕ) → Inverse w k back a d o r o₁ → Inverse w k back a d o s o₂ → (r ≡ s) × (o₁ ≡ o₂)
   inverse-decides r s o₁ o₂ p q = (p.answer ∙ sym q.answer, p.output ∙ sym q.output)

@@ -4,29 +4,29 @@ use Rattle.base_lengths.specs.declared.Wavelet.{Wavelet}
 use Rattle.base_lengths.specs.declared.Wavelet.TheVariants.{Cdf53, Cdf97}
 
 -- "n over 16,777,216"
-abbrev pub mostSamples : ℕ
-mostSamples = 16777216
+abbrev pub most_samples : ℕ
+most_samples = 16777216
 
 -- "approximations (ceil(n/2) of them)"
-abbrev pub approxLength : ℕ → ℕ
-approxLength n = (n + 1) / 2
+abbrev pub approx_length : ℕ → ℕ
+approx_length n = (n + 1) / 2
 
 -- "details (floor(n/2))"
-abbrev pub detailsLength : ℕ → ℕ
-detailsLength n = n / 2
+abbrev pub details_length : ℕ → ℕ
+details_length n = n / 2
 
 -- "the smallest input is 3 for 5/3 and 4 for 9/7"
-abbrev pub smallestOf : Wavelet → ℕ
-smallestOf Cdf53 = 3
-smallestOf Cdf97 = 4
+abbrev pub smallest_of : Wavelet → ℕ
+smallest_of Cdf53 = 3
+smallest_of Cdf97 = 4
 
 -- "expected lengths are ceil(n/2) but at least 2, and floor(n/2) but at least 1 (9/7: at least 2)"
-abbrev pub leastDetails : Wavelet → ℕ
-leastDetails Cdf53 = 1
-leastDetails Cdf97 = 2
+abbrev pub least_details : Wavelet → ℕ
+least_details Cdf53 = 1
+least_details Cdf97 = 2
 
-abbrev pub expectedApprox : ℕ → ℕ
-expectedApprox n = max 2 (approxLength n)
+abbrev pub expected_approx : ℕ → ℕ
+expected_approx n = max 2 (approx_length n)
 
-abbrev pub expectedDetails : Wavelet → ℕ → ℕ
-expectedDetails w n = max (leastDetails w) (detailsLength n)
+abbrev pub expected_details : Wavelet → ℕ → ℕ
+expected_details w n = max (least_details w) (details_length n)

@@ -3,8 +3,8 @@ pub mod checks;
 
 ghost use Rattle.std.specs.Prelude.{◌≡◌, max, min};
 ghost use Rattle.base_answers.specs.Answers.{answer_of};
-ghost use Rattle.base_lengths.specs.Lengths.{approxLength, detailsLength, smallestOf, leastDetails, expectedApprox, expectedDetails};
-ghost use Rattle.base_lengths.specs.Levels.{countAt, depth_of, sayDepth, levelsOf};
+ghost use Rattle.base_lengths.specs.Lengths.{approx_length, details_length, smallest_of, least_details, expected_approx, expected_details};
+ghost use Rattle.base_lengths.specs.Levels.{count_at, depth_of, say_depth, levels_of};
 
 use base_answers::err::{Answer, Refusal, numbers};
 
@@ -27,21 +27,21 @@ pub struct DwtSize {
 
 // How many approximations n samples have.
 pub fn approx_length(n: usize) -> usize
-    ensures { result ≡ approxLength n }
+    ensures { result ≡ approx_length n }
 {
     n - n / 2
 }
 
 // How many details n samples have.
 pub fn details_length(n: usize) -> usize
-    ensures { result ≡ detailsLength n }
+    ensures { result ≡ details_length n }
 {
     n / 2
 }
 
 // The fewest samples that one level takes.
 pub fn smallest(w: Wavelet) -> usize
-    ensures { result ≡ smallestOf w }
+    ensures { result ≡ smallest_of w }
 {
     match w {
         Wavelet::Cdf53 => 3,
@@ -62,7 +62,7 @@ pub fn lesser(m: usize, n: usize) -> usize
 }
 
 fn least_details(w: Wavelet) -> usize
-    ensures { result ≡ leastDetails w }
+    ensures { result ≡ least_details w }
 {
     match w {
         Wavelet::Cdf53 => 1,
@@ -72,7 +72,7 @@ fn least_details(w: Wavelet) -> usize
 
 // The lengths that an inverse to n samples expects of its two bands.
 pub fn dwt_size(w: Wavelet, n: usize) -> DwtSize
-    ensures { (result.approx ≡ expectedApprox n) × (result.details ≡ expectedDetails w n) }
+    ensures { (result.approx ≡ expected_approx n) × (result.details ≡ expected_details w n) }
 {
     DwtSize {
         approx: at_least(2, approx_length(n)),
@@ -82,14 +82,14 @@ pub fn dwt_size(w: Wavelet, n: usize) -> DwtSize
 
 // Zero levels means one.
 pub fn at_least_one(levels: usize) -> usize
-    ensures { result ≡ levelsOf levels }
+    ensures { result ≡ levels_of levels }
 {
     if levels == 0 { 1 } else { levels }
 }
 
 // How many approximations n samples have after so many levels.
 pub fn count_at(levels: usize, n: usize) -> usize
-    ensures { result ≡ countAt levels n }
+    ensures { result ≡ count_at levels n }
 {
     let mut count = n;
     let mut i = 0;
@@ -136,7 +136,7 @@ pub fn depth(w: Wavelet, n: usize) -> usize
 
 // The depth as the desk asks for it: refused only for a length over the limit.
 pub fn ask_depth(w: Wavelet, n: usize) -> Answer
-    ensures { result ≡ answer_of (sayDepth w n) }
+    ensures { result ≡ answer_of (say_depth w n) }
 {
     if MOST_SAMPLES < n {
         return numbers(Refusal::TooLong);

@@ -5,8 +5,8 @@ use Prim.Native.Nat.{ℕ, suc, ◌+◌, ◌-◌, ◌≤◌, ◌<◌}
 use native.Mathlib.Omega.{arith}
 use lib.ListN.{length, get_or, set, take, drop, length-drop}
 use lib.Seq.{paste, paste-suc, length-paste, take-paste, drop-paste, get_or-drop, take-add, drop-drop}
-use Rattle.base_samples.specs.Le.{leAt, le_bytes, stored, Bytes}
-use Rattle.base_samples.proofs.LeLaws.{leAt-drop, leBytes-at, stored_is}
+use Rattle.base_samples.specs.Le.{le_at, le_bytes, stored, Bytes}
+use Rattle.base_samples.proofs.LeLaws.{le_at-drop, le_bytes-at, stored_is}
 
 module _ (b : List ℕ) (to gap count i : ℕ) (within : to + gap + count ≤ length b) where
   -- what is moved
@@ -35,14 +35,14 @@ module _ (b : List ℕ) (to gap count i : ℕ) (within : to + gap + count ≤ le
       ap (set moved (to + i)) old ∙ paste-suc b to source i 0 (omega arith) (omega (arith, room (suc i) (omega arith)))
 
   -- a word more
-  pub word_moved : Bytes b → i + 8 ≤ count → stored 8 moved (to + i) (leAt 8 moved (to + gap + i)) ≡ paste b to source (i + 8)
+  pub word_moved : Bytes b → i + 8 ≤ count → stored 8 moved (to + i) (le_at 8 moved (to + gap + i)) ≡ paste b to source (i + 8)
   word_moved bytes h =
-      let w = leAt 8 moved (to + gap + i) in
+      let w = le_at 8 moved (to + gap + i) in
       let long : length moved ≡ length b = length-paste b to source i (omega arith) (room i (omega arith)) in
-      let old : w ≡ leAt 8 b (to + gap + i) =
-      ap (leAt 8 moved) order ∙ sym (leAt-drop 8 (to + i) moved gap) ∙ ap (λ (t : List ℕ). leAt 8 t gap) (behind (omega arith)) ∙ leAt-drop 8 (to + i) b gap ∙ ap (leAt 8 b) (sym order) in
+      let old : w ≡ le_at 8 b (to + gap + i) =
+      ap (le_at 8 moved) order ∙ sym (le_at-drop 8 (to + i) moved gap) ∙ ap (λ (t : List ℕ). le_at 8 t gap) (behind (omega arith)) ∙ le_at-drop 8 (to + i) b gap ∙ ap (le_at 8 b) (sym order) in
       let word : le_bytes 8 w ≡ take 8 (drop i source) =
-      ap (le_bytes 8) old ∙ leBytes-at b bytes 8 (to + gap + i) (omega arith) ∙ ap (take 8) (sym (drop-drop i (to + gap) b)) in
+      ap (le_bytes 8) old ∙ le_bytes-at b bytes 8 (to + gap + i) (omega arith) ∙ ap (take 8) (sym (drop-drop i (to + gap) b)) in
       let after : drop (to + i + 8) moved ≡ drop (to + (i + 8)) b =
       sym (drop-drop 8 (to + i) moved) ∙ ap (drop 8) (behind (omega arith)) ∙ drop-drop 8 (to + i) b ∙ (let e : to + i + 8 ≡ to + (i + 8) = omega arith in ap (λ (j : ℕ). drop j b) e) in
       stored_is 8 moved (to + i) w (omega (arith, long))

@@ -9,11 +9,11 @@ use lib.ListN.{length, take, drop, length-append}
 use lib.Seq.{take_all, take_at, length-take-le}
 use Rattle.base_samples.specs.Le.{le_bytes}
 use Rattle.base_samples.specs.Words.{tabulate, put_at, bytes_of, Holds, Front}
-use Rattle.base_samples.proofs.LeLaws.{length-leBytes, stored_is}
+use Rattle.base_samples.proofs.LeLaws.{length-le_bytes, stored_is}
 use Rattle.base_samples.proofs.Words.{room, holds_on, length-put, bytes-append}
 
 length_front : (k : ℕ) (s : List ℕ) (i u : ℕ) → k * i + k ≤ length s → length (take (k * i) s ++ le_bytes k u) ≡ k * i + k
-length_front k s i u h = length-append (take (k * i) s) (le_bytes k u) ∙ rw (length-take-le (k * i) s (omega arith), length-leBytes)
+length_front k s i u h = length-append (take (k * i) s) (le_bytes k u) ∙ rw (length-take-le (k * i) s (omega arith), length-le_bytes)
 
 -- nothing is written yet
 pub front-none : {k n : ℕ} {s : List ℕ} (g : ℕ → ℕ) → Holds k n s → Front k n 0 g s

@@ -13,9 +13,9 @@ use lib.ListN.{length, get_or, length-map}
 use Rattle.base_order.proofs.Order.{lt-or-le}
 use Rattle.base_samples.specs.Le.{Bytes}
 use Rattle.base_samples.specs.Words.{tabulate, word_at, words_of, bytes_of, Holds}
-use Rattle.base_samples.specs.Integers.{val, residue, wrap, decode, encode, quarter, isWidth, Width}
+use Rattle.base_samples.specs.Integers.{val, residue, wrap, decode, encode, quarter, is_width, Width}
 use Rattle.base_samples.proofs.LeLaws.{top_pos}
-use Rattle.base_samples.proofs.Words.{get_d_tabulate, tabulate-same, map-tabulate, word_lt, length-words, length-bytes, words-bytes, bytes-words}
+use Rattle.base_samples.proofs.Words.{get_or-tabulate, tabulate-same, map-tabulate, word_lt, length-words, length-bytes, words-bytes, bytes-words}
 use Rattle.base_samples.proofs.Diff.{sub-ge, sub-lt, residue-sub}
 
 -- ---- the widths
@@ -33,7 +33,7 @@ unfolding quarter
 width-4 = record { which = inr (inr refl); some = omega arith; words = refl; many = omega arith; most = omega arith }
 
 -- a number that the test takes for a width is one
-pub width-of : (k : ℕ) → isWidth k ≡ true → Width k
+pub width-of : (k : ℕ) → is_width k ≡ true → Width k
 width-of k h = first (eqb k 1) (eqb k 2) (eqb k 4) refl refl refl h
   where
     first : (a b c : Bool) → eqb k 1 ≡ a → eqb k 2 ≡ b → eqb k 4 ≡ c → a || (b || c) ≡ true → Width k
@@ -108,7 +108,7 @@ module _ (k : ℕ) where
   decode_is s = map-tabulate (val (256 ^ k)) (length s / k) (word_at k s)
 
   pub at-decode : (s : List ℕ) (i : ℕ) → i < length s / k → get_or (decode k s) i (pos 0) ≡ val (256 ^ k) (word_at k s i)
-  at-decode s i h = rw (decode_is s) (get_d_tabulate (length s / k) (λ i. val (256 ^ k) (word_at k s i)) i (pos 0) h)
+  at-decode s i h = rw (decode_is s) (get_or-tabulate (length s / k) (λ i. val (256 ^ k) (word_at k s i)) i (pos 0) h)
 
 module _ {k : ℕ} (w : Width k) where
   -- samples to bytes and back: what is kept of each

@@ -14,15 +14,15 @@ width binary64 = 8
 unfoldable pub float_at : Format → List ℕ → ℕ → Float
 float_at f s i = of_bits f (word_at (width f) s i)
 
-unfoldable pub putFloat : Format → List ℕ → ℕ → Float → List ℕ
-putFloat f s i x = put_at (width f) s i (to_bits f x)
+unfoldable pub put_float : Format → List ℕ → ℕ → Float → List ℕ
+put_float f s i x = put_at (width f) s i (to_bits f x)
 
 -- the floats in s, and the bytes of the floats xs
-unfoldable pub decodeFloats : Format → List ℕ → List Float
-decodeFloats f s = map (of_bits f) (words_of (width f) s)
+unfoldable pub decode_floats : Format → List ℕ → List Float
+decode_floats f s = map (of_bits f) (words_of (width f) s)
 
-unfoldable pub encodeFloats : Format → List Float → List ℕ
-encodeFloats f xs = bytes_of (width f) (map (to_bits f) xs)
+unfoldable pub encode_floats : Format → List Float → List ℕ
+encode_floats f xs = bytes_of (width f) (map (to_bits f) xs)
 
 -- a pattern as it is written again after it was read: itself, unless it is a NaN's
 unfoldable pub canonical : Format → ℕ → ℕ

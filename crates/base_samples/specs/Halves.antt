@@ -4,12 +4,12 @@ use Rattle.base_samples.specs.Words.{tabulate}
 
 module _ {A : Type 0} (z : A) where
   -- x[0], x[2], ..
-  unfoldable pub evenOf : List A → List A
-  evenOf x = tabulate ((length x + 1) / 2) (λ i. get_or x (2 * i) z)
+  unfoldable pub even_of : List A → List A
+  even_of x = tabulate ((length x + 1) / 2) (λ i. get_or x (2 * i) z)
 
   -- x[1], x[3], ..
-  unfoldable pub oddOf : List A → List A
-  oddOf x = tabulate (length x / 2) (λ i. get_or x (2 * i + 1) z)
+  unfoldable pub odd_of : List A → List A
+  odd_of x = tabulate (length x / 2) (λ i. get_or x (2 * i + 1) z)
 
   -- a[0], d[0], a[1], d[1], ..
   unfoldable pub joined : List A → List A → List A

@@ -27,8 +27,8 @@ unfoldable pub quarter : ℕ → ℕ
 quarter k = 256 ^ k / 4
 
 -- whether k is a width, in bytes: "1, 2 or 4"
-abbrev pub isWidth : ℕ → Bool
-isWidth k = eqb k 1 || (eqb k 2 || eqb k 4)
+abbrev pub is_width : ℕ → Bool
+is_width k = eqb k 1 || (eqb k 2 || eqb k 4)
 
 -- k is a width; what follows from that stands beside it, where `omega` finds it
 pub record Width (k : ℕ) : Type 0 where

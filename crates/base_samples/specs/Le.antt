@@ -3,9 +3,9 @@ use Rattle.std.specs.Prelude.{List, [], ◌∷◌, ℕ, zero, suc, ◌+◌, ◌*
 use Rattle.std.proofs.lemmas.List.Edits.{sets}
 
 -- the number in the k bytes of s from place p on
-unfoldable pub leAt : ℕ → List ℕ → ℕ → ℕ
-leAt zero s p = 0
-leAt (suc k) s p = get_or s p 0 + 256 * leAt k s (p + 1)
+unfoldable pub le_at : ℕ → List ℕ → ℕ → ℕ
+le_at zero s p = 0
+le_at (suc k) s p = get_or s p 0 + 256 * le_at k s (p + 1)
 
 -- the k bytes of n
 unfoldable pub le_bytes : ℕ → ℕ → List ℕ

@@ -1,6 +1,6 @@
 -- A list of bytes as words of k bytes each, one after the other: what integers and floats share. Word i stands at place k * i.
 use Rattle.std.specs.Prelude.{List, [], ◌∷◌, ◌++◌, ◌≡◌, ℕ, zero, suc, ◌*◌, ◌/◌, ◌≤◌, length, take}
-use Rattle.base_samples.specs.Le.{leAt, le_bytes, stored}
+use Rattle.base_samples.specs.Le.{le_at, le_bytes, stored}
 
 -- the list g 0, g 1, .., g (n - 1)
 unfoldable pub tabulate {ℓ} : {A : Type ℓ} → ℕ → (ℕ → A) → List A
@@ -9,7 +9,7 @@ tabulate (suc n) g = tabulate n g ++ (g n ∷ [])
 
 -- word i of s, and s with the word u there
 unfoldable pub word_at : ℕ → List ℕ → ℕ → ℕ
-word_at k s i = leAt k s (k * i)
+word_at k s i = le_at k s (k * i)
 
 unfoldable pub put_at : ℕ → List ℕ → ℕ → ℕ → List ℕ
 put_at k s i u = stored k s (k * i) u

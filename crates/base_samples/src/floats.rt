@@ -3,7 +3,7 @@ ghost use Rattle.std.specs.Prelude.{◌≡◌, ◌/◌, ◌<◌, length};
 ghost use Rattle.std.specs.Float.{binary32, binary64};
 ghost use Rattle.std.specs.Float.Ieee.{of_bits, to_bits};
 ghost use Rattle.base_samples.specs.Words.{word_at};
-ghost use Rattle.base_samples.specs.Floats.{float_at, putFloat, canonical, Plain};
+ghost use Rattle.base_samples.specs.Floats.{float_at, put_float, canonical, Plain};
 
 use crate::le::{read_u32, read_u64, write_u32, write_u64};
 
@@ -48,14 +48,14 @@ pub fn f64_bits(x: f64) -> u64
 // The float x as float i of a slice.
 pub fn put_f32(s: &mut [u8], i: usize, x: f32)
     requires { i < length s.old / 4 }
-    ensures { s.new ≡ putFloat binary32 s.old i x }
+    ensures { s.new ≡ put_float binary32 s.old i x }
 {
     write_u32(s, 4 * i, f32_bits(x));
 }
 
 pub fn put_f64(s: &mut [u8], i: usize, x: f64)
     requires { i < length s.old / 8 }
-    ensures { s.new ≡ putFloat binary64 s.old i x }
+    ensures { s.new ≡ put_float binary64 s.old i x }
 {
     write_u64(s, 8 * i, f64_bits(x));
 }
@@ -140,7 +140,7 @@ fn canonical_u64(n: u64) -> u64
 pub fn copy_f32(s: &mut [u8], i: usize, t: &[u8], j: usize)
     requires i_in_bounds { i < length s.old / 4 }
     requires j_in_bounds { j < length t.now / 4 }
-    ensures { s.new ≡ putFloat binary32 s.old i (float_at binary32 t.now j) }
+    ensures { s.new ≡ put_float binary32 s.old i (float_at binary32 t.now j) }
 {
     write_u32(s, 4 * i, canonical_u32(word_u32(t, j)));
 }
@@ -148,7 +148,7 @@ pub fn copy_f32(s: &mut [u8], i: usize, t: &[u8], j: usize)
 pub fn copy_f64(s: &mut [u8], i: usize, t: &[u8], j: usize)
     requires i_in_bounds { i < length s.old / 8 }
     requires j_in_bounds { j < length t.now / 8 }
-    ensures { s.new ≡ putFloat binary64 s.old i (float_at binary64 t.now j) }
+    ensures { s.new ≡ put_float binary64 s.old i (float_at binary64 t.now j) }
 {
     write_u64(s, 8 * i, canonical_u64(word_u64(t, j)));
 }

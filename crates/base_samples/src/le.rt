@@ -1,6 +1,6 @@
 // Little-endian numbers of 2, 4 and 8 bytes.
 ghost use Rattle.std.specs.Prelude.{◌≡◌, ◌+◌, ◌≤◌, ◌<◌, length};
-ghost use Rattle.base_samples.specs.Le.{leAt, stored};
+ghost use Rattle.base_samples.specs.Le.{le_at, stored};
 
 fn wide(b: u8) -> u16
     ensures { (result ≡ b) × (result < 256) }
@@ -11,7 +11,7 @@ fn wide(b: u8) -> u16
 // The number in the two bytes from a place on. Each wider number is two of half its width.
 pub fn read_u16(s: &[u8], at: usize) -> u16
     requires { at + 2 ≤ length s.now }
-    ensures { result ≡ leAt 2 s.now at }
+    ensures { result ≡ le_at 2 s.now at }
 {
     let low = wide(s[at]);
     let high = wide(s[at + 1]);
@@ -20,7 +20,7 @@ pub fn read_u16(s: &[u8], at: usize) -> u16
 
 pub fn read_u32(s: &[u8], at: usize) -> u32
     requires { at + 4 ≤ length s.now }
-    ensures { result ≡ leAt 4 s.now at }
+    ensures { result ≡ le_at 4 s.now at }
 {
     let low = read_u16(s, at) as u32;
     let high = read_u16(s, at + 2) as u32;
@@ -29,7 +29,7 @@ pub fn read_u32(s: &[u8], at: usize) -> u32
 
 pub fn read_u64(s: &[u8], at: usize) -> u64
     requires { at + 8 ≤ length s.now }
-    ensures { result ≡ leAt 8 s.now at }
+    ensures { result ≡ le_at 8 s.now at }
 {
     let low = read_u32(s, at) as u64;
     let high = read_u32(s, at + 4) as u64;

@@ -3,14 +3,14 @@ use Rattle.std.specs.Prelude.{List, [], ◌∷◌, ◌++◌, ◌≡◌, ℕ, ◌
 use Rattle.base_answers.specs.declared.err.Answer.{Answer}
 use Rattle.base_answers.specs.declared.err.Refusal.{Refusal}
 use Rattle.base_answers.specs.Answers.{answer_of}
-use Rattle.base_answers.specs.Checks.{left, inFront}
+use Rattle.base_answers.specs.Checks.{left, in_front}
 use Rattle.base_samples.specs.Le.{stored}
-use Rattle.book_entries.specs.Books.{entrySize, entryStart, totalAt, dataAt, bookOf, entriesIn, dataIn, slotOf, placeAt, size_at}
-use Rattle.book_entries.specs.Checks.{sayFresh, sayAdd, sayWithdraw}
+use Rattle.book_entries.specs.Books.{entry_size, entry_start, total_at, data_at, book_of, entries_in, data_in, slot_of, place_at, size_at}
+use Rattle.book_entries.specs.Checks.{say_fresh, say_add, say_withdraw}
 
 -- the area b with these entries and this data, and behind them the bytes that were there
 abbrev pub holding : List ℕ → List (List ℕ) → List ℕ → List ℕ
-holding b es d = inFront (bookOf es d) b
+holding b es d = in_front (book_of es d) b
 
 -- the answer r of a call that says s, and the area b' that it leaves of the area b: `new` where it is done
 pub record Leaves (s : Refusal) (new b : List ℕ) (r : Answer) (b' : List ℕ) : Type 0 where
@@ -19,24 +19,24 @@ pub record Leaves (s : Refusal) (new b : List ℕ) (r : Answer) (b' : List ℕ) 
 
 -- ---- a fresh book
 
-unfoldable pub freshIn : List ℕ → List ℕ
-freshIn b = holding b [] []
+unfoldable pub fresh_in : List ℕ → List ℕ
+fresh_in b = holding b [] []
 
 abbrev pub Fresh : List ℕ → Answer → List ℕ → Type 0
-Fresh b = Leaves (sayFresh b) (freshIn b) b
+Fresh b = Leaves (say_fresh b) (fresh_in b) b
 
 -- ---- adding
 
 -- the first bytes of the file s are the last entry, and the data ends with it
-unfoldable pub addedIn : List ℕ → List ℕ → List ℕ
-addedIn b s = holding b (entriesIn b ++ (take entrySize s ∷ [])) (dataIn b ++ s)
+unfoldable pub added_in : List ℕ → List ℕ → List ℕ
+added_in b s = holding b (entries_in b ++ (take entry_size s ∷ [])) (data_in b ++ s)
 
 -- on the way: the file s behind t bytes of data, and the new count
-abbrev pub filePut : List ℕ → ℕ → List ℕ → List ℕ
-filePut b t s = stored 4 (take (dataAt + t) b ++ (s ++ drop (dataAt + t + length s) b)) totalAt (t + length s)
+abbrev pub file_put : List ℕ → ℕ → List ℕ → List ℕ
+file_put b t s = stored 4 (take (data_at + t) b ++ (s ++ drop (data_at + t + length s) b)) total_at (t + length s)
 
 abbrev pub Add : List ℕ → ℕ → List ℕ → Answer → List ℕ → Type 0
-Add b p s = Leaves (sayAdd b p s) (addedIn b s) b
+Add b p s = Leaves (say_add b p s) (added_in b s) b
 
 -- ---- withdrawing
 
@@ -45,23 +45,23 @@ abbrev pub without : {A : Type 0} → ℕ → ℕ → List A → List A
 without i n l = take i l ++ drop (i + n) l
 
 -- the data without the file of entry i
-abbrev pub dataWithout : List ℕ → ℕ → List ℕ
-dataWithout b i = let es = entriesIn b in without (placeAt i es) (size_at i es) (dataIn b)
+abbrev pub data_without : List ℕ → ℕ → List ℕ
+data_without b i = let es = entries_in b in without (place_at i es) (size_at i es) (data_in b)
 
 -- "withdrawing packs the rest together": the entry is taken out of the directory, and the file out of the data
-unfoldable pub withdrawnIn : List ℕ → ℕ → List ℕ
-withdrawnIn b p =
-    let es = entriesIn b in
-    let i = slotOf p es in
-    holding b (without i 1 es) (dataWithout b i)
+unfoldable pub withdrawn_in : List ℕ → ℕ → List ℕ
+withdrawn_in b p =
+    let es = entries_in b in
+    let i = slot_of p es in
+    holding b (without i 1 es) (data_without b i)
 
 -- on the way: the file of entry i taken out of the data, its entry still there
-abbrev pub fileOut : List ℕ → ℕ → List ℕ
-fileOut b i = holding b (entriesIn b) (dataWithout b i)
+abbrev pub file_out : List ℕ → ℕ → List ℕ
+file_out b i = holding b (entries_in b) (data_without b i)
 
 -- entry i taken out of the directory, and the last one cleared
-abbrev pub entryOut : List ℕ → ℕ → List ℕ
-entryOut b i = without (entryStart i) entrySize (take totalAt b) ++ (replicate entrySize 0 ++ drop totalAt b)
+abbrev pub entry_out : List ℕ → ℕ → List ℕ
+entry_out b i = without (entry_start i) entry_size (take total_at b) ++ (replicate entry_size 0 ++ drop total_at b)
 
 abbrev pub Withdraw : List ℕ → ℕ → Answer → List ℕ → Type 0
-Withdraw b p = Leaves (sayWithdraw b p) (withdrawnIn b p) b
+Withdraw b p = Leaves (say_withdraw b p) (withdrawn_in b p) b

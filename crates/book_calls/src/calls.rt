@@ -1,9 +1,9 @@
 // The calls of the route book.
 ghost use Rattle.std.specs.Prelude.{true, ◌≡◌, ◌+◌, ◌≤◌, ◌<◌, length};
 ghost use Rattle.base_answers.specs.Answers.{answer_of};
-ghost use Rattle.book_entries.specs.Books.{most, dataAt, entriesIn, is_held};
-ghost use Rattle.book_entries.specs.Checks.{mostArea, Book, Addable, sayFind, sayRoom};
-ghost use Rattle.book_calls.specs.Calls.{freshIn, addedIn, filePut, withdrawnIn, fileOut, entryOut, Fresh, Add, Withdraw};
+ghost use Rattle.book_entries.specs.Books.{most, data_at, entries_in, is_held};
+ghost use Rattle.book_entries.specs.Checks.{most_area, Book, Addable, say_find, say_room};
+ghost use Rattle.book_calls.specs.Calls.{fresh_in, added_in, file_put, withdrawn_in, file_out, entry_out, Fresh, Add, Withdraw};
 
 use base_answers::err::{Answer, Refusal, is_done, numbers};
 use base_moves::{clear, lay, pack};
@@ -15,8 +15,8 @@ use book_entries::directory::{
 
 // An empty directory and no data.
 fn lay_fresh(b: &mut [u8])
-    requires { dataAt ≤ length b.old }
-    ensures { b.new ≡ freshIn b.old }
+    requires { data_at ≤ length b.old }
+    ensures { b.new ≡ fresh_in b.old }
 {
     write_u32(b, 0, MOST as u32);
     clear(b, 4, TOTAL_AT);
@@ -37,8 +37,8 @@ pub fn fresh(b: &mut [u8]) -> Answer
 
 // The file s behind `total` bytes of data, and the new count.
 fn put_file(b: &mut [u8], total: usize, s: &[u8])
-    requires { (dataAt + total + length s.now ≤ length b.old) × (length b.old ≤ mostArea) }
-    ensures { b.new ≡ filePut b.old total s.now }
+    requires { (data_at + total + length s.now ≤ length b.old) × (length b.old ≤ most_area) }
+    ensures { b.new ≡ file_put b.old total s.now }
 {
     lay(b, DATA_AT + total, s);
     write_u32(b, TOTAL_AT, (total + s.len()) as u32);
@@ -47,7 +47,7 @@ fn put_file(b: &mut [u8], total: usize, s: &[u8])
 // The file behind the last one, and its first 14 bytes as the next entry.
 fn enter(b: &mut [u8], s: &[u8])
     requires { Addable b.old s.now }
-    ensures { b.new ≡ addedIn b.old s.now }
+    ensures { b.new ≡ added_in b.old s.now }
 {
     let h = held(b);
     put_file(b, total_of(b, h), s);
@@ -68,7 +68,7 @@ pub fn add(b: &mut [u8], s: &[u8], p: usize) -> Answer
 
 // Where the file of point p stands, and how many bytes it has.
 pub fn find(b: &[u8], p: usize) -> Answer
-    ensures { result ≡ answer_of (sayFind b.now p) }
+    ensures { result ≡ answer_of (say_find b.now p) }
 {
     let said = check_held(b, p);
     if !is_done(said) {
@@ -80,8 +80,8 @@ pub fn find(b: &[u8], p: usize) -> Answer
 
 // The file of entry i, of h that are held, taken out of the data: what stands behind it moved down, and the new count.
 fn take_file(b: &mut [u8], i: usize, h: usize)
-    requires { Book b.old × (h ≡ length (entriesIn b.old)) × (i < h) }
-    ensures { b.new ≡ fileOut b.old i }
+    requires { Book b.old × (h ≡ length (entries_in b.old)) × (i < h) }
+    ensures { b.new ≡ file_out b.old i }
 {
     let place = total_of(b, i);
     let size = size_at(b, i);
@@ -92,8 +92,8 @@ fn take_file(b: &mut [u8], i: usize, h: usize)
 
 // Entry i taken out of the directory: those behind it moved down, and the last one cleared.
 fn drop_entry(b: &mut [u8], i: usize)
-    requires { (i < most) × (dataAt ≤ length b.old) }
-    ensures { b.new ≡ entryOut b.old i }
+    requires { (i < most) × (data_at ≤ length b.old) }
+    ensures { b.new ≡ entry_out b.old i }
 {
     pack(
         b,
@@ -106,8 +106,8 @@ fn drop_entry(b: &mut [u8], i: usize)
 
 // The entry and the file of point p taken out, and what stands behind each moved down.
 fn take_out(b: &mut [u8], p: usize)
-    requires { Book b.old × (is_held p (entriesIn b.old) ≡ true) }
-    ensures { b.new ≡ withdrawnIn b.old p }
+    requires { Book b.old × (is_held p (entries_in b.old) ≡ true) }
+    ensures { b.new ≡ withdrawn_in b.old p }
 {
     let h = held(b);
     let i = slot_of(b, p, 0, h);
@@ -129,7 +129,7 @@ pub fn withdraw(b: &mut [u8], p: usize) -> Answer
 
 // The room that is free, and how many points are held.
 pub fn room(b: &[u8]) -> Answer
-    ensures { result ≡ answer_of (sayRoom b.now) }
+    ensures { result ≡ answer_of (say_room b.now) }
 {
     let said = check_book(b);
     if !is_done(said) {

@@ -5,9 +5,9 @@ use Rattle.std.proofs.Math.Seq.{slice}
 use Rattle.base_answers.specs.declared.err.Refusal.TheVariants.{Done}
 use Rattle.base_answers.specs.Answers.{done}
 use Rattle.base_answers.specs.Checks.{first_of}
-use Rattle.base_samples.specs.Le.{leAt}
-use Rattle.file_open.specs.Files.{sectionOf, isCount, commonSize, fileSize}
-use Rattle.file_open.specs.Opens.{headIn, fieldChecks}
+use Rattle.base_samples.specs.Le.{le_at}
+use Rattle.file_open.specs.Files.{section_of, is_count, common_size, file_size}
+use Rattle.file_open.specs.Opens.{head_in, field_checks}
 
 -- "a directory of 64 fixed entries"
 abbrev pub most : ℕ
@@ -15,29 +15,29 @@ most = 64
 
 -- an entry is the first 14 bytes of the file that it stands for: the count of the file's section 0, width, levels, n and point. One that stands for none is 14 zeros.
 -- They are what both kinds of file begin with: "the book of C-14 holds both". The rate is not in an entry
-abbrev pub entrySize : ℕ
-entrySize = commonSize
+abbrev pub entry_size : ℕ
+entry_size = common_size
 
 -- where entry i starts, where the data's count stands (900), and where the data starts (904)
-abbrev pub entryStart : ℕ → ℕ
-entryStart i = 4 + entrySize * i
+abbrev pub entry_start : ℕ → ℕ
+entry_start i = 4 + entry_size * i
 
-abbrev pub totalAt : ℕ
-totalAt = entryStart most
+abbrev pub total_at : ℕ
+total_at = entry_start most
 
-abbrev pub dataAt : ℕ
-dataAt = totalAt + 4
+abbrev pub data_at : ℕ
+data_at = total_at + 4
 
 -- the point of an entry, and how many bytes its file has
-abbrev pub pointBy : List ℕ → ℕ
-pointBy e = (headIn e).point
+abbrev pub point_by : List ℕ → ℕ
+point_by e = (head_in e).point
 
-abbrev pub sizeBy : List ℕ → ℕ
-sizeBy e = let h = headIn e in fileSize h.body h.width h.levels h.samples
+abbrev pub size_by : List ℕ → ℕ
+size_by e = let h = head_in e in file_size h.body h.width h.levels h.samples
 
 -- no entry says more, whatever its bytes are: 2 to the 41
-abbrev pub mostSize : ℕ
-mostSize = 2199023255552
+abbrev pub most_size : ℕ
+most_size = 2199023255552
 
 -- ---- as bytes
 
@@ -46,82 +46,82 @@ joined [] = []
 joined (x ∷ xs) = x ++ joined xs
 
 -- the directory of the entries es, and the data d
-unfoldable pub bookOf : List (List ℕ) → List ℕ → List ℕ
-bookOf es d = sectionOf most (joined es ++ replicate (entrySize * (most - length es)) 0) ++ sectionOf (length d) d
+unfoldable pub book_of : List (List ℕ) → List ℕ → List ℕ
+book_of es d = section_of most (joined es ++ replicate (entry_size * (most - length es)) 0) ++ section_of (length d) d
 
 -- ---- read back
 
 abbrev pub entry_at : List ℕ → ℕ → List ℕ
-entry_at b i = take entrySize (drop (entryStart i) b)
+entry_at b i = take entry_size (drop (entry_start i) b)
 
 -- an entry begins with the count of its file's section 0; it is 0 in one that stands for no file
-abbrev pub isUsed : List ℕ → Bool
-isUsed e = not (eqb (leAt 4 e 0) 0)
+abbrev pub is_used : List ℕ → Bool
+is_used e = not (eqb (le_at 4 e 0) 0)
 
 -- of n entries from entry i on, those before the first that is not used
-unfoldable pub usedFrom : ℕ → ℕ → List ℕ → List (List ℕ)
-usedFrom zero i b = []
-usedFrom (suc n) i b = cond (isUsed (entry_at b i)) (entry_at b i ∷ usedFrom n (suc i) b) []
+unfoldable pub used_from : ℕ → ℕ → List ℕ → List (List ℕ)
+used_from zero i b = []
+used_from (suc n) i b = cond (is_used (entry_at b i)) (entry_at b i ∷ used_from n (suc i) b) []
 
-unfoldable pub entriesIn : List ℕ → List (List ℕ)
-entriesIn b = usedFrom most 0 b
+unfoldable pub entries_in : List ℕ → List (List ℕ)
+entries_in b = used_from most 0 b
 
-unfoldable pub totalBy : List (List ℕ) → ℕ
-totalBy [] = 0
-totalBy (e ∷ es) = sizeBy e + totalBy es
+unfoldable pub total_by : List (List ℕ) → ℕ
+total_by [] = 0
+total_by (e ∷ es) = size_by e + total_by es
 
-abbrev pub totalIn : List ℕ → ℕ
-totalIn b = totalBy (entriesIn b)
+abbrev pub total_in : List ℕ → ℕ
+total_in b = total_by (entries_in b)
 
-unfoldable pub dataIn : List ℕ → List ℕ
-dataIn b = take (totalIn b) (drop dataAt b)
+unfoldable pub data_in : List ℕ → List ℕ
+data_in b = take (total_in b) (drop data_at b)
 
 -- "free room": the data room less the sizes of the files that are held
-abbrev pub freeIn : List ℕ → ℕ
-freeIn b = length b - dataAt - totalIn b
+abbrev pub free_in : List ℕ → ℕ
+free_in b = length b - data_at - total_in b
 
 -- ---- by point number
 
 -- how many entries stand before that of point p: all of them where it has none
-unfoldable pub slotOf : ℕ → List (List ℕ) → ℕ
-slotOf p [] = 0
-slotOf p (e ∷ es) = cond (eqb (pointBy e) p) 0 (suc (slotOf p es))
+unfoldable pub slot_of : ℕ → List (List ℕ) → ℕ
+slot_of p [] = 0
+slot_of p (e ∷ es) = cond (eqb (point_by e) p) 0 (suc (slot_of p es))
 
 abbrev pub is_held : ℕ → List (List ℕ) → Bool
-is_held p es = ltb (slotOf p es) (length es)
+is_held p es = ltb (slot_of p es) (length es)
 
 -- where the file of entry i starts in the data, and how many bytes it has
-abbrev pub placeAt : ℕ → List (List ℕ) → ℕ
-placeAt i es = totalBy (take i es)
+abbrev pub place_at : ℕ → List (List ℕ) → ℕ
+place_at i es = total_by (take i es)
 
 abbrev pub size_at : ℕ → List (List ℕ) → ℕ
-size_at i es = sizeBy (get_or es i [])
+size_at i es = size_by (get_or es i [])
 
 -- ---- "a directory or section count that no calls could have left"
 
 -- what some file begins with: what opening asks of the count and the fields, for their own width and point; the rate is not among them
-abbrev pub isHead : List ℕ → Bool
-isHead e = let h = headIn e in isCount (leAt 4 e 0) && done (first_of (fieldChecks h h.width h.point) (Done 0 0))
+abbrev pub is_head : List ℕ → Bool
+is_head e = let h = head_in e in is_count (le_at 4 e 0) && done (first_of (field_checks h h.width h.point) (Done 0 0))
 
 -- an entry is what some file begins with, and none of the entries es behind it has its point
-abbrev pub isOnly : List ℕ → List (List ℕ) → Bool
-isOnly e es = isHead e && not (is_held (pointBy e) es)
+abbrev pub is_only : List ℕ → List (List ℕ) → Bool
+is_only e es = is_head e && not (is_held (point_by e) es)
 
-unfoldable pub areEntries : List (List ℕ) → Bool
-areEntries [] = true
-areEntries (e ∷ es) = isOnly e es && areEntries es
+unfoldable pub are_entries : List (List ℕ) → Bool
+are_entries [] = true
+are_entries (e ∷ es) = is_only e es && are_entries es
 
-unfoldable pub allZero : List ℕ → Bool
-allZero [] = true
-allZero (c ∷ cs) = eqb c 0 && allZero cs
+unfoldable pub all_zero : List ℕ → Bool
+all_zero [] = true
+all_zero (c ∷ cs) = eqb c 0 && all_zero cs
 
 -- the entries behind the held ones
-abbrev pub unusedIn : List ℕ → List ℕ
-unusedIn b = slice (entryStart (length (entriesIn b))) totalAt b
+abbrev pub unused_in : List ℕ → List ℕ
+unused_in b = slice (entry_start (length (entries_in b))) total_at b
 
-unfoldable pub couldBe : List ℕ → Bool
-couldBe b =
-    eqb (leAt 4 b 0) most
-    && (areEntries (entriesIn b)
-    && (allZero (unusedIn b)
-    && (eqb (leAt 4 b totalAt) (totalIn b) && leb (dataAt + totalIn b) (length b))))
+unfoldable pub could_be : List ℕ → Bool
+could_be b =
+    eqb (le_at 4 b 0) most
+    && (are_entries (entries_in b)
+    && (all_zero (unused_in b)
+    && (eqb (le_at 4 b total_at) (total_in b) && leb (data_at + total_in b) (length b))))

@@ -2,8 +2,8 @@
 ghost use Rattle.std.specs.Prelude.{◌≡◌, suc, ◌≤◌, ◌<◌, length, drop};
 ghost use Rattle.std.proofs.Math.Seq.{slice};
 ghost use Rattle.base_answers.specs.Checks.{first_of};
-ghost use Rattle.book_entries.specs.Books.{most, dataAt, entry_at, entriesIn, isHead, isOnly, areEntries, allZero, couldBe};
-ghost use Rattle.book_entries.specs.Checks.{Book, spaceChecks, bookChecks, wholeChecks, roomChecks, heldChecks, sayAdd};
+ghost use Rattle.book_entries.specs.Books.{most, data_at, entry_at, entries_in, is_head, is_only, are_entries, all_zero, could_be};
+ghost use Rattle.book_entries.specs.Checks.{Book, space_checks, book_checks, whole_checks, room_checks, held_checks, say_add};
 
 use crate::directory::{DATA_AT, ENTRY_SIZE, MOST, TOTAL_AT, entry, held, slot_of, total_of};
 use base_answers::err::{Refusal, is_done, numbers};
@@ -16,8 +16,8 @@ const MOST_AREA: usize = 4294967295;
 
 // Whether a file can begin with entry i.
 fn is_head(b: &[u8], i: usize) -> bool
-    requires { (i < most) × (dataAt ≤ length b.now) }
-    ensures { result ≡ isHead (entry_at b.now i) }
+    requires { (i < most) × (data_at ≤ length b.now) }
+    ensures { result ≡ is_head (entry_at b.now i) }
 {
     let count = read_u32(b, 4 + ENTRY_SIZE * i) as usize;
     if !is_count(count) {
@@ -29,8 +29,8 @@ fn is_head(b: &[u8], i: usize) -> bool
 
 // Whether entry i can begin a file, and no entry behind it, of the h that are held, has its point.
 fn is_only(b: &[u8], i: usize, h: usize) -> bool
-    requires { (i < h) × (h ≡ length (entriesIn b.now)) × (dataAt ≤ length b.now) }
-    ensures { result ≡ isOnly (entry_at b.now i) (drop (suc i) (entriesIn b.now)) }
+    requires { (i < h) × (h ≡ length (entries_in b.now)) × (data_at ≤ length b.now) }
+    ensures { result ≡ is_only (entry_at b.now i) (drop (suc i) (entries_in b.now)) }
 {
     if !is_head(b, i) {
         return false;
@@ -39,8 +39,8 @@ fn is_only(b: &[u8], i: usize, h: usize) -> bool
 }
 
 fn are_entries(b: &[u8], h: usize) -> bool
-    requires { (h ≡ length (entriesIn b.now)) × (dataAt ≤ length b.now) }
-    ensures { result ≡ areEntries (entriesIn b.now) }
+    requires { (h ≡ length (entries_in b.now)) × (data_at ≤ length b.now) }
+    ensures { result ≡ are_entries (entries_in b.now) }
 {
     let mut i = 0;
     while i < h {
@@ -54,7 +54,7 @@ fn are_entries(b: &[u8], h: usize) -> bool
 
 fn all_zero(b: &[u8], from: usize, to: usize) -> bool
     requires { (from ≤ to) × (to ≤ length b.now) }
-    ensures { result ≡ allZero (slice from to b.now) }
+    ensures { result ≡ all_zero (slice from to b.now) }
 {
     let mut i = from;
     while i < to {
@@ -68,8 +68,8 @@ fn all_zero(b: &[u8], from: usize, to: usize) -> bool
 
 // Whether calls can have left this directory and these counts. The data is not looked at.
 fn could_be(b: &[u8]) -> bool
-    requires { dataAt ≤ length b.now }
-    ensures { result ≡ couldBe b.now }
+    requires { data_at ≤ length b.now }
+    ensures { result ≡ could_be b.now }
 {
     if read_u32(b, 0) as usize != MOST {
         return false;
@@ -90,7 +90,7 @@ fn could_be(b: &[u8]) -> bool
 
 // An area of n bytes.
 pub fn check_space(n: usize) -> Refusal
-    ensures { result ≡ first_of (spaceChecks n) (Refusal.Done 0 0) }
+    ensures { result ≡ first_of (space_checks n) (Refusal.Done 0 0) }
 {
     if MOST_AREA < n {
         return Refusal::TooLong;
@@ -103,7 +103,7 @@ pub fn check_space(n: usize) -> Refusal
 
 // A book, in an area that has room for one.
 pub fn check_book(b: &[u8]) -> Refusal
-    ensures { result ≡ first_of (bookChecks b.now) (Refusal.Done 0 0) }
+    ensures { result ≡ first_of (book_checks b.now) (Refusal.Done 0 0) }
 {
     let space = check_space(b.len());
     if !is_done(space) {
@@ -117,7 +117,7 @@ pub fn check_book(b: &[u8]) -> Refusal
 
 // A book that holds point p.
 pub fn check_held(b: &[u8], p: usize) -> Refusal
-    ensures { result ≡ first_of (heldChecks b.now p) (Refusal.Done 0 0) }
+    ensures { result ≡ first_of (held_checks b.now p) (Refusal.Done 0 0) }
 {
     let book = check_book(b);
     if !is_done(book) {
@@ -132,7 +132,7 @@ pub fn check_held(b: &[u8], p: usize) -> Refusal
 
 // A whole file for point p: only a whole one gives level 0.
 fn check_whole_file(s: &[u8], p: usize) -> Refusal
-    ensures { result ≡ first_of (wholeChecks s.now p) (Refusal.Done 0 0) }
+    ensures { result ≡ first_of (whole_checks s.now p) (Refusal.Done 0 0) }
 {
     let file = check_file(s, own_width(s), p);
     if !is_done(file) {
@@ -147,7 +147,7 @@ fn check_whole_file(s: &[u8], p: usize) -> Refusal
 // Room for a file of n bytes for point p, in a book.
 fn check_room(b: &[u8], p: usize, n: usize) -> Refusal
     requires { Book b.now }
-    ensures { result ≡ first_of (roomChecks b.now p n) (Refusal.Done 0 0) }
+    ensures { result ≡ first_of (room_checks b.now p n) (Refusal.Done 0 0) }
 {
     let h = held(b);
     if slot_of(b, p, 0, h) < h {
@@ -164,7 +164,7 @@ fn check_room(b: &[u8], p: usize, n: usize) -> Refusal
 
 // What adding says.
 pub fn check_add(b: &[u8], s: &[u8], p: usize) -> Refusal
-    ensures { result ≡ sayAdd b.now p s.now }
+    ensures { result ≡ say_add b.now p s.now }
 {
     let book = check_book(b);
     if !is_done(book) {

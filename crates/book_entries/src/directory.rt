@@ -1,7 +1,7 @@
 // The directory of a book, read: its entries, and where their files stand in the data.
 ghost use Rattle.std.specs.Prelude.{◌≡◌, ◌+◌, ◌*◌, ◌≤◌, ◌<◌, length, drop};
-ghost use Rattle.file_open.specs.Opens.{headIn, Read};
-ghost use Rattle.book_entries.specs.Books.{mostSize, most, dataAt, sizeBy, entry_at, entriesIn, slotOf, placeAt};
+ghost use Rattle.file_open.specs.Opens.{head_in, Read};
+ghost use Rattle.book_entries.specs.Books.{most_size, most, data_at, size_by, entry_at, entries_in, slot_of, place_at};
 
 use base_samples::le::read_u32;
 use file_open::head::{COMMON_SIZE, Head, head_in};
@@ -18,8 +18,8 @@ pub const DATA_AT: usize = TOTAL_AT + 4;
 
 // What entry i says.
 pub fn entry(b: &[u8], i: usize) -> Head
-    requires { (i < most) × (dataAt ≤ length b.now) }
-    ensures value { result ≡ headIn (entry_at b.now i) }
+    requires { (i < most) × (data_at ≤ length b.now) }
+    ensures value { result ≡ head_in (entry_at b.now i) }
     ensures read { Read result }
 {
     let at = 4 + ENTRY_SIZE * i;
@@ -29,9 +29,9 @@ pub fn entry(b: &[u8], i: usize) -> Head
 
 // The bytes of its file.
 pub fn size_at(b: &[u8], i: usize) -> usize
-    requires { (i < most) × (dataAt ≤ length b.now) }
-    ensures value { result ≡ sizeBy (entry_at b.now i) }
-    ensures upper_bound { result ≤ mostSize }
+    requires { (i < most) × (data_at ≤ length b.now) }
+    ensures value { result ≡ size_by (entry_at b.now i) }
+    ensures upper_bound { result ≤ most_size }
 {
     let h = entry(b, i);
     h.body + (4 * (h.levels + 1) + h.width * h.samples)
@@ -39,8 +39,8 @@ pub fn size_at(b: &[u8], i: usize) -> usize
 
 // How many entries are held: those before the first that is not used.
 pub fn held(b: &[u8]) -> usize
-    requires { dataAt ≤ length b.now }
-    ensures { result ≡ length (entriesIn b.now) }
+    requires { data_at ≤ length b.now }
+    ensures { result ≡ length (entries_in b.now) }
 {
     let mut i = 0;
     while i < MOST {
@@ -54,9 +54,9 @@ pub fn held(b: &[u8]) -> usize
 
 // The bytes of the files of the first i entries.
 pub fn total_of(b: &[u8], i: usize) -> usize
-    requires { (i ≤ length (entriesIn b.now)) × (dataAt ≤ length b.now) }
-    ensures value { result ≡ placeAt i (entriesIn b.now) }
-    ensures upper_bound { result ≤ mostSize * most }
+    requires { (i ≤ length (entries_in b.now)) × (data_at ≤ length b.now) }
+    ensures value { result ≡ place_at i (entries_in b.now) }
+    ensures upper_bound { result ≤ most_size * most }
 {
     let mut total = 0;
     let mut j = 0;
@@ -69,8 +69,8 @@ pub fn total_of(b: &[u8], i: usize) -> usize
 
 // The entry of point p, of h that are held, from entry `from` on; h where it has none.
 pub fn slot_of(b: &[u8], p: usize, from: usize, h: usize) -> usize
-    requires { (from ≤ h) × (h ≡ length (entriesIn b.now)) × (dataAt ≤ length b.now) }
-    ensures { result ≡ from + slotOf p (drop from (entriesIn b.now)) }
+    requires { (from ≤ h) × (h ≡ length (entries_in b.now)) × (data_at ≤ length b.now) }
+    ensures { result ≡ from + slot_of p (drop from (entries_in b.now)) }
 {
     let mut i = from;
     while i < h {

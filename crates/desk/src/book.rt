@@ -1,7 +1,7 @@
 // The route book's calls.
 ghost use Rattle.std.specs.Prelude.{◌≡◌};
 ghost use Rattle.base_answers.specs.Answers.{answer_of};
-ghost use Rattle.book_entries.specs.Checks.{sayFind, sayRoom};
+ghost use Rattle.book_entries.specs.Checks.{say_find, say_room};
 ghost use Rattle.book_calls.specs.Calls.{Fresh, Add, Withdraw};
 
 use base_answers::err::Answer;
@@ -24,7 +24,7 @@ pub extern "C" fn bk_book_add(area: &mut [u8], file: &[u8], point: u32) -> Answe
 // Where the file of a point stands, from the area's first byte on, and how long it is.
 #[unsafe(no_mangle)]
 pub extern "C" fn bk_book_find(area: &[u8], point: u32) -> Answer
-    ensures { result ≡ answer_of (sayFind area.now point) }
+    ensures { result ≡ answer_of (say_find area.now point) }
 {
     find(area, point as usize)
 }
@@ -39,7 +39,7 @@ pub extern "C" fn bk_book_withdraw(area: &mut [u8], point: u32) -> Answer
 // The free room in bytes, and how many points are held.
 #[unsafe(no_mangle)]
 pub extern "C" fn bk_book_room(area: &[u8]) -> Answer
-    ensures { result ≡ answer_of (sayRoom area.now) }
+    ensures { result ≡ answer_of (say_room area.now) }
 {
     room(area)
 }

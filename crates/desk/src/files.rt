@@ -2,10 +2,10 @@
 ghost use Rattle.std.specs.Prelude.{◌≡◌};
 ghost use Rattle.base_answers.specs.Answers.{answer_of};
 ghost use Rattle.file_open.specs.Writes.{Write};
-ghost use Rattle.file_open.specs.Opens.{OpenGives, saySection};
-ghost use Rattle.file_head.specs.Heads.{Told, saySize};
+ghost use Rattle.file_open.specs.Opens.{OpenGives, say_section};
+ghost use Rattle.file_head.specs.Heads.{Told, say_size};
 ghost use Rattle.file_sample.specs.Peeks.{Peek};
-ghost use Rattle.file_why.specs.Reasons.{reasonOf};
+ghost use Rattle.file_why.specs.Reasons.{reason_of};
 
 use base_answers::err::Answer;
 use file_head::{HeadAnswer, head, size};
@@ -83,7 +83,7 @@ pub extern "C" fn bk_pyramid_open(
 // Why a file does not open, or opens cut: the opener's number, and the section, the place, what is wanted there and what is found.
 #[unsafe(no_mangle)]
 pub extern "C" fn bk_pyramid_why(file: &[u8], width: u32, point: u32) -> Reason
-    ensures { result ≡ reasonOf file.now width point }
+    ensures { result ≡ reason_of file.now width point }
 {
     why(file, width as usize, point as usize)
 }
@@ -99,7 +99,7 @@ pub extern "C" fn bk_pyramid_sample(file: &[u8], width: u32, point: u32, place: 
 // Where a section starts after its count, and how long it is: a part of the caller's own file.
 #[unsafe(no_mangle)]
 pub extern "C" fn bk_pyramid_section(file: &[u8], width: u32, point: u32, number: u32) -> Answer
-    ensures { result ≡ answer_of (saySection file.now width point number) }
+    ensures { result ≡ answer_of (say_section file.now width point number) }
 {
     section_answer(file, width as usize, point as usize, number as usize)
 }
@@ -113,7 +113,7 @@ pub extern "C" fn bk_pyramid_head(file: &[u8]) -> HeadAnswer
 
 #[unsafe(no_mangle)]
 pub extern "C" fn bk_pyramid_size(width: u32, n: u64, levels: u32) -> Answer
-    ensures { result ≡ answer_of (saySize width n levels) }
+    ensures { result ≡ answer_of (say_size width n levels) }
 {
     size(width as usize, n as usize, levels as usize)
 }

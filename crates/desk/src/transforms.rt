@@ -1,7 +1,7 @@
 // Depths, one level, and many levels, forward and back, of every filter.
 ghost use Rattle.std.specs.Prelude.{◌≡◌};
 ghost use Rattle.base_answers.specs.Answers.{answer_of};
-ghost use Rattle.base_lengths.specs.Levels.{sayDepth};
+ghost use Rattle.base_lengths.specs.Levels.{say_depth};
 ghost use Rattle.levels_filter.specs.Calls.{OneForward, OneInverse, Multi, Dwt};
 ghost use Rattle.levels_filter.specs.Backward.{MultiBack};
 
@@ -14,14 +14,14 @@ use levels_last::last::dwt;
 
 #[unsafe(no_mangle)]
 pub extern "C" fn bk_cdf53_depth(n: u64) -> Answer
-    ensures { result ≡ answer_of (sayDepth Wavelet.Cdf53 n) }
+    ensures { result ≡ answer_of (say_depth Wavelet.Cdf53 n) }
 {
     ask_depth(Wavelet::Cdf53, n as usize)
 }
 
 #[unsafe(no_mangle)]
 pub extern "C" fn bk_cdf97_depth(n: u64) -> Answer
-    ensures { result ≡ answer_of (sayDepth Wavelet.Cdf97 n) }
+    ensures { result ≡ answer_of (say_depth Wavelet.Cdf97 n) }
 {
     ask_depth(Wavelet::Cdf97, n as usize)
 }

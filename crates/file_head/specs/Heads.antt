@@ -4,28 +4,28 @@ use Rattle.base_answers.specs.declared.err.Refusal.{Refusal}
 use Rattle.base_answers.specs.declared.err.Refusal.TheVariants.{Done, OtherWidth}
 use Rattle.base_answers.specs.Answers.{answer_of, done}
 use Rattle.base_answers.specs.Checks.{first_of}
-use Rattle.base_lengths.specs.Levels.{levelsOf}
-use Rattle.base_samples.specs.Integers.{isWidth}
-use Rattle.levels_filter.specs.Calls.{depthChecks}
-use Rattle.file_open.specs.Files.{newSize, fileSize}
-use Rattle.file_open.specs.Opens.{headIn, rateIn, filterOf, startChecks}
+use Rattle.base_lengths.specs.Levels.{levels_of}
+use Rattle.base_samples.specs.Integers.{is_width}
+use Rattle.levels_filter.specs.Calls.{depth_checks}
+use Rattle.file_open.specs.Files.{new_size, file_size}
+use Rattle.file_open.specs.Opens.{head_in, rate_in, filter_of, start_checks}
 use Rattle.file_head.specs.declared.HeadAnswer.{HeadAnswer}
 
 -- "6, 10 (under 4), 9, 10 (section 0 not whole), never 18": what opening tests before the width
-unfoldable pub sayHead : List ℕ → Refusal
-sayHead s = first_of (startChecks s) (Done 0 0)
+unfoldable pub say_head : List ℕ → Refusal
+say_head s = first_of (start_checks s) (Done 0 0)
 
 -- "when refused the fields are 0"
-abbrev pub toldOf : List ℕ → ℕ → ℕ
-toldOf s n = cond (done (sayHead s)) n 0
+abbrev pub told_of : List ℕ → ℕ → ℕ
+told_of s n = cond (done (say_head s)) n 0
 
 pub record Told (s : List ℕ) (r : HeadAnswer) : Type 0 where
-  pub answer : r.answer ≡ answer_of (sayHead s)
-  pub width : r.width ≡ toldOf s (headIn s).width
-  pub levels : r.levels ≡ toldOf s (headIn s).levels
-  pub samples : r.samples ≡ toldOf s (headIn s).samples
-  pub point : r.point ≡ toldOf s (headIn s).point
-  pub rate : r.rate ≡ toldOf s (rateIn s)
+  pub answer : r.answer ≡ answer_of (say_head s)
+  pub width : r.width ≡ told_of s (head_in s).width
+  pub levels : r.levels ≡ told_of s (head_in s).levels
+  pub samples : r.samples ≡ told_of s (head_in s).samples
+  pub point : r.point ≡ told_of s (head_in s).point
+  pub rate : r.rate ≡ told_of s (rate_in s)
 
 -- an answer t tells k bytes a sample, l levels, n samples, point p and rate r
 pub record Tells (t : HeadAnswer) (k l n p r : ℕ) : Type 0 where
@@ -36,5 +36,5 @@ pub record Tells (t : HeadAnswer) (k l n p r : ℕ) : Type 0 where
   pub rate : t.rate ≡ r
 
 -- "first is the file's size in bytes; refusals as writing's for that n and levels, and 8 (0, width) first where the width is not 1, 2 or 4"
-unfoldable pub saySize : ℕ → ℕ → ℕ → Refusal
-saySize w n l = first_of ((not (isWidth w), OtherWidth 0 w) ∷ depthChecks (filterOf w) l n) (Done (fileSize newSize w (levelsOf l) n) 0)
+unfoldable pub say_size : ℕ → ℕ → ℕ → Refusal
+say_size w n l = first_of ((not (is_width w), OtherWidth 0 w) ∷ depth_checks (filter_of w) l n) (Done (file_size new_size w (levels_of l) n) 0)

@@ -1,7 +1,7 @@
 // What a pyramid file says of itself, and how many bytes one will have.
 ghost use Rattle.std.specs.Prelude.{◌≡◌};
 ghost use Rattle.base_answers.specs.Answers.{answer_of};
-ghost use Rattle.file_head.specs.Heads.{saySize, Told};
+ghost use Rattle.file_head.specs.Heads.{say_size, Told};
 
 use base_answers::err::{Answer, Refusal, is_done, numbers};
 use base_lengths::at_least_one;
@@ -51,7 +51,7 @@ pub fn head(s: &[u8]) -> HeadAnswer
 
 // How many bytes the file of n samples of w bytes will have, or what writing it is refused with for n and the levels.
 pub fn size(w: usize, n: usize, levels: usize) -> Answer
-    ensures { result ≡ answer_of (saySize w n levels) }
+    ensures { result ≡ answer_of (say_size w n levels) }
 {
     if !is_width(w) {
         return numbers(Refusal::OtherWidth(0, w));

@@ -17,30 +17,30 @@ use Rattle.base_answers.proofs.Chain.{same}
 use Rattle.base_answers.proofs.Endings.{call-decides}
 use Rattle.base_answers.proofs.Passed.{off, Refusing, Passing, passing, both-refuse, both-pass, whole, roomy, right, through, pass_on, stop-there}
 use Rattle.base_lengths.specs.declared.Wavelet.TheVariants.{Cdf53}
-use Rattle.base_lengths.specs.Lengths.{mostSamples, approxLength}
-use Rattle.base_lengths.specs.Levels.{afterLevels, countAt, depth_of}
+use Rattle.base_lengths.specs.Lengths.{most_samples, approx_length}
+use Rattle.base_lengths.specs.Levels.{after_levels, count_at, depth_of}
 use Rattle.base_lengths.proofs.Counts.{after_last, count-at-le}
 use Rattle.base_lengths.proofs.Depths.{depth-rest}
-use Rattle.base_samples.specs.Le.{leAt}
-use Rattle.base_samples.specs.Integers.{isWidth}
+use Rattle.base_samples.specs.Le.{le_at}
+use Rattle.base_samples.specs.Integers.{is_width}
 use Rattle.base_samples.proofs.IntegerLaws.{width-of}
 use Rattle.levels_filter.specs.declared.filter.Filter.TheVariants.{Cdf53I8, Cdf53I16, Cdf53I32}
 use Rattle.levels_filter.specs.Filters.{width_of, Integers}
 use Rattle.file_open.specs.declared.open.OpenAnswer.{OpenAnswer}
 use Rattle.file_open.specs.declared.walk.Way.{Way}
 use Rattle.file_open.specs.declared.walk.Way.TheVariants.{Went, Short, Wrong}
-use Rattle.file_open.specs.Files.{oldCount, newCount, isCount, commonSize, bodySize}
+use Rattle.file_open.specs.Files.{old_count, new_count, is_count, common_size, body_size}
 use Rattle.file_open.specs.Walks.{walk_of}
-use Rattle.file_open.specs.Opens.{filterOf, headIn, startChecks, fieldChecks, rateChecks, headChecks, wayIn, wayChecks, wholeDetails, levelIn, countIn, areaChecks, WholeAreas, rooms_for, sayOpen, fileChecks, sayFile, rateIn, rateOpened, OpenGives}
+use Rattle.file_open.specs.Opens.{filter_of, head_in, start_checks, field_checks, rate_checks, head_checks, way_in, way_checks, whole_details, level_in, count_in, area_checks, WholeAreas, rooms_for, say_open, file_checks, say_file, rate_in, rate_opened, OpenGives}
 use Rattle.file_open.proofs.Ways.{walk-size, walk-stops}
 
 -- the integer filter of a width has that width
-pub filter-width : (w : ℕ) → isWidth w ≡ true → width_of (filterOf w) ≡ w
+pub filter-width : (w : ℕ) → is_width w ≡ true → width_of (filter_of w) ≡ w
 filter-width w h =
     ⊎_elim (λ (e : w ≡ 1). rw e refl) (⊎_elim (λ (e : w ≡ 2). rw e refl) (λ (e : w ≡ 4). rw e refl)) (width-of w h).which
 
 -- and is one of integers, whatever the width
-pub filter-integers : (w : ℕ) → Integers (filterOf w)
+pub filter-integers : (w : ℕ) → Integers (filter_of w)
 filter-integers w = pick (eqb w 1) (eqb w 2)
   where
     pick : (a b : Bool) → Integers (cond a Cdf53I8 (cond b Cdf53I16 Cdf53I32))
@@ -49,50 +49,50 @@ filter-integers w = pick (eqb w 1) (eqb w 2)
     pick false false = tt
 
 -- the two counts of section 0
-pub which-count : (c : ℕ) → isCount c ≡ true → (c ≡ oldCount) ⊎ (c ≡ newCount)
-which-count c = pick (eqb c oldCount) (eqb c newCount) refl refl
+pub which-count : (c : ℕ) → is_count c ≡ true → (c ≡ old_count) ⊎ (c ≡ new_count)
+which-count c = pick (eqb c old_count) (eqb c new_count) refl refl
   where
-    pick : (a b : Bool) → eqb c oldCount ≡ a → eqb c newCount ≡ b → (a || b) ≡ true → (c ≡ oldCount) ⊎ (c ≡ newCount)
-    pick true b ea eb h = inl (eqb-true c oldCount ea)
-    pick false true ea eb h = inr (eqb-true c newCount eb)
+    pick : (a b : Bool) → eqb c old_count ≡ a → eqb c new_count ≡ b → (a || b) ≡ true → (c ≡ old_count) ⊎ (c ≡ new_count)
+    pick true b ea eb h = inl (eqb-true c old_count ea)
+    pick false true ea eb h = inr (eqb-true c new_count eb)
     pick false false ea eb h = off refl h
 
 -- what section 0 tells when its checks pass
 pub record Headed (s : List ℕ) (w : ℕ) : Type 0 where
-  pub common : commonSize ≤ length s
-  pub there : (headIn s).body ≤ length s
-  pub width : (headIn s).width ≡ w
-  pub known : isWidth w ≡ true
-  pub short : (headIn s).samples ≤ mostSamples
-  pub deep : (headIn s).levels ≤ depth_of Cdf53 (headIn s).samples
+  pub common : common_size ≤ length s
+  pub there : (head_in s).body ≤ length s
+  pub width : (head_in s).width ≡ w
+  pub known : is_width w ≡ true
+  pub short : (head_in s).samples ≤ most_samples
+  pub deep : (head_in s).levels ≤ depth_of Cdf53 (head_in s).samples
 
 -- once the start has passed, section 0 is there, of one of the two kinds
-pub start-refuses : (s : List ℕ) → Refusing (startChecks s)
+pub start-refuses : (s : List ℕ) → Refusing (start_checks s)
 start-refuses s = (refl, (refl, (refl, (refl, tt))))
 
-pub start-count : (s : List ℕ) → Passing (startChecks s) → isCount (leAt 4 s 0) ≡ true
-start-count s q = not-false (isCount (leAt 4 s 0)) q.1.1.0
+pub start-count : (s : List ℕ) → Passing (start_checks s) → is_count (le_at 4 s 0) ≡ true
+start-count s q = not-false (is_count (le_at 4 s 0)) q.1.1.0
 
-pub start-passes : (s : List ℕ) → Passing (startChecks s) → (commonSize ≤ length s) × ((headIn s).body ≤ length s)
+pub start-passes : (s : List ℕ) → Passing (start_checks s) → (common_size ≤ length s) × ((head_in s).body ≤ length s)
 start-passes s q =
-    let there = roomy (length s) (headIn s).body q.1.1.1.0 in
-    (⊎_elim (λ (e : leAt 4 s 0 ≡ oldCount). omega arith) (λ (e : leAt 4 s 0 ≡ newCount). omega arith) (which-count (leAt 4 s 0) (start-count s q)), there)
+    let there = roomy (length s) (head_in s).body q.1.1.1.0 in
+    (⊎_elim (λ (e : le_at 4 s 0 ≡ old_count). omega arith) (λ (e : le_at 4 s 0 ≡ new_count). omega arith) (which-count (le_at 4 s 0) (start-count s q)), there)
 
-pub fields-refuse : (s : List ℕ) (w p : ℕ) → Refusing (fieldChecks (headIn s) w p)
+pub fields-refuse : (s : List ℕ) (w p : ℕ) → Refusing (field_checks (head_in s) w p)
 fields-refuse s w p = (refl, (refl, (refl, (refl, (refl, (refl, (refl, tt)))))))
 
-pub head-refuses : (s : List ℕ) (w p : ℕ) → Refusing (headChecks s w p)
+pub head-refuses : (s : List ℕ) (w p : ℕ) → Refusing (head_checks s w p)
 head-refuses s w p =
-    both-refuse (startChecks s) (fieldChecks (headIn s) w p ++ rateChecks s) (start-refuses s) (both-refuse (fieldChecks (headIn s) w p) (rateChecks s) (fields-refuse s w p) (refl, tt))
+    both-refuse (start_checks s) (field_checks (head_in s) w p ++ rate_checks s) (start-refuses s) (both-refuse (field_checks (head_in s) w p) (rate_checks s) (fields-refuse s w p) (refl, tt))
 
 -- what the three parts of the list have passed
-pub head-parts : (s : List ℕ) (w p : ℕ) → Passing (headChecks s w p) → Passing (startChecks s) × Passing (fieldChecks (headIn s) w p) × Passing (rateChecks s)
+pub head-parts : (s : List ℕ) (w p : ℕ) → Passing (head_checks s w p) → Passing (start_checks s) × Passing (field_checks (head_in s) w p) × Passing (rate_checks s)
 head-parts s w p q =
-    let b = both-pass (startChecks s) (fieldChecks (headIn s) w p ++ rateChecks s) q in
-    let c = both-pass (fieldChecks (headIn s) w p) (rateChecks s) b.1 in
+    let b = both-pass (start_checks s) (field_checks (head_in s) w p ++ rate_checks s) q in
+    let c = both-pass (field_checks (head_in s) w p) (rate_checks s) b.1 in
     (b.0, c.0, c.1)
 
-pub head-passes : (s : List ℕ) (w p : ℕ) → Passing (headChecks s w p) → Headed s w
+pub head-passes : (s : List ℕ) (w p : ℕ) → Passing (head_checks s w p) → Headed s w
 head-passes s w p q =
     let b = head-parts s w p q in
     let f = b.1 in
@@ -100,21 +100,21 @@ head-passes s w p q =
     record {
       common = there.0;
       there = there.1;
-      width = right (headIn s).width w f.0;
-      known = not-false (isWidth w) f.1.0;
-      short = roomy mostSamples (headIn s).samples f.1.1.1.0;
-      deep = roomy (depth_of Cdf53 (headIn s).samples) (headIn s).levels f.1.1.1.1.1.0;
+      width = right (head_in s).width w f.0;
+      known = not-false (is_width w) f.1.0;
+      short = roomy most_samples (head_in s).samples f.1.1.1.0;
+      deep = roomy (depth_of Cdf53 (head_in s).samples) (head_in s).levels f.1.1.1.1.1.0;
     }
 
 -- the way passes: the detail sections that are whole are some of all, and they and section 1 are in the file
-pub way-refuses : (v : Way) (b : ℕ) → Refusing (wayChecks v b)
+pub way-refuses : (v : Way) (b : ℕ) → Refusing (way_checks v b)
 way-refuses (Went p) b = (refl, tt)
 way-refuses (Short j) b = (refl, tt)
 way-refuses (Wrong j found) b = (refl, tt)
 
-pub way-passes : (s : List ℕ) (k l n at : ℕ) (v : Way) → v ≡ walk_of s k l n at → at ≤ length s → Passing (wayChecks v (length s))
-    → let m = wholeDetails v l in (m ≤ l) × (at + bodySize k m (countAt (l - m) n) ≤ length s)
-unfolding afterLevels
+pub way-passes : (s : List ℕ) (k l n at : ℕ) (v : Way) → v ≡ walk_of s k l n at → at ≤ length s → Passing (way_checks v (length s))
+    → let m = whole_details v l in (m ≤ l) × (at + body_size k m (count_at (l - m) n) ≤ length s)
+unfolding after_levels
 way-passes s k l n at (Went p) e h q =
     let i = walk-size l s k n at p h (sym e) in
     let z : l - l ≡ 0 = omega arith in
@@ -122,9 +122,9 @@ way-passes s k l n at (Went p) e h q =
 way-passes s k l n at (Short j) e h q =
     let i = walk-stops l s k n at j (Short j) h (sym e) refl in
     let two : 2 ≤ j = omega (arith, i.some, eqb-false j 1 q.0) in
-    let z = walk-size (j - 2) s k (approxLength (countAt (l + 1 - j) n)) at _ h (i.before two) in
+    let z = walk-size (j - 2) s k (approx_length (count_at (l + 1 - j) n)) at _ h (i.before two) in
     let a : l - (j - 2) ≡ suc (l + 1 - j) = omega (arith, i.most, two) in
-    let up : countAt (l - (j - 2)) n ≡ approxLength (countAt (l + 1 - j) n) = ap (λ d. countAt d n) a ∙ after_last approxLength (l + 1 - j) n in
+    let up : count_at (l - (j - 2)) n ≡ approx_length (count_at (l + 1 - j) n) = ap (λ d. count_at d n) a ∙ after_last approx_length (l + 1 - j) n in
     (omega (arith, i.most, two), rw up (omega (arith, z)))
 way-passes s k l n at (Wrong j found) e h q = absurd (let z : ◌≡◌ {A = ℕ} 0 1 = ap (λ b. cond b 0 1) q.0 in omega arith)
 
@@ -133,32 +133,32 @@ way-passes s k l n at (Wrong j found) e h q = absurd (let z : ◌≡◌ {A = ℕ
 -- what its checks leave: section 0, and that the detail sections which are whole can be restored
 pub record Restorable (s : List ℕ) (w : ℕ) : Type 0 where
   pub head : Headed s w
-  pub some : wholeDetails (wayIn s (headIn s)) (headIn s).levels ≤ (headIn s).levels
-  pub deep : wholeDetails (wayIn s (headIn s)) (headIn s).levels ≤ depth_of Cdf53 (countIn s)
-  pub short : countIn s ≤ mostSamples
-  pub held : (headIn s).body + bodySize w (wholeDetails (wayIn s (headIn s)) (headIn s).levels) (countIn s) ≤ length s
+  pub some : whole_details (way_in s (head_in s)) (head_in s).levels ≤ (head_in s).levels
+  pub deep : whole_details (way_in s (head_in s)) (head_in s).levels ≤ depth_of Cdf53 (count_in s)
+  pub short : count_in s ≤ most_samples
+  pub held : (head_in s).body + body_size w (whole_details (way_in s (head_in s)) (head_in s).levels) (count_in s) ≤ length s
 
 module _ (s : List ℕ) (w p : ℕ) where
-  pub file-refuses : Refusing (fileChecks s w p)
-  file-refuses = both-refuse (headChecks s w p) (wayChecks (wayIn s (headIn s)) (length s)) (head-refuses s w p) (way-refuses (wayIn s (headIn s)) (length s))
+  pub file-refuses : Refusing (file_checks s w p)
+  file-refuses = both-refuse (head_checks s w p) (way_checks (way_in s (head_in s)) (length s)) (head-refuses s w p) (way-refuses (way_in s (head_in s)) (length s))
 
-  file-passes : done (sayFile s w p) ≡ true → Passing (fileChecks s w p)
-  unfolding sayFile
-  file-passes h = passing (fileChecks s w p) (Done (levelIn s) (countIn s)) file-refuses h
+  file-passes : done (say_file s w p) ≡ true → Passing (file_checks s w p)
+  unfolding say_file
+  file-passes h = passing (file_checks s w p) (Done (level_in s) (count_in s)) file-refuses h
 
   -- a file that is taken: what is said of it, what is known of it, and that the rest of a list decides
-  pub file-says : done (sayFile s w p) ≡ true → sayFile s w p ≡ Done (levelIn s) (countIn s)
-  unfolding sayFile
-  file-says h = through (fileChecks s w p) (Done (levelIn s) (countIn s)) (file-passes h)
+  pub file-says : done (say_file s w p) ≡ true → say_file s w p ≡ Done (level_in s) (count_in s)
+  unfolding say_file
+  file-says h = through (file_checks s w p) (Done (level_in s) (count_in s)) (file-passes h)
 
-  pub restorable : Passing (fileChecks s w p) → Restorable s w
+  pub restorable : Passing (file_checks s w p) → Restorable s w
   restorable q =
-      let qw = both-pass (headChecks s w p) (wayChecks (wayIn s (headIn s)) (length s)) q in
+      let qw = both-pass (head_checks s w p) (way_checks (way_in s (head_in s)) (length s)) q in
       let hd = head-passes s w p qw.0 in
-      let l = (headIn s).levels in
-      let n = (headIn s).samples in
-      let m = wholeDetails (wayIn s (headIn s)) l in
-      let wy = way-passes s (headIn s).width l n (headIn s).body (wayIn s (headIn s)) refl hd.there qw.1 in
+      let l = (head_in s).levels in
+      let n = (head_in s).samples in
+      let m = whole_details (way_in s (head_in s)) l in
+      let wy = way-passes s (head_in s).width l n (head_in s).body (way_in s (head_in s)) refl hd.there qw.1 in
       let left : l - (l - m) ≡ m = omega (arith, wy.0) in
       let dp = depth-rest Cdf53 (l - m) l n (omega arith) hd.deep in
       record {
@@ -166,35 +166,35 @@ module _ (s : List ℕ) (w p : ℕ) where
         some = wy.0;
         deep = omega (arith, left, dp);
         short = omega (arith, count-at-le (l - m) n, hd.short);
-        held = omega (arith, ap (λ (j : ℕ). bodySize j m (countIn s)) hd.width, wy.1);
+        held = omega (arith, ap (λ (j : ℕ). body_size j m (count_in s)) hd.width, wy.1);
       }
 
-  pub file-restorable : done (sayFile s w p) ≡ true → Restorable s w
+  pub file-restorable : done (say_file s w p) ≡ true → Restorable s w
   file-restorable h = restorable (file-passes h)
 
-  pub file-rest : (m : List Check) (e : Refusal) → done (sayFile s w p) ≡ true → first_of (fileChecks s w p ++ m) e ≡ first_of m e
-  file-rest m e h = pass_on (fileChecks s w p) m e (file-passes h)
+  pub file-rest : (m : List Check) (e : Refusal) → done (say_file s w p) ≡ true → first_of (file_checks s w p ++ m) e ≡ first_of m e
+  file-rest m e h = pass_on (file_checks s w p) m e (file-passes h)
 
   -- a file that is refused: that is what is said
-  pub file-stop : (m : List Check) (e : Refusal) → done (sayFile s w p) ≡ false → first_of (fileChecks s w p ++ m) e ≡ sayFile s w p
-  unfolding sayFile
-  file-stop m e h = stop-there (fileChecks s w p) m (Done (levelIn s) (countIn s)) e refl h
+  pub file-stop : (m : List Check) (e : Refusal) → done (say_file s w p) ≡ false → first_of (file_checks s w p ++ m) e ≡ say_file s w p
+  unfolding say_file
+  file-stop m e h = stop-there (file_checks s w p) m (Done (level_in s) (count_in s)) e refl h
 
 -- the areas and their room
-pub area-refuses : (w o u v : ℕ) → Refusing (areaChecks w o u v)
-area-refuses w o u v = pick (isWidth w)
+pub area-refuses : (w o u v : ℕ) → Refusing (area_checks w o u v)
+area-refuses w o u v = pick (is_width w)
   where
     pick : (b : Bool) → Refusing (cond b (ragged w o ∷ ragged w u ∷ ragged w v ∷ []) [])
     pick true = (refl, (refl, (refl, tt)))
     pick false = tt
 
-pub area-passes : (w o u v : ℕ) → isWidth w ≡ true → Passing (areaChecks w o u v) → (o ≡ w * (o / w)) × (u ≡ w * (u / w)) × (v ≡ w * (v / w))
+pub area-passes : (w o u v : ℕ) → is_width w ≡ true → Passing (area_checks w o u v) → (o ≡ w * (o / w)) × (u ≡ w * (u / w)) × (v ≡ w * (v / w))
 area-passes w o u v h q = let r = rw h at q in (whole w o r.0, whole w u r.1.0, whole w v r.1.1.0)
 
-pub whole-areas-pass : (w o u v : ℕ) → WholeAreas w o u v → Passing (areaChecks w o u v)
-whole-areas-pass w o u v h = pick (isWidth w) refl
+pub whole-areas-pass : (w o u v : ℕ) → WholeAreas w o u v → Passing (area_checks w o u v)
+whole-areas-pass w o u v h = pick (is_width w) refl
   where
-    pick : (b : Bool) → isWidth w ≡ b → Passing (cond b (ragged w o ∷ ragged w u ∷ ragged w v ∷ []) [])
+    pick : (b : Bool) → is_width w ≡ b → Passing (cond b (ragged w o ∷ ragged w u ∷ ragged w v ∷ []) [])
     pick true e = let a = h e in (same (o % w) 0 a.0, (same (u % w) 0 a.1, (same (v % w) 0 a.2, tt)))
     pick false e = tt
 
@@ -217,33 +217,33 @@ rooms-count w c o u v l = rooms-by w c o u v l (λ r. (answer_of r).second ≡ c
 -- what all checks leave: the levels can be restored, and there is room
 pub record Opening (s : List ℕ) (w o u v : ℕ) : Type 0 where
   pub file : Restorable s w
-  pub output : w * countIn s ≤ o
-  pub first : w * countIn s ≤ u
-  pub second : w * countIn s ≤ v
+  pub output : w * count_in s ≤ o
+  pub first : w * count_in s ≤ u
+  pub second : w * count_in s ≤ v
 
-module _ (s : List ℕ) (w p o u v : ℕ) (h : done (sayOpen s w p o u v) ≡ true) where
+module _ (s : List ℕ) (w p o u v : ℕ) (h : done (say_open s w p o u v) ≡ true) where
   abbrev areas : List Check
-  areas = areaChecks w o u v
+  areas = area_checks w o u v
 
   abbrev file : List Check
-  file = fileChecks s w p
+  file = file_checks s w p
 
   abbrev rooms : List Check
-  rooms = rooms_for w (countIn s) o u v
+  rooms = rooms_for w (count_in s) o u v
 
   -- all checks pass
   passed : Passing (areas ++ (file ++ rooms))
-  unfolding sayOpen
+  unfolding say_open
   passed =
-      passing (areas ++ (file ++ rooms)) (Done (levelIn s) (countIn s))
+      passing (areas ++ (file ++ rooms)) (Done (level_in s) (count_in s))
       (both-refuse areas (file ++ rooms) (area-refuses w o u v) (both-refuse file rooms (file-refuses s w p) (refl, (refl, (refl, tt))))) h
 
   -- so do those of the file, and those of section 0
-  pub open-file : Passing (fileChecks s w p)
+  pub open-file : Passing (file_checks s w p)
   open-file = (both-pass file rooms (both-pass areas (file ++ rooms) passed).1).0
 
-  pub open-head : Passing (headChecks s w p)
-  open-head = (both-pass (headChecks s w p) (wayChecks (wayIn s (headIn s)) (length s)) open-file).0
+  pub open-head : Passing (head_checks s w p)
+  open-head = (both-pass (head_checks s w p) (way_checks (way_in s (head_in s)) (length s)) open-file).0
 
   pub open-ready : Opening s w o u v
   open-ready =
@@ -252,34 +252,34 @@ module _ (s : List ℕ) (w p o u v : ℕ) (h : done (sayOpen s w p o u v) ≡ tr
       let room = qf.1 in
       let rs = restorable s w p qf.0 in
       let ar = area-passes w o u v rs.head.known qa.0 in
-      let lo = mul-le-mul_left w (roomy (o / w) (countIn s) room.0) in
-      let lu = mul-le-mul_left w (roomy (u / w) (countIn s) room.1.0) in
-      let lv = mul-le-mul_left w (roomy (v / w) (countIn s) room.1.1.0) in
+      let lo = mul-le-mul_left w (roomy (o / w) (count_in s) room.0) in
+      let lu = mul-le-mul_left w (roomy (u / w) (count_in s) room.1.0) in
+      let lv = mul-le-mul_left w (roomy (v / w) (count_in s) room.1.1.0) in
       record { file = rs; output = omega (arith, lo, ar.0); first = omega (arith, lu, ar.1); second = omega (arith, lv, ar.2) }
 
   -- the file is taken
-  pub open-taken : sayFile s w p ≡ Done (levelIn s) (countIn s)
-  unfolding sayFile
-  open-taken = through file (Done (levelIn s) (countIn s)) open-file
+  pub open-taken : say_file s w p ≡ Done (level_in s) (count_in s)
+  unfolding say_file
+  open-taken = through file (Done (level_in s) (count_in s)) open-file
 
   -- a call that is done says the level and the count, for which there is room
-  pub open-says : (sayOpen s w p o u v ≡ Done (levelIn s) (countIn s)) × (countIn s ≤ o / w)
-  unfolding sayOpen
+  pub open-says : (say_open s w p o u v ≡ Done (level_in s) (count_in s)) × (count_in s ≤ o / w)
+  unfolding say_open
   open-says =
       let room = (both-pass file rooms (both-pass areas (file ++ rooms) passed).1).1 in
-      (through (areas ++ (file ++ rooms)) (Done (levelIn s) (countIn s)) passed, roomy (o / w) (countIn s) room.0)
+      (through (areas ++ (file ++ rooms)) (Done (level_in s) (count_in s)) passed, roomy (o / w) (count_in s) room.0)
 
   -- and gives the file's rate
-  pub open-rate : rateOpened s w p o u v ≡ rateIn s
-  unfolding rateOpened
+  pub open-rate : rate_opened s w p o u v ≡ rate_in s
+  unfolding rate_opened
   open-rate = rw h
 
 -- a call that is refused gives 0
-pub refused-rate : (s : List ℕ) (w p o u v : ℕ) → done (sayOpen s w p o u v) ≡ false → rateOpened s w p o u v ≡ 0
-unfolding rateOpened
+pub refused-rate : (s : List ℕ) (w p o u v : ℕ) → done (say_open s w p o u v) ≡ false → rate_opened s w p o u v ≡ 0
+unfolding rate_opened
 refused-rate s w p o u v h = rw h
 
 -- two results that the statement allows are equal, the fronts of the work areas apart
 pub open-decides : {s : List ℕ} {w p : ℕ} {o u v : List ℕ} {a b : OpenAnswer} {o₁ u₁ v₁ o₂ u₂ v₂ : List ℕ} → OpenGives s w p o u v a o₁ u₁ v₁ → OpenGives s w p o u v b o₂ u₂ v₂
-    → let m = cond (done (sayOpen s w p (length o) (length u) (length v))) (w * countIn s) 0 in (a ≡ b) × (o₁ ≡ o₂) × (drop m u₁ ≡ drop m u₂) × (drop m v₁ ≡ drop m v₂)
+    → let m = cond (done (say_open s w p (length o) (length u) (length v))) (w * count_in s) 0 in (a ≡ b) × (o₁ ≡ o₂) × (drop m u₁ ≡ drop m u₂) × (drop m v₁ ≡ drop m v₂)
 open-decides g h = let c = call-decides g.call h.call in (λ i. record { answer = c.0 i; rate = (g.rate ∙ sym h.rate) i }, c.1, c.2, c.3)

@@ -19,21 +19,21 @@ use Rattle.base_answers.specs.Checks.{first_of, ragged}
 use Rattle.base_answers.proofs.Passed.{passing, roomy}
 use Rattle.base_samples.specs.Le.{le_bytes, stored}
 use Rattle.base_samples.proofs.Words.{holds}
-use Rattle.base_samples.proofs.LeLaws.{length-leBytes, length-stored, stored_is}
+use Rattle.base_samples.proofs.LeLaws.{length-le_bytes, length-stored, stored_is}
 use Rattle.base_order.proofs.Order.{lt-or-le}
-use Rattle.base_lengths.specs.Lengths.{mostSamples}
-use Rattle.base_lengths.specs.Levels.{depth_of, levelsOf}
+use Rattle.base_lengths.specs.Lengths.{most_samples}
+use Rattle.base_lengths.specs.Levels.{depth_of, levels_of}
 use Rattle.base_lengths.proofs.Depths.{depth-at-most}
 use Rattle.levels_filter.specs.declared.filter.Filter.{Filter}
 use Rattle.levels_filter.specs.declared.filter.Filter.TheVariants.{Cdf53I8, Cdf53I16, Cdf53I32, Cdf53F32, Cdf53F64, Cdf97F32, Cdf97F64}
-use Rattle.levels_filter.specs.Filters.{width_of, waveletOf, Integers}
+use Rattle.levels_filter.specs.Filters.{width_of, wavelet_of, Integers}
 use Rattle.levels_filter.specs.Calls.{Ready}
 use Rattle.levels_filter.proofs.Cuts.{width-pos}
 use Rattle.levels_filter.proofs.Integers.{common}
 use Rattle.levels_filter.proofs.Multi.{shallow-refused, checked-ready}
 use Rattle.levels_filter.proofs.Lists.{later}
-use Rattle.file_open.specs.Files.{oldCount, newCount, countBy, commonOf, rateOf, head_of, headSize, newSize, commonSize, body_of, bodySize, fileSize, fileOf}
-use Rattle.file_open.specs.Writes.{writeChecks, sayWrite}
+use Rattle.file_open.specs.Files.{old_count, new_count, count_by, common_of, rate_of, head_of, head_size, new_size, common_size, body_of, body_size, file_size, file_of}
+use Rattle.file_open.specs.Writes.{write_checks, say_write}
 
 -- ---- numbers that fit
 
@@ -68,13 +68,13 @@ lay-byte s s₀ a p n b e h q = sym (one_byte s p n b) ∙ lay-next 1 s s₀ a p
 -- the two kinds, by the rate
 pub record OldKind (r : ℕ) : Type 0 where
   pub rate : r ≡ 0
-  pub count : countBy r ≡ oldCount
-  pub behind : rateOf r ≡ []
+  pub count : count_by r ≡ old_count
+  pub behind : rate_of r ≡ []
 
 pub record NewKind (r : ℕ) : Type 0 where
   pub rate : 0 < r
-  pub count : countBy r ≡ newCount
-  pub behind : rateOf r ≡ le_bytes 4 r
+  pub count : count_by r ≡ new_count
+  pub behind : rate_of r ≡ le_bytes 4 r
 
 pub new-kind : (r : ℕ) → 0 < r → NewKind r
 new-kind r h = let e = ne_eqb r 0 (λ z. omega arith) in record { rate = h; count = rw e; behind = rw e }
@@ -82,42 +82,42 @@ new-kind r h = let e = ne_eqb r 0 (λ z. omega arith) in record { rate = h; coun
 pub either-kind : (r : ℕ) → OldKind r ⊎ NewKind r
 either-kind r = ⊎_elim (λ (h : r < 1). let z : r ≡ 0 = omega arith in inl (record { rate = z; count = rw z; behind = rw z })) (λ (h : 1 ≤ r). inr (new-kind r h)) (lt-or-le r 1)
 
-pub new-size : (r : ℕ) → 0 < r → headSize r ≡ newSize
+pub new-size : (r : ℕ) → 0 < r → head_size r ≡ new_size
 new-size r h = omega (arith, (new-kind r h).count)
 
 -- section 0 of either kind is no longer than of the new one
-pub size-most : (r : ℕ) → headSize r ≤ newSize
+pub size-most : (r : ℕ) → head_size r ≤ new_size
 size-most r = ⊎_elim (λ (o : OldKind r). omega (arith, o.count)) (λ (w : NewKind r). omega (arith, w.count)) (either-kind r)
 
 -- six numbers one after the other
-head-laid : (s : List ℕ) (w l n p r : ℕ) → w < 256 → l < 256 → newSize ≤ length s
-    → stored 4 (stored 4 (stored 4 (set (set (stored 4 s 0 newCount) 4 w) 5 l) 6 n) 10 p) 14 r ≡ (commonOf newCount w l n p ++ le_bytes 4 r) ++ drop newSize s
+head-laid : (s : List ℕ) (w l n p r : ℕ) → w < 256 → l < 256 → new_size ≤ length s
+    → stored 4 (stored 4 (stored 4 (set (set (stored 4 s 0 new_count) 4 w) 5 l) 6 n) 10 p) 14 r ≡ (common_of new_count w l n p ++ le_bytes 4 r) ++ drop new_size s
 head-laid s w l n p r hw hl h =
-    let s₁ = stored 4 s 0 newCount in
+    let s₁ = stored 4 s 0 new_count in
     let s₂ = set s₁ 4 w in
     let s₃ = set s₂ 5 l in
     let s₄ = stored 4 s₃ 6 n in
     let s₅ = stored 4 s₄ 10 p in
-    let a₁ = le_bytes 4 newCount in
+    let a₁ = le_bytes 4 new_count in
     let a₂ = a₁ ++ le_bytes 1 w in
     let a₃ = a₂ ++ le_bytes 1 l in
     let a₄ = a₃ ++ le_bytes 4 n in
     let a₅ = a₄ ++ le_bytes 4 p in
-    let n₁ = length-stored 4 s 0 newCount in
+    let n₁ = length-stored 4 s 0 new_count in
     let n₂ = length-set s₁ 4 w in
     let n₃ = length-set s₂ 5 l in
     let n₄ = length-stored 4 s₃ 6 n in
     let n₅ = length-stored 4 s₄ 10 p in
-    let m₁ = length-leBytes 4 newCount in
+    let m₁ = length-le_bytes 4 new_count in
     let m₂ = length-append a₁ (le_bytes 1 w) in
     let m₃ = length-append a₂ (le_bytes 1 l) in
     let m₄ = length-append a₃ (le_bytes 4 n) in
     let m₅ = length-append a₄ (le_bytes 4 p) in
-    let k₂ = length-leBytes 1 w in
-    let k₃ = length-leBytes 1 l in
-    let k₄ = length-leBytes 4 n in
-    let k₅ = length-leBytes 4 p in
-    let e₁ : s₁ ≡ a₁ ++ drop 4 s = lay-next 4 s s [] 0 newCount refl (omega arith) refl in
+    let k₂ = length-le_bytes 1 w in
+    let k₃ = length-le_bytes 1 l in
+    let k₄ = length-le_bytes 4 n in
+    let k₅ = length-le_bytes 4 p in
+    let e₁ : s₁ ≡ a₁ ++ drop 4 s = lay-next 4 s s [] 0 new_count refl (omega arith) refl in
     let e₂ : s₂ ≡ a₂ ++ drop 5 s = lay-byte s₁ s a₁ 4 w hw m₁ (omega arith) e₁ in
     let e₃ : s₃ ≡ a₃ ++ drop 6 s = lay-byte s₂ s a₂ 5 l hl (omega arith) (omega arith) e₂ in
     let e₄ : s₄ ≡ a₄ ++ drop 10 s = lay-next 4 s₃ s a₃ 6 n (omega arith) (omega arith) e₃ in
@@ -125,21 +125,21 @@ head-laid s w l n p r hw hl h =
     lay-next 4 s₅ s a₅ 14 r (omega arith) (omega arith) e₅ ∙ simp append_assoc
 
 -- are section 0 of the new kind
-pub new-laid : (s : List ℕ) (w l n p r : ℕ) → w < 256 → l < 256 → 0 < r → newSize ≤ length s
-    → stored 4 (stored 4 (stored 4 (set (set (stored 4 s 0 newCount) 4 w) 5 l) 6 n) 10 p) 14 r ≡ head_of w l n p r ++ drop newSize s
+pub new-laid : (s : List ℕ) (w l n p r : ℕ) → w < 256 → l < 256 → 0 < r → new_size ≤ length s
+    → stored 4 (stored 4 (stored 4 (set (set (stored 4 s 0 new_count) 4 w) 5 l) 6 n) 10 p) 14 r ≡ head_of w l n p r ++ drop new_size s
 new-laid s w l n p r hw hl hr h =
     let k = new-kind r hr in
-    head-laid s w l n p r hw hl h ∙ ap₂ (λ (c : ℕ) (m : List ℕ). (commonOf c w l n p ++ m) ++ drop newSize s) (sym k.count) (sym k.behind)
+    head-laid s w l n p r hw hl h ∙ ap₂ (λ (c : ℕ) (m : List ℕ). (common_of c w l n p ++ m) ++ drop new_size s) (sym k.count) (sym k.behind)
 
-pub common-length : (c w l n p : ℕ) → length (commonOf c w l n p) ≡ commonSize
+pub common-length : (c w l n p : ℕ) → length (common_of c w l n p) ≡ common_size
 unfolding le_bytes
 common-length c w l n p = refl
 
-rate-length : (r : ℕ) → commonSize + length (rateOf r) ≡ headSize r
-rate-length r = ⊎_elim (λ (o : OldKind r). rw (o.count, o.behind)) (λ (w : NewKind r). rw (w.count, w.behind) (omega (arith, length-leBytes 4 r))) (either-kind r)
+rate-length : (r : ℕ) → common_size + length (rate_of r) ≡ head_size r
+rate-length r = ⊎_elim (λ (o : OldKind r). rw (o.count, o.behind)) (λ (w : NewKind r). rw (w.count, w.behind) (omega (arith, length-le_bytes 4 r))) (either-kind r)
 
-pub head-length : (w l n p r : ℕ) → length (head_of w l n p r) ≡ headSize r
-head-length w l n p r = length-append (commonOf (countBy r) w l n p) (rateOf r) ∙ ap (λ (m : ℕ). m + length (rateOf r)) (common-length (countBy r) w l n p) ∙ rate-length r
+pub head-length : (w l n p r : ℕ) → length (head_of w l n p r) ≡ head_size r
+head-length w l n p r = length-append (common_of (count_by r) w l n p) (rate_of r) ∙ ap (λ (m : ℕ). m + length (rate_of r)) (common-length (count_by r) w l n p) ∙ rate-length r
 
 -- ---- the whole file
 
@@ -151,47 +151,47 @@ part-laid a y b b₁ z m e q =
     rw (front, after) (sym (append_assoc a y (drop (z + m) b)))
 
 -- "at most 67,108,974", of an integer filter, where section 0 has 14 bytes
-pub file-most : (f : Filter) → Integers f → (z l n : ℕ) → l ≤ depth_of (waveletOf f) n → n ≤ mostSamples → fileSize z (width_of f) l n ≤ z + 67108960
-file-most f i z l n deep most = omega (arith, mul-le-mul_right n (common f i).narrow, depth-at-most (waveletOf f) 23 n most)
+pub file-most : (f : Filter) → Integers f → (z l n : ℕ) → l ≤ depth_of (wavelet_of f) n → n ≤ most_samples → file_size z (width_of f) l n ≤ z + 67108960
+file-most f i z l n deep most = omega (arith, mul-le-mul_right n (common f i).narrow, depth-at-most (wavelet_of f) 23 n most)
 
 -- a file of n samples is section 0 and the sections of its levels
-pub file-parts : (f : Filter) (l p r n : ℕ) (x : List ℕ) → length x ≡ width_of f * n → fileOf f l p r x ≡ head_of (width_of f) l n p r ++ body_of f l n x
-unfolding fileOf
+pub file-parts : (f : Filter) (l p r n : ℕ) (x : List ℕ) → length x ≡ width_of f * n → file_of f l p r x ≡ head_of (width_of f) l n p r ++ body_of f l n x
+unfolding file_of
 file-parts f l p r n x h = ap (λ (m : ℕ). head_of (width_of f) l m p r ++ body_of f l m x) (holds (width-pos f) x n h).count
 
 -- the head, and the sections in the m bytes after it
-pub file-laid : (f : Filter) (l n p r m : ℕ) (x b b₁ y : List ℕ) → 0 < r → length x ≡ width_of f * n → m ≡ bodySize (width_of f) l n → b₁ ≡ head_of (width_of f) l n p r ++ drop newSize b → y ≡ body_of f l n x
-    → take newSize b₁ ++ (y ++ drop m (drop newSize b₁)) ≡ fileOf f l p r x ++ drop (fileSize newSize (width_of f) l n) b
+pub file-laid : (f : Filter) (l n p r m : ℕ) (x b b₁ y : List ℕ) → 0 < r → length x ≡ width_of f * n → m ≡ body_size (width_of f) l n → b₁ ≡ head_of (width_of f) l n p r ++ drop new_size b → y ≡ body_of f l n x
+    → take new_size b₁ ++ (y ++ drop m (drop new_size b₁)) ≡ file_of f l p r x ++ drop (file_size new_size (width_of f) l n) b
 file-laid f l n p r m x b b₁ y hr e em q ey =
-    rw (ey, em, file-parts f l p r n x e) (part-laid (head_of (width_of f) l n p r) (body_of f l n x) b b₁ newSize (bodySize (width_of f) l n) (head-length (width_of f) l n p r ∙ new-size r hr) q)
+    rw (ey, em, file-parts f l p r n x e) (part-laid (head_of (width_of f) l n p r) (body_of f l n x) b b₁ new_size (body_size (width_of f) l n) (head-length (width_of f) l n p r ∙ new-size r hr) q)
 
 -- ---- the call
 
 -- the checks, at k bytes a sample
 pub say-width : (f : Filter) (l r x b u v k : ℕ) {z : Refusal} → k ≡ width_of f
-    → z ≡ first_of (ragged k x ∷ ragged k u ∷ ragged k v ∷ (eqb r 0, NoRate) ∷ writeChecks f l (x / k) b (u / k) (v / k)) (Done 0 0) → z ≡ sayWrite f l r x b u v
-unfolding sayWrite
+    → z ≡ first_of (ragged k x ∷ ragged k u ∷ ragged k v ∷ (eqb r 0, NoRate) ∷ write_checks f l (x / k) b (u / k) (v / k)) (Done 0 0) → z ≡ say_write f l r x b u v
+unfolding say_write
 say-width f l r x b u v k e h = rw e at h
 
 -- what the checks leave: the levels run, the file area has room, and there is a rate
 pub record Writable (f : Filter) (l n r x b u v : ℕ) : Type 0 where
   pub ready : Ready f l n x u v
-  pub room : fileSize newSize (width_of f) l n ≤ b
+  pub room : file_size new_size (width_of f) l n ≤ b
   pub rate : 0 < r
 
-pub write-ready : (f : Filter) (l r x b u v : ℕ) → done (sayWrite f l r x b u v) ≡ true → Writable f (levelsOf l) (x / width_of f) r x b u v
-unfolding sayWrite
+pub write-ready : (f : Filter) (l r x b u v : ℕ) → done (say_write f l r x b u v) ≡ true → Writable f (levels_of l) (x / width_of f) r x b u v
+unfolding say_write
 write-ready f l r x b u v h =
     let k = width_of f in
-    let p = passing (ragged k x ∷ ragged k u ∷ ragged k v ∷ (eqb r 0, NoRate) ∷ writeChecks f l (x / k) b (u / k) (v / k)) (Done 0 0)
+    let p = passing (ragged k x ∷ ragged k u ∷ ragged k v ∷ (eqb r 0, NoRate) ∷ write_checks f l (x / k) b (u / k) (v / k)) (Done 0 0)
     (refl, (refl, (refl, (refl, (refl, (shallow-refused f (x / k) (leb l 1), (refl, (refl, (refl, tt))))))))) h in
     let q = p.1.1.1.1 in
     record {
       ready = checked-ready f l x u v (p.0, (p.1.0, (p.1.1.0, tt))) (q.0, (q.1.0, tt)) q.1.1.1;
-      room = roomy b (fileSize newSize k (levelsOf l) (x / k)) q.1.1.0;
+      room = roomy b (file_size new_size k (levels_of l) (x / k)) q.1.1.0;
       rate = let z = eqb-false r 0 p.1.1.1.0 in omega (arith, z);
     }
 
 -- the same of i levels and k bytes, which are the ones asked for
-pub ready_for : (f : Filter) (l r x b u v i k : ℕ) → i ≡ levelsOf l → k ≡ width_of f → done (sayWrite f l r x b u v) ≡ true → Writable f i (x / k) r x b u v
+pub ready_for : (f : Filter) (l r x b u v i k : ℕ) → i ≡ levels_of l → k ≡ width_of f → done (say_write f l r x b u v) ≡ true → Writable f i (x / k) r x b u v
 ready_for f l r x b u v i k ei ek h = rw (ei, ek) (write-ready f l r x b u v h)

@@ -4,22 +4,22 @@ use Rattle.std.specs.Prelude.{List, ◌∷◌, ◌++◌, ℕ, ◌/◌, eqb, leng
 use Rattle.base_answers.specs.declared.err.Answer.{Answer}
 use Rattle.base_answers.specs.declared.err.Refusal.{Refusal}
 use Rattle.base_answers.specs.declared.err.Refusal.TheVariants.{Done, NoRate}
-use Rattle.base_answers.specs.Checks.{Check, first_of, ragged, tight, twoAreas, Call}
-use Rattle.base_lengths.specs.Levels.{levelsOf}
+use Rattle.base_answers.specs.Checks.{Check, first_of, ragged, tight, two_areas, Call}
+use Rattle.base_lengths.specs.Levels.{levels_of}
 use Rattle.levels_filter.specs.declared.filter.Filter.{Filter}
 use Rattle.levels_filter.specs.Filters.{width_of}
-use Rattle.levels_filter.specs.Calls.{depthChecks}
-use Rattle.file_open.specs.Files.{newSize, fileSize, fileOf}
+use Rattle.levels_filter.specs.Calls.{depth_checks}
+use Rattle.file_open.specs.Files.{new_size, file_size, file_of}
 
 -- by samples: n of the signal, u and v of the work areas; b bytes of the file area
-abbrev pub writeChecks : Filter → ℕ → ℕ → ℕ → ℕ → ℕ → List Check
-writeChecks f l n b u v = depthChecks f l n ++ (tight b (fileSize newSize (width_of f) (levelsOf l) n) ∷ twoAreas u v n)
+abbrev pub write_checks : Filter → ℕ → ℕ → ℕ → ℕ → ℕ → List Check
+write_checks f l n b u v = depth_checks f l n ++ (tight b (file_size new_size (width_of f) (levels_of l) n) ∷ two_areas u v n)
 
 -- by byte lengths: the file area may have any
-unfoldable pub sayWrite : Filter → ℕ → ℕ → ℕ → ℕ → ℕ → ℕ → Refusal
-sayWrite f l r x b u v = first_of (ragged (width_of f) x ∷ ragged (width_of f) u ∷ ragged (width_of f) v ∷ (eqb r 0, NoRate) ∷ writeChecks f l (x / width_of f) b (u / width_of f) (v / width_of f)) (Done 0 0)
+unfoldable pub say_write : Filter → ℕ → ℕ → ℕ → ℕ → ℕ → ℕ → Refusal
+say_write f l r x b u v = first_of (ragged (width_of f) x ∷ ragged (width_of f) u ∷ ragged (width_of f) v ∷ (eqb r 0, NoRate) ∷ write_checks f l (x / width_of f) b (u / width_of f) (v / width_of f)) (Done 0 0)
 
 -- the answer a, and the file area b' and the work areas that writing the samples x for point p and rate r leaves
 abbrev pub Write : Filter → ℕ → ℕ → ℕ → List ℕ → List ℕ → List ℕ → List ℕ → Answer → List ℕ → List ℕ → List ℕ → Type 0
 Write f l p r x b u v =
-    Call (sayWrite f l r (length x) (length b) (length u) (length v)) (length x) (fileOf f (levelsOf l) p r x ++ drop (fileSize newSize (width_of f) (levelsOf l) (length x / width_of f)) b) b u v
+    Call (say_write f l r (length x) (length b) (length u) (length v)) (length x) (file_of f (levels_of l) p r x ++ drop (file_size new_size (width_of f) (levels_of l) (length x / width_of f)) b) b u v

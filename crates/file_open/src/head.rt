@@ -1,8 +1,8 @@
 // Section 0 of a file: what either kind says, read, and the new kind written.
 ghost use Rattle.std.specs.Prelude.{◌++◌, ◌≡◌, ◌≤◌, ◌<◌, length, drop};
-ghost use Rattle.base_lengths.specs.Lengths.{mostSamples};
-ghost use Rattle.file_open.specs.Files.{isCount, head_of, newSize, commonSize};
-ghost use Rattle.file_open.specs.Opens.{headIn, Read, isNew, rateIn};
+ghost use Rattle.base_lengths.specs.Lengths.{most_samples};
+ghost use Rattle.file_open.specs.Files.{is_count, head_of, new_size, common_size};
+ghost use Rattle.file_open.specs.Opens.{head_in, Read, is_new, rate_in};
 
 use base_samples::le::{read_u32, write_u32};
 
@@ -34,7 +34,7 @@ fn wide(b: u8) -> usize
 
 // Whether section 0 can have this count.
 pub fn is_count(c: usize) -> bool
-    ensures { result ≡ isCount c }
+    ensures { result ≡ is_count c }
 {
     if c == OLD_COUNT {
         return true;
@@ -43,8 +43,8 @@ pub fn is_count(c: usize) -> bool
 }
 
 pub fn head_in(s: &[u8]) -> Head
-    requires { commonSize ≤ length s.now }
-    ensures value { result ≡ headIn s.now }
+    requires { common_size ≤ length s.now }
+    ensures value { result ≡ head_in s.now }
     ensures read { Read result }
 {
     Head {
@@ -59,15 +59,15 @@ pub fn head_in(s: &[u8]) -> Head
 // Whether a file is of the new kind.
 pub fn is_new(s: &[u8]) -> bool
     requires { 4 ≤ length s.now }
-    ensures { result ≡ isNew s.now }
+    ensures { result ≡ is_new s.now }
 {
     read_u32(s, 0) as usize == NEW_COUNT
 }
 
 // The rate that a file stores: an old one has none, 0.
 pub fn rate_in(s: &[u8]) -> u32
-    requires { (headIn s.now).body ≤ length s.now }
-    ensures { result ≡ rateIn s.now }
+    requires { (head_in s.now).body ≤ length s.now }
+    ensures { result ≡ rate_in s.now }
 {
     if is_new(s) {
         return read_u32(s, COMMON_SIZE);
@@ -77,9 +77,9 @@ pub fn rate_in(s: &[u8]) -> u32
 
 // Section 0 of the new kind, at the front of the file.
 pub fn lay_head(k: usize, levels: usize, n: usize, point: u32, rate: u32, file: &mut [u8])
-    requires k_bound { (k < 256) × (levels < 256) × (n ≤ mostSamples) × (newSize ≤ length file.old) }
+    requires k_bound { (k < 256) × (levels < 256) × (n ≤ most_samples) × (new_size ≤ length file.old) }
     requires rate_nonzero { 0 < rate }
-    ensures { file.new ≡ head_of k levels n point rate ++ drop newSize file.old }
+    ensures { file.new ≡ head_of k levels n point rate ++ drop new_size file.old }
 {
     write_u32(file, 0, NEW_COUNT as u32);
     file[4] = k as u8;

@@ -1,8 +1,8 @@
 // Opening a file of either kind: the checks in the documents' order, then the levels that a cut left.
 ghost use Rattle.std.specs.Prelude.{◌≡◌, ◌≤◌, ◌<◌, length};
 ghost use Rattle.base_answers.specs.Checks.{first_of};
-ghost use Rattle.base_samples.specs.Integers.{isWidth};
-ghost use Rattle.file_open.specs.Opens.{filterOf, headIn, Read, startChecks, fieldChecks, rateChecks, headChecks, wayIn, wayChecks, wholeDetails, sayFile, areaChecks, rooms_for, sayOpen, OpenGives, ownWidth, ownPoint};
+ghost use Rattle.base_samples.specs.Integers.{is_width};
+ghost use Rattle.file_open.specs.Opens.{filter_of, head_in, Read, start_checks, field_checks, rate_checks, head_checks, way_in, way_checks, whole_details, say_file, area_checks, rooms_for, say_open, OpenGives, own_width, own_point};
 
 use crate::MOST_BYTES;
 use crate::head::{COMMON_SIZE, Head, head_in, is_count, is_new, rate_in};
@@ -16,7 +16,7 @@ use levels_filter::filter::Filter;
 
 // A file's own width and point: 1 and 0 where it is too short to say.
 pub fn own_width(s: &[u8]) -> usize
-    ensures { result ≡ ownWidth s.now }
+    ensures { result ≡ own_width s.now }
 {
     if s.len() < COMMON_SIZE {
         return 1;
@@ -25,7 +25,7 @@ pub fn own_width(s: &[u8]) -> usize
 }
 
 pub fn own_point(s: &[u8]) -> usize
-    ensures { result ≡ ownPoint s.now }
+    ensures { result ≡ own_point s.now }
 {
     if s.len() < COMMON_SIZE {
         return 0;
@@ -35,7 +35,7 @@ pub fn own_point(s: &[u8]) -> usize
 
 // Whether a sample can have so many bytes.
 pub fn is_width(w: usize) -> bool
-    ensures { result ≡ isWidth w }
+    ensures { result ≡ is_width w }
 {
     if w == 1 {
         return true;
@@ -48,7 +48,7 @@ pub fn is_width(w: usize) -> bool
 
 // The integer filter of a width.
 pub fn filter_of(w: usize) -> Filter
-    ensures { result ≡ filterOf w }
+    ensures { result ≡ filter_of w }
 {
     if w == 1 {
         return Filter::Cdf53I8;
@@ -61,7 +61,7 @@ pub fn filter_of(w: usize) -> Filter
 
 // The length of the file, and the count of section 0, which says how long section 0 is.
 pub fn check_start(s: &[u8]) -> Refusal
-    ensures { result ≡ first_of (startChecks s.now) (Refusal.Done 0 0) }
+    ensures { result ≡ first_of (start_checks s.now) (Refusal.Done 0 0) }
 {
     if MOST_BYTES < s.len() {
         return Refusal::TooLong;
@@ -81,7 +81,7 @@ pub fn check_start(s: &[u8]) -> Refusal
 
 // What section 0 says against what is asked: the width, the samples and levels, the point.
 pub fn check_fields(h: Head, w: usize, p: usize) -> Refusal
-    ensures { result ≡ first_of (fieldChecks h w p) (Refusal.Done 0 0) }
+    ensures { result ≡ first_of (field_checks h w p) (Refusal.Done 0 0) }
 {
     if h.width != w {
         return Refusal::OtherWidth(h.width, w);
@@ -109,8 +109,8 @@ pub fn check_fields(h: Head, w: usize, p: usize) -> Refusal
 
 // A new file stores a rate.
 fn check_rate(s: &[u8]) -> Refusal
-    requires { (headIn s.now).body ≤ length s.now }
-    ensures { result ≡ first_of (rateChecks s.now) (Refusal.Done 0 0) }
+    requires { (head_in s.now).body ≤ length s.now }
+    ensures { result ≡ first_of (rate_checks s.now) (Refusal.Done 0 0) }
 {
     if is_new(s) {
         if rate_in(s) == 0 {
@@ -122,7 +122,7 @@ fn check_rate(s: &[u8]) -> Refusal
 
 // All of section 0.
 pub fn check_head(s: &[u8], w: usize, p: usize) -> Refusal
-    ensures { result ≡ first_of (headChecks s.now w p) (Refusal.Done 0 0) }
+    ensures { result ≡ first_of (head_checks s.now w p) (Refusal.Done 0 0) }
 {
     let start = check_start(s);
     if !is_done(start) {
@@ -138,14 +138,14 @@ pub fn check_head(s: &[u8], w: usize, p: usize) -> Refusal
 // The walk over all sections after section 0, which says h.
 fn way_in(s: &[u8], h: Head) -> Way
     requires { Read h × (h.body ≤ length s.now) }
-    ensures { result ≡ wayIn s.now h }
+    ensures { result ≡ way_in s.now h }
 {
     walk(s, h.width, h.levels, h.samples, h.body)
 }
 
 // A wrong count, a cut in section 1, or bytes after the last section, of a file of b bytes.
 fn check_way(way: Way, b: usize) -> Refusal
-    ensures { result ≡ first_of (wayChecks way b) (Refusal.Done 0 0) }
+    ensures { result ≡ first_of (way_checks way b) (Refusal.Done 0 0) }
 {
     match way {
         Way::Went(p) => {
@@ -166,7 +166,7 @@ fn check_way(way: Way, b: usize) -> Refusal
 
 // How many detail sections are whole, of l levels.
 fn whole_details(way: Way, l: usize) -> usize
-    ensures { result ≡ wholeDetails way l }
+    ensures { result ≡ whole_details way l }
 {
     match way {
         Way::Went(_) => l,
@@ -182,7 +182,7 @@ fn whole_details(way: Way, l: usize) -> usize
 
 // The lent areas are whole samples; a width that is none has no sample size.
 fn check_areas(w: usize, o: usize, u: usize, v: usize) -> Refusal
-    ensures { result ≡ first_of (areaChecks w o u v) (Refusal.Done 0 0) }
+    ensures { result ≡ first_of (area_checks w o u v) (Refusal.Done 0 0) }
 {
     if is_width(w) {
         return check_whole(w, o, u, v);
@@ -203,7 +203,7 @@ fn check_rooms(w: usize, count: usize, o: usize, u: usize, v: usize) -> Refusal
 
 // What is said of the file alone: level and count, or a refusal.
 pub fn check_file(s: &[u8], w: usize, p: usize) -> Refusal
-    ensures { result ≡ sayFile s.now w p }
+    ensures { result ≡ say_file s.now w p }
 {
     let head = check_head(s, w, p);
     if !is_done(head) {
@@ -221,7 +221,7 @@ pub fn check_file(s: &[u8], w: usize, p: usize) -> Refusal
 
 // What opening says.
 fn check_open(s: &[u8], w: usize, p: usize, o: usize, u: usize, v: usize) -> Refusal
-    ensures { result ≡ sayOpen s.now w p o u v }
+    ensures { result ≡ say_open s.now w p o u v }
 {
     let areas = check_areas(w, o, u, v);
     if !is_done(areas) {

@@ -2,8 +2,8 @@
 ghost use Rattle.std.specs.Prelude.{◌≡◌, ◌+◌, ◌-◌, ◌≤◌, ◌<◌, length};
 ghost use Rattle.base_answers.specs.Answers.{answer_of};
 ghost use Rattle.base_answers.specs.Checks.{first_of};
-ghost use Rattle.file_open.specs.Walks.{lastCount};
-ghost use Rattle.file_open.specs.Opens.{Read, samplesTo, wayTo, sectionChecks, numberChecks, count_of, length_of, start_of, saySection, sectionIn, sectionAt};
+ghost use Rattle.file_open.specs.Walks.{last_count};
+ghost use Rattle.file_open.specs.Opens.{Read, samples_to, way_to, section_checks, number_checks, count_of, length_of, start_of, say_section, section_in, section_at};
 
 use crate::head::{Head, head_in};
 use crate::open::check_head;
@@ -14,7 +14,7 @@ use base_lengths::{count_at, details_length};
 // A section's number, of l levels.
 fn check_number(j: usize, l: usize) -> Refusal
     requires { l ≤ 255 }
-    ensures { result ≡ first_of (numberChecks j l) (Refusal.Done 0 0) }
+    ensures { result ≡ first_of (number_checks j l) (Refusal.Done 0 0) }
 {
     if j == 0 {
         return Refusal::NoSuchPlace(j, l + 1);
@@ -28,7 +28,7 @@ fn check_number(j: usize, l: usize) -> Refusal
 // How many samples the sections up to section j restore.
 pub fn samples_to(h: Head, j: usize) -> usize
     requires { (j ≤ h.levels + 1) × (h.levels < 256) }
-    ensures { (result ≡ samplesTo h j) × (result ≤ h.samples) }
+    ensures { (result ≡ samples_to h j) × (result ≤ h.samples) }
 {
     count_at(h.levels + 1 - j, h.samples)
 }
@@ -37,14 +37,14 @@ pub fn samples_to(h: Head, j: usize) -> usize
 fn way_to(s: &[u8], h: Head, j: usize) -> Way
     requires read { Read h × (h.body ≤ length s.now) }
     requires le_j { (1 ≤ j) × (j ≤ h.levels + 1) }
-    ensures { result ≡ wayTo s.now h j }
+    ensures { result ≡ way_to s.now h j }
 {
     walk(s, h.width, j - 1, samples_to(h, j), h.body)
 }
 
 // How many samples the last section of so many levels has.
 fn last_count(levels: usize, n: usize) -> usize
-    ensures { (result ≡ lastCount levels n) × (result ≤ n) }
+    ensures { (result ≡ last_count levels n) × (result ≤ n) }
 {
     if levels == 0 { n } else { details_length(n) }
 }
@@ -70,7 +70,7 @@ pub fn length_of(h: Head, j: usize) -> usize
 fn found(s: &[u8], h: Head, j: usize) -> Refusal
     requires read { Read h × (h.body ≤ length s.now) }
     requires le_j { (1 ≤ j) × (j ≤ h.levels + 1) }
-    ensures { result ≡ first_of (sectionChecks (wayTo s.now h j) (length s.now)) (Refusal.Done (start_of s.now h j) (length_of h j)) }
+    ensures { result ≡ first_of (section_checks (way_to s.now h j) (length s.now)) (Refusal.Done (start_of s.now h j) (length_of h j)) }
 {
     let size = length_of(h, j);
     let way = way_to(s, h, j);
@@ -83,7 +83,7 @@ fn found(s: &[u8], h: Head, j: usize) -> Refusal
 
 // What the lookup says: the checks of section 0, the number, and the way through that section.
 fn check_section(s: &[u8], w: usize, p: usize, j: usize) -> Refusal
-    ensures { result ≡ saySection s.now w p j }
+    ensures { result ≡ say_section s.now w p j }
 {
     let start = check_head(s, w, p);
     if !is_done(start) {
@@ -99,15 +99,15 @@ fn check_section(s: &[u8], w: usize, p: usize, j: usize) -> Refusal
 
 // Where section j starts after its count, and how long it is.
 pub fn section_answer(s: &[u8], w: usize, p: usize, j: usize) -> Answer
-    ensures { result ≡ answer_of (saySection s.now w p j) }
+    ensures { result ≡ answer_of (say_section s.now w p j) }
 {
     numbers(check_section(s, w, p, j))
 }
 
 // Section j itself, without its count: a part of the file, or an empty part.
 pub fn section(s: &[u8], w: usize, p: usize, j: usize) -> &[u8]
-    ensures result_value { result.now ≡ sectionIn s.now w p j }
-    ensures ref_ptr_value { result.ref_ptr ≡ sectionAt s.entry w p j }
+    ensures result_value { result.now ≡ section_in s.now w p j }
+    ensures ref_ptr_value { result.ref_ptr ≡ section_at s.entry w p j }
 {
     let r = section_answer(s, w, p, j);
     if r.number == 0 {

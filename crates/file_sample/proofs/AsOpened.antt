@@ -19,16 +19,16 @@ use Rattle.base_answers.specs.Checks.{Check, first_of, ragged}
 use Rattle.base_answers.proofs.Endings.{is-done, not_done, left-done}
 use Rattle.base_answers.proofs.Passed.{Passing, pass_on, through}
 use Rattle.base_samples.specs.Words.{word_at}
-use Rattle.base_samples.specs.Integers.{isWidth, val}
+use Rattle.base_samples.specs.Integers.{is_width, val}
 use Rattle.base_samples.proofs.Words.{word-take}
 use Rattle.file_open.specs.declared.walk.Way.{Way}
 use Rattle.file_open.specs.declared.walk.Way.TheVariants.{Went, Short, Wrong}
-use Rattle.file_open.specs.Opens.{headIn, headChecks, wayIn, wayChecks, levelIn, countIn, samplesIn, areaChecks, WholeAreas, fileChecks, rooms_for, sayFile, sayOpen, Open}
+use Rattle.file_open.specs.Opens.{head_in, head_checks, way_in, way_checks, level_in, count_in, samples_in, area_checks, WholeAreas, file_checks, rooms_for, say_file, say_open, Open}
 use Rattle.file_open.proofs.Opening.{whole-areas-pass, rooms-say, rooms-count, file-rest, file-stop, open-taken, open-says}
 use Rattle.file_sample.specs.declared.PeekAnswer.{PeekAnswer}
 use Rattle.file_sample.specs.Peeks.{Peek}
 use Rattle.file_sample.proofs.OneSample.{restored-length}
-use Rattle.file_sample.proofs.Peeking.{levelsRestored, say-refused, say-past, say-done, peek-none, peek-some, file-stands, file-samples}
+use Rattle.file_sample.proofs.Peeking.{levels_restored, say-refused, say-past, say-done, peek-none, peek-some, file-stands, file-samples}
 
 -- two results that the statement allows are equal
 pub peek-decides : {s : List ℕ} {w p j : ℕ} {r q : PeekAnswer} → Peek s w p j r → Peek s w p j q → r ≡ q
@@ -57,93 +57,93 @@ past-never n [] m e h q = tt
 past-never n (p ∷ l) m e h q = let r = one-past p.0 p.1 (first_of (l ++ m) e) n h.0 q in (r.0, past-never n l m e h.1 r.1)
 
 -- 7 is said of areas alone
-areas-never : (w o u v : ℕ) → Never 7 (areaChecks w o u v)
-areas-never w o u v = pick (isWidth w)
+areas-never : (w o u v : ℕ) → Never 7 (area_checks w o u v)
+areas-never w o u v = pick (is_width w)
   where
     pick : (b : Bool) → Never 7 (cond b (ragged w o ∷ ragged w u ∷ ragged w v ∷ []) [])
     pick true = (λ z. omega arith, (λ z. omega arith, (λ z. omega arith, tt)))
     pick false = tt
 
-way_never : (v : Way) (b : ℕ) → Never 7 (wayChecks v b)
+way_never : (v : Way) (b : ℕ) → Never 7 (way_checks v b)
 way_never (Went p) b = (λ z. omega arith, tt)
 way_never (Short j) b = (λ z. omega arith, tt)
 way_never (Wrong j found) b = (λ z. omega arith, tt)
 
-file-never : (s : List ℕ) (w p : ℕ) → Never 7 (fileChecks s w p)
+file-never : (s : List ℕ) (w p : ℕ) → Never 7 (file_checks s w p)
 file-never s w p =
-    never_both 7 (headChecks s w p) (wayChecks (wayIn s (headIn s)) (length s))
+    never_both 7 (head_checks s w p) (way_checks (way_in s (head_in s)) (length s))
     (λ z. omega arith, (λ z. omega arith, (λ z. omega arith, (λ z. omega arith, (λ z. omega arith, (λ z. omega arith, (λ z. omega arith, (λ z. omega arith, (λ z. omega arith, (λ z. omega arith, (λ z. omega arith, (λ z. omega arith, tt))))))))))))
-    (way_never (wayIn s (headIn s)) (length s))
+    (way_never (way_in s (head_in s)) (length s))
 
 module _ (s : List ℕ) (w p : ℕ) where
   -- an opening that says 7 has taken the file, and tells its count
-  no-room-file : (o u v : ℕ) → let r = sayOpen s w p o u v in (answer_of r).number ≡ 7 → (done (sayFile s w p) ≡ true) × ((answer_of r).second ≡ countIn s)
-  unfolding sayOpen sayFile
+  no-room-file : (o u v : ℕ) → let r = say_open s w p o u v in (answer_of r).number ≡ 7 → (done (say_file s w p) ≡ true) × ((answer_of r).second ≡ count_in s)
+  unfolding say_open say_file
   no-room-file o u v h =
-      let rooms = rooms_for w (countIn s) o u v in
-      let all = Done (levelIn s) (countIn s) in
-      let e = pass_on (areaChecks w o u v) (fileChecks s w p ++ rooms) all (past-never 7 (areaChecks w o u v) (fileChecks s w p ++ rooms) all (areas-never w o u v) h) in
-      let q = past-never 7 (fileChecks s w p) rooms all (file-never s w p) (sym (ap (λ (x : Refusal). (answer_of x).number) e) ∙ h) in (
-        ap done (through (fileChecks s w p) all q),
-        ap (λ (x : Refusal). (answer_of x).second) (e ∙ pass_on (fileChecks s w p) rooms all q) ∙ rooms-count w (countIn s) o u v (levelIn s),
+      let rooms = rooms_for w (count_in s) o u v in
+      let all = Done (level_in s) (count_in s) in
+      let e = pass_on (area_checks w o u v) (file_checks s w p ++ rooms) all (past-never 7 (area_checks w o u v) (file_checks s w p ++ rooms) all (areas-never w o u v) h) in
+      let q = past-never 7 (file_checks s w p) rooms all (file-never s w p) (sym (ap (λ (x : Refusal). (answer_of x).number) e) ∙ h) in (
+        ap done (through (file_checks s w p) all q),
+        ap (λ (x : Refusal). (answer_of x).second) (e ∙ pass_on (file_checks s w p) rooms all q) ∙ rooms-count w (count_in s) o u v (level_in s),
       )
 
   -- what opening gives back is as many samples as it says
-  samples-length : done (sayFile s w p) ≡ true → length (samplesIn s) ≡ w * countIn s
-  samples-length h = sym (ap length (file-samples s w p h)) ∙ restored-length (levelsRestored s) (countIn s) (headIn s).body s (file-stands s w p h)
+  samples-length : done (say_file s w p) ≡ true → length (samples_in s) ≡ w * count_in s
+  samples-length h = sym (ap length (file-samples s w p h)) ∙ restored-length (levels_restored s) (count_in s) (head_in s).body s (file-stands s w p h)
 
   -- an opening that is refused, and not for its areas, is refused for the file
-  refused-file : (o u v : ℕ) → Passing (areaChecks w o u v) → let r = sayOpen s w p o u v in done r ≡ false → ((answer_of r).number ≡ 7 → ⊥) → (done (sayFile s w p) ≡ false) × (r ≡ sayFile s w p)
-  unfolding sayOpen
-  refused-file o u v a h n = pick (done (sayFile s w p)) refl
+  refused-file : (o u v : ℕ) → Passing (area_checks w o u v) → let r = say_open s w p o u v in done r ≡ false → ((answer_of r).number ≡ 7 → ⊥) → (done (say_file s w p) ≡ false) × (r ≡ say_file s w p)
+  unfolding say_open
+  refused-file o u v a h n = pick (done (say_file s w p)) refl
     where
       rooms : List Check
-      rooms = rooms_for w (countIn s) o u v
+      rooms = rooms_for w (count_in s) o u v
 
-      e : first_of (areaChecks w o u v ++ (fileChecks s w p ++ rooms)) (Done (levelIn s) (countIn s)) ≡ first_of (fileChecks s w p ++ rooms) (Done (levelIn s) (countIn s))
-      e = pass_on (areaChecks w o u v) (fileChecks s w p ++ rooms) (Done (levelIn s) (countIn s)) a
+      e : first_of (area_checks w o u v ++ (file_checks s w p ++ rooms)) (Done (level_in s) (count_in s)) ≡ first_of (file_checks s w p ++ rooms) (Done (level_in s) (count_in s))
+      e = pass_on (area_checks w o u v) (file_checks s w p ++ rooms) (Done (level_in s) (count_in s)) a
 
-      pick : (b : Bool) → done (sayFile s w p) ≡ b → (done (sayFile s w p) ≡ false) × (first_of (areaChecks w o u v ++ (fileChecks s w p ++ rooms)) (Done (levelIn s) (countIn s)) ≡ sayFile s w p)
-      pick false q = (q, e ∙ file-stop s w p rooms (Done (levelIn s) (countIn s)) q)
+      pick : (b : Bool) → done (say_file s w p) ≡ b → (done (say_file s w p) ≡ false) × (first_of (area_checks w o u v ++ (file_checks s w p ++ rooms)) (Done (level_in s) (count_in s)) ≡ say_file s w p)
+      pick false q = (q, e ∙ file-stop s w p rooms (Done (level_in s) (count_in s)) q)
       pick true q =
-          let f = e ∙ file-rest s w p rooms (Done (levelIn s) (countIn s)) q in
+          let f = e ∙ file-rest s w p rooms (Done (level_in s) (count_in s)) q in
           let number = ap (λ (x : Refusal). (answer_of x).number) f in
           absurd
           (⊎_elim
           (λ y. let z : ◌≡◌ {A = ℕ} 0 1 = ap (λ (b : Bool). cond b 0 1) (sym (eq-eqb _ 0 (number ∙ y)) ∙ h) in omega arith)
           (λ y. n (number ∙ y))
-          (rooms-say w (countIn s) o u v (levelIn s)))
+          (rooms-say w (count_in s) o u v (level_in s)))
 
 module _ (s : List ℕ) (w p : ℕ) {o u v : List ℕ} {r : Answer} {o' u' v' : List ℕ} (call : Open s w p o u v r o' u' v') where
   abbrev said : Refusal
-  said = sayOpen s w p (length o) (length u) (length v)
+  said = say_open s w p (length o) (length u) (length v)
 
   -- past the count of a file that is taken
-  past : done (sayFile s w p) ≡ true → r.second ≡ countIn s → (j : ℕ) → r.second ≤ j → (q : PeekAnswer) → Peek s w p j q → (q.answer ≡ say 13 j r.second) × (q.sample ≡ pos 0)
+  past : done (say_file s w p) ≡ true → r.second ≡ count_in s → (j : ℕ) → r.second ≤ j → (q : PeekAnswer) → Peek s w p j q → (q.answer ≡ say 13 j r.second) × (q.sample ≡ pos 0)
   past t n j h q m =
       let e = say-past s w p j t (rw n at h) in
       (m.answer ∙ ap answer_of e ∙ ap (say 13 j) (sym n), m.sample ∙ peek-none s w p j (ap done e))
 
   -- opening is done
   module _ (z : r.number ≡ 0) where
-    isDone : done said ≡ true
-    isDone = is-done said r call.answer z
+    is_done : done said ≡ true
+    is_done = is-done said r call.answer z
 
-    taken : done (sayFile s w p) ≡ true
-    taken = ap done (open-taken s w p (length o) (length u) (length v) isDone)
+    taken : done (say_file s w p) ≡ true
+    taken = ap done (open-taken s w p (length o) (length u) (length v) is_done)
 
-    count : r.second ≡ countIn s
-    count = ap (λ (a : Answer). a.second) (call.answer ∙ ap answer_of (open-says s w p (length o) (length u) (length v) isDone).0)
+    count : r.second ≡ count_in s
+    count = ap (λ (a : Answer). a.second) (call.answer ∙ ap answer_of (open-says s w p (length o) (length u) (length v) is_done).0)
 
-    output : o' ≡ samplesIn s ++ drop (w * countIn s) o
-    output = call.output ∙ left-done said (samplesIn s ++ drop (w * countIn s) o) o isDone
+    output : o' ≡ samples_in s ++ drop (w * count_in s) o
+    output = call.output ∙ left-done said (samples_in s ++ drop (w * count_in s) o) o is_done
 
     -- the sample at each place that it gives back
     pub as-opened : (j : ℕ) → j < r.second → (q : PeekAnswer) → Peek s w p j q → (q.answer ≡ say 0 0 0) × (q.sample ≡ val (256 ^ w) (word_at w o' j))
     as-opened j h q m =
-        let l : j < countIn s = rw count at h in
+        let l : j < count_in s = rw count at h in
         let d = say-done s w p j taken l in
-        let word : word_at w o' j ≡ word_at w (samplesIn s) j = ap (λ (t : List ℕ). word_at w t j) output ∙ front-word w (samplesIn s) (drop (w * countIn s) o) (countIn s) j (samples-length s w p taken) l in
+        let word : word_at w o' j ≡ word_at w (samples_in s) j = ap (λ (t : List ℕ). word_at w t j) output ∙ front-word w (samples_in s) (drop (w * count_in s) o) (count_in s) j (samples-length s w p taken) l in
         (m.answer ∙ ap answer_of d, m.sample ∙ peek-some s w p j d ∙ sym (ap (val (256 ^ w)) word))
 
     -- and 13 past them
@@ -152,12 +152,12 @@ module _ (s : List ℕ) (w p : ℕ) {o u v : List ℕ} {r : Answer} {o' u' v' : 
 
   -- opening is refused with 7, for the room of its count: the same places are there
   module _ (z : r.number ≡ 7) where
-    probed : (done (sayFile s w p) ≡ true) × (r.second ≡ countIn s)
+    probed : (done (say_file s w p) ≡ true) × (r.second ≡ count_in s)
     probed =
         let f = no-room-file s w p (length o) (length u) (length v) (ap (λ (a : Answer). a.number) (sym call.answer) ∙ z) in
         (f.0, ap (λ (a : Answer). a.second) call.answer ∙ f.1)
 
-    pub as-probed : (j : ℕ) → j < r.second → (q : PeekAnswer) → Peek s w p j q → (q.answer ≡ say 0 0 0) × (q.sample ≡ val (256 ^ w) (word_at w (samplesIn s) j))
+    pub as-probed : (j : ℕ) → j < r.second → (q : PeekAnswer) → Peek s w p j q → (q.answer ≡ say 0 0 0) × (q.sample ≡ val (256 ^ w) (word_at w (samples_in s) j))
     as-probed j h q m =
         let d = say-done s w p j probed.0 (rw probed.1 at h) in
         (m.answer ∙ ap answer_of d, m.sample ∙ peek-some s w p j d)

@@ -12,45 +12,45 @@ use Rattle.base_answers.specs.Checks.{outside}
 use Rattle.base_samples.specs.Words.{word_at}
 use Rattle.base_samples.specs.Integers.{val}
 use Rattle.base_samples.proofs.IntegerLaws.{width-of}
-use Rattle.file_open.specs.Walks.{restoredAt}
-use Rattle.file_open.specs.Opens.{headIn, wayIn, wholeDetails, countIn, samplesIn, sayFile}
+use Rattle.file_open.specs.Walks.{restored_at}
+use Rattle.file_open.specs.Opens.{head_in, way_in, whole_details, count_in, samples_in, say_file}
 use Rattle.file_open.proofs.Opening.{file-restorable, file-rest, file-stop}
-use Rattle.file_sample.specs.Peeks.{sayPeek, peekIn}
+use Rattle.file_sample.specs.Peeks.{say_peek, peek_in}
 use Rattle.file_sample.specs.Neighbours.{Stands}
 
 -- how many levels of a file are restored: as many as detail sections are whole
-abbrev pub levelsRestored : List ℕ → ℕ
-levelsRestored s = wholeDetails (wayIn s (headIn s)) (headIn s).levels
+abbrev pub levels_restored : List ℕ → ℕ
+levels_restored s = whole_details (way_in s (head_in s)) (head_in s).levels
 
 module _ (s : List ℕ) (w p j : ℕ) where
   -- a file that opening refuses, areas apart
-  pub say-refused : done (sayFile s w p) ≡ false → sayPeek s w p j ≡ sayFile s w p
-  unfolding sayPeek
-  say-refused h = file-stop s w p (outside j (countIn s) ∷ []) (Done 0 0) h
+  pub say-refused : done (say_file s w p) ≡ false → say_peek s w p j ≡ say_file s w p
+  unfolding say_peek
+  say-refused h = file-stop s w p (outside j (count_in s) ∷ []) (Done 0 0) h
 
   -- a file that it takes
-  pub say-past : done (sayFile s w p) ≡ true → countIn s ≤ j → sayPeek s w p j ≡ NoSuchPlace j (countIn s)
-  unfolding sayPeek
-  say-past h l = file-rest s w p (outside j (countIn s) ∷ []) (Done 0 0) h ∙ rw (le-ltb j (countIn s) l)
+  pub say-past : done (say_file s w p) ≡ true → count_in s ≤ j → say_peek s w p j ≡ NoSuchPlace j (count_in s)
+  unfolding say_peek
+  say-past h l = file-rest s w p (outside j (count_in s) ∷ []) (Done 0 0) h ∙ rw (le-ltb j (count_in s) l)
 
-  pub say-done : done (sayFile s w p) ≡ true → j < countIn s → sayPeek s w p j ≡ Done 0 0
-  unfolding sayPeek
-  say-done h l = file-rest s w p (outside j (countIn s) ∷ []) (Done 0 0) h ∙ rw (lt-ltb j (countIn s) l)
+  pub say-done : done (say_file s w p) ≡ true → j < count_in s → say_peek s w p j ≡ Done 0 0
+  unfolding say_peek
+  say-done h l = file-rest s w p (outside j (count_in s) ∷ []) (Done 0 0) h ∙ rw (lt-ltb j (count_in s) l)
 
   -- beside a refusal there is no sample
-  pub peek-none : done (sayPeek s w p j) ≡ false → peekIn s w p j ≡ pos 0
-  unfolding peekIn
+  pub peek-none : done (say_peek s w p j) ≡ false → peek_in s w p j ≡ pos 0
+  unfolding peek_in
   peek-none h = rw h
 
-  pub peek-some : sayPeek s w p j ≡ Done 0 0 → peekIn s w p j ≡ val (256 ^ w) (word_at w (samplesIn s) j)
-  unfolding peekIn
+  pub peek-some : say_peek s w p j ≡ Done 0 0 → peek_in s w p j ≡ val (256 ^ w) (word_at w (samples_in s) j)
+  unfolding peek_in
   peek-some e = rw e
 
 -- the sections of a file that is taken stand in it, and restore what opening gives back
-module _ (s : List ℕ) (w p : ℕ) (h : done (sayFile s w p) ≡ true) where
-  pub file-stands : Stands w (levelsRestored s) (countIn s) (headIn s).body (length s)
+module _ (s : List ℕ) (w p : ℕ) (h : done (say_file s w p) ≡ true) where
+  pub file-stands : Stands w (levels_restored s) (count_in s) (head_in s).body (length s)
   file-stands = let r = file-restorable s w p h in record { width = width-of w r.head.known; deep = r.deep; short = r.short; held = r.held }
 
-  pub file-samples : restoredAt w s (levelsRestored s) (countIn s) (headIn s).body ≡ samplesIn s
-  unfolding samplesIn
-  file-samples = ap (λ (k : ℕ). restoredAt k s (levelsRestored s) (countIn s) (headIn s).body) (sym (file-restorable s w p h).head.width)
+  pub file-samples : restored_at w s (levels_restored s) (count_in s) (head_in s).body ≡ samples_in s
+  unfolding samples_in
+  file-samples = ap (λ (k : ℕ). restored_at k s (levels_restored s) (count_in s) (head_in s).body) (sym (file-restorable s w p h).head.width)

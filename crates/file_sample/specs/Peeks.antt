@@ -7,18 +7,18 @@ use Rattle.base_answers.specs.Answers.{answer_of, done}
 use Rattle.base_answers.specs.Checks.{first_of, outside}
 use Rattle.base_samples.specs.Words.{word_at}
 use Rattle.base_samples.specs.Integers.{val}
-use Rattle.file_open.specs.Opens.{fileChecks, countIn, samplesIn}
+use Rattle.file_open.specs.Opens.{file_checks, count_in, samples_in}
 use Rattle.file_sample.specs.declared.PeekAnswer.{PeekAnswer}
 
 -- "Refusals: opening's, without its 7s, then 13 (place, count)": what opening checks of the file alone, then the place in what it gives back
-unfoldable pub sayPeek : List ℕ → ℕ → ℕ → ℕ → Refusal
-sayPeek s w p j = first_of (fileChecks s w p ++ (outside j (countIn s) ∷ [])) (Done 0 0)
+unfoldable pub say_peek : List ℕ → ℕ → ℕ → ℕ → Refusal
+say_peek s w p j = first_of (file_checks s w p ++ (outside j (count_in s) ∷ [])) (Done 0 0)
 
 -- "It equals what opening would put at that place .. 0 when refused": the number of word j of the samples that opening gives back
-unfoldable pub peekIn : List ℕ → ℕ → ℕ → ℕ → ℤ
-peekIn s w p j = cond (done (sayPeek s w p j)) (val (256 ^ w) (word_at w (samplesIn s) j)) (pos 0)
+unfoldable pub peek_in : List ℕ → ℕ → ℕ → ℕ → ℤ
+peek_in s w p j = cond (done (say_peek s w p j)) (val (256 ^ w) (word_at w (samples_in s) j)) (pos 0)
 
 -- the answer r to asking the file s, for width w and point p, for the sample at place j
 pub record Peek (s : List ℕ) (w p j : ℕ) (r : PeekAnswer) : Type 0 where
-  pub answer : r.answer ≡ answer_of (sayPeek s w p j)
-  pub sample : r.sample ≡ peekIn s w p j
+  pub answer : r.answer ≡ answer_of (say_peek s w p j)
+  pub sample : r.sample ≡ peek_in s w p j

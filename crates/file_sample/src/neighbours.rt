@@ -1,12 +1,12 @@
 // One sample from the sections of a file: an even one is worked out from the level below, an odd one from its two even neighbours. Two samples that follow each
 // other need only two that follow each other below, so a level costs one call of each function.
 ghost use Rattle.std.specs.Prelude.{◌≡◌, ◌+◌, ◌-◌, ◌*◌, ◌/◌, ◌^◌, ◌≤◌, ◌<◌, min, length};
-ghost use Rattle.base_lengths.specs.Lengths.{approxLength, detailsLength};
+ghost use Rattle.base_lengths.specs.Lengths.{approx_length, details_length};
 ghost use Rattle.base_samples.specs.Words.{word_at};
 ghost use Rattle.base_samples.specs.Integers.{Width};
-ghost use Rattle.file_open.specs.Files.{bodySize};
+ghost use Rattle.file_open.specs.Files.{body_size};
 ghost use Rattle.file_open.specs.Walks.{bytes_at};
-ghost use Rattle.file_sample.specs.Neighbours.{word_in, evenBy, Stands, EvensOf, AroundOf, Chosen};
+ghost use Rattle.file_sample.specs.Neighbours.{word_in, even_by, Stands, EvensOf, AroundOf, Chosen};
 
 use base_lengths::{approx_length, details_length, lesser};
 use base_samples::integers::get;
@@ -48,8 +48,8 @@ fn stored_word(s: &[u8], k: usize, count: usize, at: usize, i: usize) -> u32
 // Detail i of a level of n samples, whose details stand at `at`.
 fn detail_in(s: &[u8], k: usize, n: usize, at: usize, i: usize) -> u32
     requires width { Width k }
-    requires n_in_bounds { (at + (4 + k * detailsLength n) ≤ length s.now) × (i < detailsLength n) }
-    ensures { (result ≡ word_at k (bytes_at k s.now (detailsLength n) at) i) × (result < 256 ^ k) }
+    requires n_in_bounds { (at + (4 + k * details_length n) ≤ length s.now) × (i < details_length n) }
+    ensures { (result ≡ word_at k (bytes_at k s.now (details_length n) at) i) × (result < 256 ^ k) }
 {
     stored_word(s, k, details_length(n), at, i)
 }
@@ -57,8 +57,8 @@ fn detail_in(s: &[u8], k: usize, n: usize, at: usize, i: usize) -> u32
 // Even sample i of that level, whose approximation is the word x.
 fn even_in(s: &[u8], k: usize, n: usize, at: usize, x: u32, i: usize) -> u32
     requires width { Width k }
-    requires n_in_bounds { (at + (4 + k * detailsLength n) ≤ length s.now) × (i ≤ detailsLength n) × (1 ≤ detailsLength n) × (x < 256 ^ k) }
-    ensures { (result ≡ evenBy k s.now (detailsLength n) at x i) × (result < 256 ^ k) }
+    requires n_in_bounds { (at + (4 + k * details_length n) ≤ length s.now) × (i ≤ details_length n) × (1 ≤ details_length n) × (x < 256 ^ k) }
+    ensures { (result ≡ even_by k s.now (details_length n) at x i) × (result < 256 ^ k) }
 {
     let left = detail_in(s, k, n, at, before(i));
     let right = detail_in(s, k, n, at, lesser(i, details_length(n) - 1));
@@ -67,8 +67,8 @@ fn even_in(s: &[u8], k: usize, n: usize, at: usize, x: u32, i: usize) -> u32
 
 // Where the details of the last of so many levels of n samples stand: behind the sections of one level less.
 fn details_at(k: usize, levels: usize, n: usize, at: usize) -> usize
-    requires { (1 ≤ levels) × (at + bodySize k levels n < 2 ^ 63) }
-    ensures { result ≡ at + bodySize k (levels - 1) (approxLength n) }
+    requires { (1 ≤ levels) × (at + body_size k levels n < 2 ^ 63) }
+    ensures { result ≡ at + body_size k (levels - 1) (approx_length n) }
 {
     at + (4 * levels + k * approx_length(n))
 }
@@ -98,7 +98,7 @@ fn chosen(t: ThreeWords, r: usize, next: usize) -> TwoWords
 // Even sample r of the n in section 1 at `at`, and the next even one, or the last again.
 fn deepest_evens(s: &[u8], k: usize, n: usize, at: usize, r: usize) -> TwoWords
     requires stands { Stands k 0 n at (length s.now) }
-    requires r_bound { r < approxLength n }
+    requires r_bound { r < approx_length n }
     ensures { EvensOf k s.now 0 n at r result.here result.after }
 {
     let next = lesser(r + 1, approx_length(n) - 1);
@@ -119,8 +119,8 @@ fn restored_evens(
     t: ThreeWords,
 ) -> TwoWords
     requires stands { Stands k levels n at (length s.now) }
-    requires le_levels { (1 ≤ levels) × (r < approxLength n) }
-    requires around_of { AroundOf k s.now (levels - 1) (approxLength n) at (r / 2) t.here t.between t.after }
+    requires le_levels { (1 ≤ levels) × (r < approx_length n) }
+    requires around_of { AroundOf k s.now (levels - 1) (approx_length n) at (r / 2) t.here t.between t.after }
     ensures { EvensOf k s.now levels n at r result.here result.after }
 {
     let next = lesser(r + 1, approx_length(n) - 1);
@@ -136,7 +136,7 @@ fn restored_evens(
 fn odd_between(s: &[u8], k: usize, levels: usize, n: usize, at: usize, r: usize, e: TwoWords) -> u32
     requires stands { Stands k levels n at (length s.now) }
     requires evens_of { EvensOf k s.now levels n at r e.here e.after }
-    requires r_bound { r < approxLength n }
+    requires r_bound { r < approx_length n }
     ensures { (result ≡ word_in k s.now levels n at (min (2 * r + 1) (n - 1))) × (result < 256 ^ k) }
 {
     if n <= 2 * r + 1 {
@@ -154,7 +154,7 @@ fn odd_between(s: &[u8], k: usize, levels: usize, n: usize, at: usize, r: usize,
 #[cycle(even_samples_odd_sample)]
 fn even_samples(s: &[u8], k: usize, levels: usize, n: usize, at: usize, r: usize) -> TwoWords
     requires stands { Stands k levels n at (length s.now) }
-    requires r_bound { r < approxLength n }
+    requires r_bound { r < approx_length n }
     ensures { EvensOf k s.now levels n at r result.here result.after }
 {
     if levels == 0 {
@@ -168,7 +168,7 @@ fn even_samples(s: &[u8], k: usize, levels: usize, n: usize, at: usize, r: usize
 #[cycle(even_samples_odd_sample)]
 fn odd_sample(s: &[u8], k: usize, levels: usize, n: usize, at: usize, r: usize) -> ThreeWords
     requires stands { Stands k levels n at (length s.now) }
-    requires r_bound { r < approxLength n }
+    requires r_bound { r < approx_length n }
     ensures { AroundOf k s.now levels n at r result.here result.between result.after }
 {
     let e = even_samples(s, k, levels, n, at, r);

@@ -15,17 +15,17 @@ use Rattle.base_answers.specs.Checks.{first_of}
 use Rattle.base_answers.proofs.Chain.{stop}
 use Rattle.base_answers.proofs.Passed.{Passing, off}
 use Rattle.base_order.proofs.Order.{lt-or-le}
-use Rattle.base_samples.specs.Le.{leAt}
+use Rattle.base_samples.specs.Le.{le_at}
 use Rattle.file_open.specs.declared.head.Head.{Head}
 use Rattle.file_open.specs.declared.walk.Way.{Way}
 use Rattle.file_open.specs.declared.walk.Way.TheVariants.{Went, Short, Wrong}
-use Rattle.file_open.specs.Files.{mostBytes, newCount, isCount}
-use Rattle.file_open.specs.Opens.{headIn, isNew, startChecks, headChecks, wayIn, wayChecks, wholeDetails, countIn, sayFile}
+use Rattle.file_open.specs.Files.{most_bytes, new_count, is_count}
+use Rattle.file_open.specs.Opens.{head_in, is_new, start_checks, head_checks, way_in, way_checks, whole_details, count_in, say_file}
 use Rattle.file_open.proofs.Opening.{head-passes}
 use Rattle.file_open.proofs.Ways.{walk-size}
 use Rattle.file_why.specs.declared.Reason.{Reason}
-use Rattle.file_why.specs.Laws.{among, fieldNumbers, fieldPlace, OfField}
-use Rattle.file_why.specs.Reasons.{because, nothing, end_of, place_of, wantedOf, cut_in, reasonBy, sayStart, reasonOf}
+use Rattle.file_why.specs.Laws.{among, field_numbers, field_place, OfField}
+use Rattle.file_why.specs.Reasons.{because, nothing, end_of, place_of, wanted_of, cut_in, reason_by, say_start, reason_of}
 use Rattle.file_why.proofs.Says.{start-by, reason-early, reason-later, reason-passed, later-by, way-stops}
 
 -- the number of a cut in section j, from 1 on: the opener refuses one in section 1
@@ -33,8 +33,8 @@ abbrev pub number_of : ℕ → ℕ
 number_of j = cond (eqb j 1) 10 0
 
 -- a field of section 0 has none of the other numbers, and a cut has no others
-pub no_field : {A : Type 0} {s : List ℕ} {r : Reason} (n : ℕ) → OfField s r → among fieldNumbers n ≡ false → r.number ≡ n → A
-no_field n f h e = off h (sym (ap (λ m. among fieldNumbers m) e) ∙ f.number)
+pub no_field : {A : Type 0} {s : List ℕ} {r : Reason} (n : ℕ) → OfField s r → among field_numbers n ≡ false → r.number ≡ n → A
+no_field n f h e = off h (sym (ap (λ m. among field_numbers m) e) ∙ f.number)
 
 pub no_cut : {A : Type 0} (j n : ℕ) → among (10 ∷ 0 ∷ []) n ≡ false → number_of j ≡ n → A
 no_cut j n h e = off h (sym (ap (λ m. among (10 ∷ 0 ∷ []) m) e) ∙ pick (eqb j 1))
@@ -45,37 +45,37 @@ no_cut j n h e = off h (sym (ap (λ m. among (10 ∷ 0 ∷ []) m) e) ∙ pick (e
 
 -- ---- where section 0 passes, by the walk
 
-module _ (s : List ℕ) (w p : ℕ) (k : Passing (headChecks s w p)) where
+module _ (s : List ℕ) (w p : ℕ) (k : Passing (head_checks s w p)) where
   abbrev h : Head
-  h = headIn s
+  h = head_in s
 
   abbrev b : ℕ
   b = length s
 
-  body : (headIn s).body ≤ length s
+  body : (head_in s).body ≤ length s
   body = (head-passes s w p k).there
 
   -- of a walk v
-  walked : (v : Way) → wayIn s h ≡ v → reasonOf s w p ≡ reasonBy true h b (first_of (wayChecks v b) (Done (h.levels - wholeDetails v h.levels) (countIn s)))
-  walked v e = reason-passed s w p k ∙ ap (λ u. reasonBy true h b (first_of (wayChecks u b) (Done (h.levels - wholeDetails u h.levels) (countIn s)))) e
+  walked : (v : Way) → way_in s h ≡ v → reason_of s w p ≡ reason_by true h b (first_of (way_checks v b) (Done (h.levels - whole_details v h.levels) (count_in s)))
+  walked v e = reason-passed s w p k ∙ ap (λ u. reason_by true h b (first_of (way_checks u b) (Done (h.levels - whole_details u h.levels) (count_in s)))) e
 
-  pub reason-wrong : (j found : ℕ) → wayIn s (headIn s) ≡ Wrong j found → reasonOf s w p ≡ because 9 j (place_of (headIn s) j) (wantedOf (headIn s) j) found
+  pub reason-wrong : (j found : ℕ) → way_in s (head_in s) ≡ Wrong j found → reason_of s w p ≡ because 9 j (place_of (head_in s) j) (wanted_of (head_in s) j) found
   reason-wrong j found e = walked (Wrong j found) e
 
-  pub reason-trailing : (q : ℕ) → wayIn s (headIn s) ≡ Went q → q < length s → let e = end_of (headIn s) ((headIn s).levels + 1) in reasonOf s w p ≡ because 12 ((headIn s).levels + 1) e e (length s)
+  pub reason-trailing : (q : ℕ) → way_in s (head_in s) ≡ Went q → q < length s → let e = end_of (head_in s) ((head_in s).levels + 1) in reason_of s w p ≡ because 12 ((head_in s).levels + 1) e e (length s)
   reason-trailing q e g =
-      walked (Went q) e ∙ ap (λ t. reasonBy true h b (cond t (Trailing (b - q)) (Done (h.levels - h.levels) (countIn s)))) (lt-ltb q b g)
+      walked (Went q) e ∙ ap (λ t. reason_by true h b (cond t (Trailing (b - q)) (Done (h.levels - h.levels) (count_in s)))) (lt-ltb q b g)
 
-  pub reason-whole : wayIn s (headIn s) ≡ Went (length s) → reasonOf s w p ≡ nothing
+  pub reason-whole : way_in s (head_in s) ≡ Went (length s) → reason_of s w p ≡ nothing
   reason-whole e =
       walked (Went b) e
-      ∙ ap (λ t. reasonBy true h b (cond t (Trailing (b - b)) (Done (h.levels - h.levels) (countIn s)))) (le-ltb b b (omega arith))
+      ∙ ap (λ t. reason_by true h b (cond t (Trailing (b - b)) (Done (h.levels - h.levels) (count_in s)))) (le-ltb b b (omega arith))
       ∙ ap (λ t. cond t nothing (cut_in h b 0 (h.levels + 2 - (h.levels - h.levels)))) (eq-eqb (h.levels - h.levels) 0 (omega arith))
 
-  pub reason-cut : (j : ℕ) → wayIn s (headIn s) ≡ Short j → reasonOf s w p ≡ cut_in (headIn s) (length s) (number_of j) j
+  pub reason-cut : (j : ℕ) → way_in s (head_in s) ≡ Short j → reason_of s w p ≡ cut_in (head_in s) (length s) (number_of j) j
   reason-cut j e = walked (Short j) e ∙ pick (eqb j 1) refl
     where
-      pick : (t : Bool) → eqb j 1 ≡ t → reasonBy true h b (cond t (CutShort b) (Done (h.levels - (j - 2)) (countIn s))) ≡ cut_in h b (cond t 10 0) j
+      pick : (t : Bool) → eqb j 1 ≡ t → reason_by true h b (cond t (CutShort b) (Done (h.levels - (j - 2)) (count_in s))) ≡ cut_in h b (cond t 10 0) j
       pick true g = ap (λ i. cut_in h b 10 i) (sym (eqb-true j 1 g))
       pick false g =
           let i = way-stops s h body j (Short j) e refl in
@@ -86,70 +86,70 @@ module _ (s : List ℕ) (w p : ℕ) (k : Passing (headChecks s w p)) where
 -- ---- any file
 
 -- one that is too long, whatever it says
-pub reason-long : (s : List ℕ) (w p : ℕ) → mostBytes < length s → reasonOf s w p ≡ because 6 0 0 mostBytes (length s)
+pub reason-long : (s : List ℕ) (w p : ℕ) → most_bytes < length s → reason_of s w p ≡ because 6 0 0 most_bytes (length s)
 reason-long s w p h =
-    let e : sayStart s ≡ TooLong = sym (stop _ (lt-ltb mostBytes (length s) h) refl) in
-    reason-early s w p (ap done e) ∙ ap (λ r. reasonBy false (headIn s) (length s) r) e
+    let e : say_start s ≡ TooLong = sym (stop _ (lt-ltb most_bytes (length s) h) refl) in
+    reason-early s w p (ap done e) ∙ ap (λ r. reason_by false (head_in s) (length s) r) e
 
 module _ (s : List ℕ) (w p : ℕ) (Q : Reason → Type 0) where
-  early : {r : Refusal} → done r ≡ false → Q (reasonBy false (headIn s) (length s) r) → sayStart s ≡ r → Q (reasonOf s w p)
-  early {r} d q e = subst Q (sym (reason-early s w p (ap done e ∙ d) ∙ ap (λ r. reasonBy false (headIn s) (length s) r) e)) q
+  early : {r : Refusal} → done r ≡ false → Q (reason_by false (head_in s) (length s) r) → say_start s ≡ r → Q (reason_of s w p)
+  early {r} d q e = subst Q (sym (reason-early s w p (ap done e ∙ d) ∙ ap (λ r. reason_by false (head_in s) (length s) r) e)) q
 
-  pub reason-by : (mostBytes < length s → Q (because 6 0 0 mostBytes (length s)))
-      → (length s < 4 → Q (cut_in (headIn s) (length s) 10 0))
-      → (4 ≤ length s → isCount (leAt 4 s 0) ≡ false → Q (because 9 0 0 newCount (leAt 4 s 0)))
-      → (4 ≤ length s → isCount (leAt 4 s 0) ≡ true → length s < (headIn s).body → Q (cut_in (headIn s) (length s) 10 0))
-      → (Passing (startChecks s) → (r : Reason) → OfField s r → Q r)
-      → (Passing (headChecks s w p) → (q : ℕ) → wayIn s (headIn s) ≡ Went q → q < length s → let e = end_of (headIn s) ((headIn s).levels + 1) in Q (because 12 ((headIn s).levels + 1) e e (length s)))
-      → (Passing (headChecks s w p) → wayIn s (headIn s) ≡ Went (length s) → Q nothing)
-      → (Passing (headChecks s w p) → (j : ℕ) → wayIn s (headIn s) ≡ Short j → Q (cut_in (headIn s) (length s) (number_of j) j))
-      → (Passing (headChecks s w p) → (j found : ℕ) → wayIn s (headIn s) ≡ Wrong j found → Q (because 9 j (place_of (headIn s) j) (wantedOf (headIn s) j) found))
-      → Q (reasonOf s w p)
+  pub reason-by : (most_bytes < length s → Q (because 6 0 0 most_bytes (length s)))
+      → (length s < 4 → Q (cut_in (head_in s) (length s) 10 0))
+      → (4 ≤ length s → is_count (le_at 4 s 0) ≡ false → Q (because 9 0 0 new_count (le_at 4 s 0)))
+      → (4 ≤ length s → is_count (le_at 4 s 0) ≡ true → length s < (head_in s).body → Q (cut_in (head_in s) (length s) 10 0))
+      → (Passing (start_checks s) → (r : Reason) → OfField s r → Q r)
+      → (Passing (head_checks s w p) → (q : ℕ) → way_in s (head_in s) ≡ Went q → q < length s → let e = end_of (head_in s) ((head_in s).levels + 1) in Q (because 12 ((head_in s).levels + 1) e e (length s)))
+      → (Passing (head_checks s w p) → way_in s (head_in s) ≡ Went (length s) → Q nothing)
+      → (Passing (head_checks s w p) → (j : ℕ) → way_in s (head_in s) ≡ Short j → Q (cut_in (head_in s) (length s) (number_of j) j))
+      → (Passing (head_checks s w p) → (j found : ℕ) → way_in s (head_in s) ≡ Wrong j found → Q (because 9 j (place_of (head_in s) j) (wanted_of (head_in s) j) found))
+      → Q (reason_of s w p)
   reason-by long few count short field trailing whole cut wrong =
-      start-by s (λ r. sayStart s ≡ r → Q (reasonOf s w p)) (λ g. early refl (long g)) (λ g. early refl (few g)) (λ g c. early refl (count g c)) (λ g c l. early refl (short g c l)) there refl
+      start-by s (λ r. say_start s ≡ r → Q (reason_of s w p)) (λ g. early refl (long g)) (λ g. early refl (few g)) (λ g c. early refl (count g c)) (λ g c l. early refl (short g c l)) there refl
     where
-      way : Passing (headChecks s w p) → (v : Way) → wayIn s (headIn s) ≡ v → Q (reasonOf s w p)
+      way : Passing (head_checks s w p) → (v : Way) → way_in s (head_in s) ≡ v → Q (reason_of s w p)
       way k (Went q) e =
           ⊎_elim (λ (g : q < length s). subst Q (sym (reason-trailing s w p k q e g)) (trailing k q e g))
           (λ (g : length s ≤ q).
-          let z = walk-size (headIn s).levels s (headIn s).width (headIn s).samples (headIn s).body q (head-passes s w p k).there e in
-          let f : wayIn s (headIn s) ≡ Went (length s) = e ∙ ap (λ i. Went i) (omega (arith, z.1, g)) in
+          let z = walk-size (head_in s).levels s (head_in s).width (head_in s).samples (head_in s).body q (head-passes s w p k).there e in
+          let f : way_in s (head_in s) ≡ Went (length s) = e ∙ ap (λ i. Went i) (omega (arith, z.1, g)) in
           subst Q (sym (reason-whole s w p k f)) (whole k f))
           (lt-or-le q (length s))
       way k (Short j) e = subst Q (sym (reason-cut s w p k j e)) (cut k j e)
       way k (Wrong j found) e = subst Q (sym (reason-wrong s w p k j found e)) (wrong k j found e)
 
-      there : Passing (startChecks s) → sayStart s ≡ Done 0 0 → Q (reasonOf s w p)
+      there : Passing (start_checks s) → say_start s ≡ Done 0 0 → Q (reason_of s w p)
       there q e =
-          later-by s w p (λ r. sayFile s w p ≡ r → Q (reasonOf s w p)) q
-          (of refl refl refl refl, (of refl refl refl refl, (of refl refl refl refl, (of refl refl refl refl, (of refl refl refl refl, (of refl refl refl refl, (of refl refl refl refl, ((λ t. of refl refl refl (rate-none (isNew s) t) t), tt))))))))
-          (λ k _. way k (wayIn s (headIn s)) refl) refl
+          later-by s w p (λ r. say_file s w p ≡ r → Q (reason_of s w p)) q
+          (of refl refl refl refl, (of refl refl refl refl, (of refl refl refl refl, (of refl refl refl refl, (of refl refl refl refl, (of refl refl refl refl, (of refl refl refl refl, ((λ t. of refl refl refl (rate-none (is_new s) t) t), tt))))))))
+          (λ k _. way k (way_in s (head_in s)) refl) refl
         where
-          of : {r : Refusal} {A : Type 0} → let x = reasonBy true (headIn s) (length s) r in
-              among fieldNumbers x.number ≡ true → x.section ≡ 0 → x.place ≡ fieldPlace x.number
-              → leAt (cond (ltb x.place 6) 1 4) s x.place ≡ x.found → A → sayFile s w p ≡ r → Q (reasonOf s w p)
+          of : {r : Refusal} {A : Type 0} → let x = reason_by true (head_in s) (length s) r in
+              among field_numbers x.number ≡ true → x.section ≡ 0 → x.place ≡ field_place x.number
+              → le_at (cond (ltb x.place 6) 1 4) s x.place ≡ x.found → A → say_file s w p ≡ r → Q (reason_of s w p)
           of {r} n z a f _ g =
-              let x = reasonBy true (headIn s) (length s) r in
-              subst Q (sym (reason-later s w p (ap done e) ∙ ap (λ r. reasonBy true (headIn s) (length s) r) g)) (field q x (record { number = n; section = z; place = a; found = f }))
+              let x = reason_by true (head_in s) (length s) r in
+              subst Q (sym (reason-later s w p (ap done e) ∙ ap (λ r. reason_by true (head_in s) (length s) r) g)) (field q x (record { number = n; section = z; place = a; found = f }))
 
-          rate-none : (new : Bool) → (new && eqb (cond new (leAt 4 s 14) 0) 0) ≡ true → leAt 4 s 14 ≡ 0
-          rate-none true t = eqb-true (leAt 4 s 14) 0 t
+          rate-none : (new : Bool) → (new && eqb (cond new (le_at 4 s 14) 0) 0) ≡ true → le_at 4 s 14 ≡ 0
+          rate-none true t = eqb-true (le_at 4 s 14) 0 t
           rate-none false t = off refl t
 
 -- ---- about the call
 
 -- "else the place is the field's first byte": a field, or the whole file where it is too long
 abbrev Fielded : List ℕ → Reason → Type 0
-Fielded s r = among fieldNumbers r.number ≡ true → ((mostBytes < length s) × (r ≡ because 6 0 0 mostBytes (length s))) ⊎ OfField s r
+Fielded s r = among field_numbers r.number ≡ true → ((most_bytes < length s) × (r ≡ because 6 0 0 most_bytes (length s))) ⊎ OfField s r
 
-pub why-field : (s : List ℕ) (w p : ℕ) {r : Reason} → r ≡ reasonOf s w p → among fieldNumbers r.number ≡ true → ((mostBytes < length s) × (r ≡ because 6 0 0 mostBytes (length s))) ⊎ OfField s r
+pub why-field : (s : List ℕ) (w p : ℕ) {r : Reason} → r ≡ reason_of s w p → among field_numbers r.number ≡ true → ((most_bytes < length s) × (r ≡ because 6 0 0 most_bytes (length s))) ⊎ OfField s r
 why-field s w p why = subst (Fielded s) (sym why) all
   where
-    cut : (b : Bool) → among fieldNumbers (cond b 10 0) ≡ false
+    cut : (b : Bool) → among field_numbers (cond b 10 0) ≡ false
     cut true = refl
     cut false = refl
 
-    all : Fielded s (reasonOf s w p)
+    all : Fielded s (reason_of s w p)
     all =
         reason-by s w p (Fielded s) (λ g _. inl (g, refl)) (λ _. off refl) (λ _ _. off refl) (λ _ _ _. off refl) (λ _ r f _. inr f) (λ _ _ _ _. off refl) (λ _ _. off refl)
         (λ _ j _. off (cut (eqb j 1))) (λ _ _ _ _. off refl)

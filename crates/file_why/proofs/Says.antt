@@ -12,33 +12,33 @@ use Rattle.base_answers.specs.declared.err.Refusal.TheVariants.{Done, MinFilterS
 use Rattle.base_answers.specs.Answers.{says, done}
 use Rattle.base_answers.specs.Checks.{Check, first_of}
 use Rattle.base_answers.proofs.Passed.{Passing, through, other-end, both-pass, pass-both, off}
-use Rattle.base_samples.specs.Le.{leAt}
+use Rattle.base_samples.specs.Le.{le_at}
 use Rattle.file_open.specs.declared.head.Head.{Head}
 use Rattle.file_open.specs.declared.walk.Way.{Way}
 use Rattle.file_open.specs.declared.walk.Way.TheVariants.{Went, Short, Wrong}
-use Rattle.file_open.specs.Files.{mostBytes, isCount}
-use Rattle.file_open.specs.Opens.{headIn, startChecks, fieldChecks, rateChecks, headChecks, wayIn, wayChecks, wholeDetails, levelIn, countIn, samplesTo, count_of, sayFile}
+use Rattle.file_open.specs.Files.{most_bytes, is_count}
+use Rattle.file_open.specs.Opens.{head_in, start_checks, field_checks, rate_checks, head_checks, way_in, way_checks, whole_details, level_in, count_in, samples_to, count_of, say_file}
 use Rattle.file_open.proofs.Opening.{start-passes}
-use Rattle.file_open.proofs.Ways.{apart, one-by, StopsIn, standOf, Stopped, walk-size, walk-stops, stop-below}
-use Rattle.file_why.specs.Reasons.{end_of, place_of, reasonBy, sayStart, reasonOf, Said}
+use Rattle.file_open.proofs.Ways.{apart, one-by, StopsIn, stand_of, Stopped, walk-size, walk-stops, stop-below}
+use Rattle.file_why.specs.Reasons.{end_of, place_of, reason_by, say_start, reason_of, Said}
 use Rattle.file_why.proofs.Places.{end_is, samples-all, place-behind, stand-is}
 use Rattle.file_why.proofs.Stops.{Every, first_by, first-append}
 
 -- ---- the start
 
 -- what it says, and what each case tells
-pub start-by : (s : List ℕ) (P : Refusal → Type 0) → (mostBytes < length s → P TooLong) → (length s < 4 → P (CutShort (length s)))
-    → (4 ≤ length s → isCount (leAt 4 s 0) ≡ false → P (BadCount 0 (leAt 4 s 0))) → (4 ≤ length s → isCount (leAt 4 s 0) ≡ true → length s < (headIn s).body → P (CutShort (length s)))
-    → (Passing (startChecks s) → P (Done 0 0)) → P (sayStart s)
+pub start-by : (s : List ℕ) (P : Refusal → Type 0) → (most_bytes < length s → P TooLong) → (length s < 4 → P (CutShort (length s)))
+    → (4 ≤ length s → is_count (le_at 4 s 0) ≡ false → P (BadCount 0 (le_at 4 s 0))) → (4 ≤ length s → is_count (le_at 4 s 0) ≡ true → length s < (head_in s).body → P (CutShort (length s)))
+    → (Passing (start_checks s) → P (Done 0 0)) → P (say_start s)
 start-by s P long few wrong short there =
-    pick (ltb mostBytes (length s)) (ltb (length s) 4) (isCount (leAt 4 s 0)) (ltb (length s) (headIn s).body) refl refl refl refl
+    pick (ltb most_bytes (length s)) (ltb (length s) 4) (is_count (le_at 4 s 0)) (ltb (length s) (head_in s).body) refl refl refl refl
   where
-    pick : (x y z u : Bool) → ltb mostBytes (length s) ≡ x → ltb (length s) 4 ≡ y → isCount (leAt 4 s 0) ≡ z → ltb (length s) (headIn s).body ≡ u
-        → P (cond x TooLong (cond y (CutShort (length s)) (cond (not z) (BadCount 0 (leAt 4 s 0)) (cond u (CutShort (length s)) (Done 0 0)))))
-    pick true y z u ex ey ez eu = long (ltb-true mostBytes (length s) ex)
+    pick : (x y z u : Bool) → ltb most_bytes (length s) ≡ x → ltb (length s) 4 ≡ y → is_count (le_at 4 s 0) ≡ z → ltb (length s) (head_in s).body ≡ u
+        → P (cond x TooLong (cond y (CutShort (length s)) (cond (not z) (BadCount 0 (le_at 4 s 0)) (cond u (CutShort (length s)) (Done 0 0)))))
+    pick true y z u ex ey ez eu = long (ltb-true most_bytes (length s) ex)
     pick false true z u ex ey ez eu = few (ltb-true (length s) 4 ey)
     pick false false false u ex ey ez eu = wrong (ltb-false (length s) 4 ey) ez
-    pick false false true true ex ey ez eu = short (ltb-false (length s) 4 ey) ez (ltb-true (length s) (headIn s).body eu)
+    pick false false true true ex ey ez eu = short (ltb-false (length s) 4 ey) ez (ltb-true (length s) (head_in s).body eu)
     pick false false true false ex ey ez eu = there (ex, (ey, (ap not ez, (eu, tt))))
 
 -- ---- all of it
@@ -46,115 +46,115 @@ start-by s P long few wrong short there =
 module _ (s : List ℕ) (w p : ℕ) where
   -- the rest of section 0, and the walk
   abbrev pub later : List Check
-  later = fieldChecks (headIn s) w p ++ rateChecks s
+  later = field_checks (head_in s) w p ++ rate_checks s
 
-  abbrev pub sayWay : Refusal
-  sayWay = first_of (wayChecks (wayIn s (headIn s)) (length s)) (Done (levelIn s) (countIn s))
+  abbrev pub say_way : Refusal
+  say_way = first_of (way_checks (way_in s (head_in s)) (length s)) (Done (level_in s) (count_in s))
 
-  file-by : sayFile s w p ≡ first_of (startChecks s) (first_of later sayWay)
-  unfolding sayFile
-  file-by = first-append (headChecks s w p) (wayChecks (wayIn s (headIn s)) (length s)) (Done (levelIn s) (countIn s)) ∙ first-append (startChecks s) later sayWay
+  file-by : say_file s w p ≡ first_of (start_checks s) (first_of later say_way)
+  unfolding say_file
+  file-by = first-append (head_checks s w p) (way_checks (way_in s (head_in s)) (length s)) (Done (level_in s) (count_in s)) ∙ first-append (start_checks s) later say_way
 
   -- where the start refuses, the opener says that
-  pub start-stops : done (sayStart s) ≡ false → sayFile s w p ≡ sayStart s
-  start-stops h = file-by ∙ other-end (startChecks s) (Done 0 0) (first_of later sayWay) refl h
+  pub start-stops : done (say_start s) ≡ false → say_file s w p ≡ say_start s
+  start-stops h = file-by ∙ other-end (start_checks s) (Done 0 0) (first_of later say_way) refl h
 
-  pub reason-early : done (sayStart s) ≡ false → reasonOf s w p ≡ reasonBy false (headIn s) (length s) (sayStart s)
-  unfolding reasonOf
-  reason-early h = ap₂ (λ t r. reasonBy t (headIn s) (length s) r) h (start-stops h)
+  pub reason-early : done (say_start s) ≡ false → reason_of s w p ≡ reason_by false (head_in s) (length s) (say_start s)
+  unfolding reason_of
+  reason-early h = ap₂ (λ t r. reason_by t (head_in s) (length s) r) h (start-stops h)
 
-  pub reason-later : done (sayStart s) ≡ true → reasonOf s w p ≡ reasonBy true (headIn s) (length s) (sayFile s w p)
-  unfolding reasonOf
-  reason-later h = ap (λ t. reasonBy t (headIn s) (length s) (sayFile s w p)) h
+  pub reason-later : done (say_start s) ≡ true → reason_of s w p ≡ reason_by true (head_in s) (length s) (say_file s w p)
+  unfolding reason_of
+  reason-later h = ap (λ t. reason_by t (head_in s) (length s) (say_file s w p)) h
 
   -- where the start passes, what stands behind it
-  pub reason-start : Passing (startChecks s) → reasonOf s w p ≡ reasonBy true (headIn s) (length s) (first_of later sayWay)
+  pub reason-start : Passing (start_checks s) → reason_of s w p ≡ reason_by true (head_in s) (length s) (first_of later say_way)
   reason-start q =
-      reason-later (ap done (through (startChecks s) (Done 0 0) q)) ∙ ap (λ r. reasonBy true (headIn s) (length s) r) (file-by ∙ through (startChecks s) (first_of later sayWay) q)
+      reason-later (ap done (through (start_checks s) (Done 0 0) q)) ∙ ap (λ r. reason_by true (head_in s) (length s) r) (file-by ∙ through (start_checks s) (first_of later say_way) q)
 
   -- where all of section 0 passes, what the walk says
-  pub reason-passed : Passing (headChecks s w p) → reasonOf s w p ≡ reasonBy true (headIn s) (length s) sayWay
+  pub reason-passed : Passing (head_checks s w p) → reason_of s w p ≡ reason_by true (head_in s) (length s) say_way
   reason-passed k =
-      let q = both-pass (startChecks s) later k in
-      reason-start q.0 ∙ ap (λ r. reasonBy true (headIn s) (length s) r) (through later sayWay q.1)
+      let q = both-pass (start_checks s) later k in
+      reason-start q.0 ∙ ap (λ r. reason_by true (head_in s) (length s) r) (through later say_way q.1)
 
   -- where the start passes, what holds of each refusal behind it, and of the walk where all of section 0 passes
-  pub later-by : (P : Refusal → Type 0) → Passing (startChecks s) → Every P later → (Passing (headChecks s w p) → P sayWay) → P (sayFile s w p)
+  pub later-by : (P : Refusal → Type 0) → Passing (start_checks s) → Every P later → (Passing (head_checks s w p) → P say_way) → P (say_file s w p)
   later-by P q each way =
-      subst P (sym (file-by ∙ through (startChecks s) (first_of later sayWay) q)) (first_by P later sayWay each (λ r. way (pass-both (startChecks s) later q r)))
+      subst P (sym (file-by ∙ through (start_checks s) (first_of later say_way) q)) (first_by P later say_way each (λ r. way (pass-both (start_checks s) later q r)))
 
 -- ---- the cases
 
-way-each : (P : Refusal → Type 0) (v : Way) (b : ℕ) (e : Refusal) → ((a : ℕ) → P (CutShort a)) → ((a c : ℕ) → P (BadCount a c)) → ((a : ℕ) → P (Trailing a)) → P e → P (first_of (wayChecks v b) e)
-way-each P (Went q) b e cut count more end = first_by P (wayChecks (Went q) b) e ((λ _. more (b - q)), tt) (λ _. end)
-way-each P (Short j) b e cut count more end = first_by P (wayChecks (Short j) b) e ((λ _. cut b), tt) (λ _. end)
-way-each P (Wrong j found) b e cut count more end = first_by P (wayChecks (Wrong j found) b) e ((λ _. count j found), tt) (λ _. end)
+way-each : (P : Refusal → Type 0) (v : Way) (b : ℕ) (e : Refusal) → ((a : ℕ) → P (CutShort a)) → ((a c : ℕ) → P (BadCount a c)) → ((a : ℕ) → P (Trailing a)) → P e → P (first_of (way_checks v b) e)
+way-each P (Went q) b e cut count more end = first_by P (way_checks (Went q) b) e ((λ _. more (b - q)), tt) (λ _. end)
+way-each P (Short j) b e cut count more end = first_by P (way_checks (Short j) b) e ((λ _. cut b), tt) (λ _. end)
+way-each P (Wrong j found) b e cut count more end = first_by P (way_checks (Wrong j found) b) e ((λ _. count j found), tt) (λ _. end)
 
 -- the opener says ten cases of a file, and no other
 pub says-each : (s : List ℕ) (w p : ℕ) (P : Refusal → Type 0) → ((a c : ℕ) → P (Done a c)) → ((a c : ℕ) → P (MinFilterSize a c)) → P BufferWasTooSmallForLevel → P TooLong
     → ((a c : ℕ) → P (OtherWidth a c)) → ((a c : ℕ) → P (BadCount a c)) → ((a : ℕ) → P (CutShort a)) → ((a c : ℕ) → P (OtherPoint a c)) → ((a : ℕ) → P (Trailing a)) → P NoRate
-    → P (sayFile s w p)
+    → P (say_file s w p)
 says-each s w p P end least level long width count cut point more rate =
-    let h = headIn s in
+    let h = head_in s in
     subst P (sym (file-by s w p))
-    (first_by P (startChecks s) (first_of (later s w p) (sayWay s w p)) ((λ _. long), ((λ _. cut _), ((λ _. count _ _), ((λ _. cut _), tt))))
-    (λ _. first_by P (later s w p) (sayWay s w p) ((λ _. width _ _), ((λ _. width _ _), ((λ _. least _ _), ((λ _. long), ((λ _. level), ((λ _. level), ((λ _. point _ _), ((λ _. rate), tt))))))))
-    (λ _. way-each P (wayIn s h) (length s) (Done (levelIn s) (countIn s)) cut count more (end (levelIn s) (countIn s)))))
+    (first_by P (start_checks s) (first_of (later s w p) (say_way s w p)) ((λ _. long), ((λ _. cut _), ((λ _. count _ _), ((λ _. cut _), tt))))
+    (λ _. first_by P (later s w p) (say_way s w p) ((λ _. width _ _), ((λ _. width _ _), ((λ _. least _ _), ((λ _. long), ((λ _. level), ((λ _. level), ((λ _. point _ _), ((λ _. rate), tt))))))))
+    (λ _. way-each P (way_in s h) (length s) (Done (level_in s) (count_in s)) cut count more (end (level_in s) (count_in s)))))
 
 -- ---- the walk
 
 module _ (s : List ℕ) (h : Head) (body : h.body ≤ length s) where
   -- a walk that stops in section j stands at its count
-  pub way-stops : (j : ℕ) (v : Way) → wayIn s h ≡ v → StopsIn j v → Stopped s h.width h.levels h.body j (samplesTo h j) v
+  pub way-stops : (j : ℕ) (v : Way) → way_in s h ≡ v → StopsIn j v → Stopped s h.width h.levels h.body j (samples_to h j) v
   way-stops j v e st = walk-stops h.levels s h.width h.samples h.body j v body e st
 
   -- which is behind section 0, and in the file
-  pub place-within : (j : ℕ) (v : Way) → wayIn s h ≡ v → StopsIn j v → (h.body ≤ place_of h j) × (place_of h j ≤ length s)
+  pub place-within : (j : ℕ) (v : Way) → way_in s h ≡ v → StopsIn j v → (h.body ≤ place_of h j) × (place_of h j ≤ length s)
   place-within j v e st =
       let i = way-stops j v e st in
       let one = i.some in
       (place-behind h j one, omega (arith, i.within, stand-is h j one i.most))
 
   -- a walk that went on ends where the last section does, in the file
-  pub way-ends : (q : ℕ) → wayIn s h ≡ Went q → (q ≡ end_of h (h.levels + 1)) × (h.body ≤ q) × (q ≤ length s)
+  pub way-ends : (q : ℕ) → way_in s h ≡ Went q → (q ≡ end_of h (h.levels + 1)) × (h.body ≤ q) × (q ≤ length s)
   way-ends q e =
       let z = walk-size h.levels s h.width h.samples h.body q body e in
       (omega (arith, z.0, end_is h (h.levels + 1) (omega arith) (omega arith), ap (λ n. h.width * n) (samples-all h)), omega (arith, z.0), z.1)
 
   -- a wrong count is there
-  pub wrong-there : (j found : ℕ) → wayIn s h ≡ Wrong j found → (place_of h j + 4 ≤ length s) × (leAt 4 s (place_of h j) ≡ found)
+  pub wrong-there : (j found : ℕ) → way_in s h ≡ Wrong j found → (place_of h j + 4 ≤ length s) × (le_at 4 s (place_of h j) ≡ found)
   wrong-there j found e =
       let i = way-stops j (Wrong j found) e refl in
       let at = stand-is h j i.some i.most in
-      one-by s h.width (count_of h j) j (standOf h.width h.body j (samplesTo h j)) (λ v. v ≡ Wrong j found → (place_of h j + 4 ≤ length s) × (leAt 4 s (place_of h j) ≡ found))
-      (λ _. apart _ _ refl) (λ four _ z. (omega (arith, four, at), ap (λ q. leAt 4 s q) (sym at) ∙ cc)) (λ _ _ _. apart _ _ refl) (λ _ _ _. apart _ _ refl) i.here
+      one-by s h.width (count_of h j) j (stand_of h.width h.body j (samples_to h j)) (λ v. v ≡ Wrong j found → (place_of h j + 4 ≤ length s) × (le_at 4 s (place_of h j) ≡ found))
+      (λ _. apart _ _ refl) (λ four _ z. (omega (arith, four, at), ap (λ q. le_at 4 s q) (sym at) ∙ cc)) (λ _ _ _. apart _ _ refl) (λ _ _ _. apart _ _ refl) i.here
 
   -- a cut is before the end of its section
-  pub cut-before : (j : ℕ) → wayIn s h ≡ Short j → length s < end_of h j
-  cut-before j e = let i = way-stops j (Short j) e refl in omega (arith, stop-below s h.width h.levels h.body j (samplesTo h j) i, i.some, end_is h j i.some i.most)
+  pub cut-before : (j : ℕ) → way_in s h ≡ Short j → length s < end_of h j
+  cut-before j e = let i = way-stops j (Short j) e refl in omega (arith, stop-below s h.width h.levels h.body j (samples_to h j) i, i.some, end_is h j i.some i.most)
 
 -- what the walk says, and what each case tells, of a section 0 that says h
 pub way_by : (s : List ℕ) (h : Head) (c : ℕ) (P : Refusal → Type 0) → h.body ≤ length s
-    → ((q : ℕ) → wayIn s h ≡ Went q → q < length s → P (Trailing (length s - q)))
-    → (wayIn s h ≡ Went (length s) → P (Done (h.levels - h.levels) c))
-    → (wayIn s h ≡ Short 1 → P (CutShort (length s)))
-    → ((j : ℕ) → wayIn s h ≡ Short j → 2 ≤ j → P (Done (h.levels - (j - 2)) c))
-    → ((j found : ℕ) → wayIn s h ≡ Wrong j found → P (BadCount j found))
-    → P (first_of (wayChecks (wayIn s h) (length s)) (Done (h.levels - wholeDetails (wayIn s h) h.levels) c))
-way_by s h c P body trailing whole first cut wrong = pick (wayIn s h) refl
+    → ((q : ℕ) → way_in s h ≡ Went q → q < length s → P (Trailing (length s - q)))
+    → (way_in s h ≡ Went (length s) → P (Done (h.levels - h.levels) c))
+    → (way_in s h ≡ Short 1 → P (CutShort (length s)))
+    → ((j : ℕ) → way_in s h ≡ Short j → 2 ≤ j → P (Done (h.levels - (j - 2)) c))
+    → ((j found : ℕ) → way_in s h ≡ Wrong j found → P (BadCount j found))
+    → P (first_of (way_checks (way_in s h) (length s)) (Done (h.levels - whole_details (way_in s h) h.levels) c))
+way_by s h c P body trailing whole first cut wrong = pick (way_in s h) refl
   where
-    went : (q : ℕ) → wayIn s h ≡ Went q → (t : Bool) → ltb q (length s) ≡ t → P (cond t (Trailing (length s - q)) (Done (h.levels - h.levels) c))
+    went : (q : ℕ) → way_in s h ≡ Went q → (t : Bool) → ltb q (length s) ≡ t → P (cond t (Trailing (length s - q)) (Done (h.levels - h.levels) c))
     went q e true g = trailing q e (ltb-true q (length s) g)
     went q e false g =
         let z = walk-size h.levels s h.width h.samples h.body q body e in
         let all : q ≡ length s = omega (arith, ltb-false q (length s) g, z.1) in
         whole (e ∙ ap (λ i. Went i) all)
 
-    short : (j : ℕ) → wayIn s h ≡ Short j → (t : Bool) → eqb j 1 ≡ t → P (cond t (CutShort (length s)) (Done (h.levels - (j - 2)) c))
+    short : (j : ℕ) → way_in s h ≡ Short j → (t : Bool) → eqb j 1 ≡ t → P (cond t (CutShort (length s)) (Done (h.levels - (j - 2)) c))
     short j e true g = first (e ∙ ap (λ i. Short i) (eqb-true j 1 g))
     short j e false g = cut j e (omega (arith, (way-stops s h body j (Short j) e refl).some, eqb-false j 1 g))
 
-    pick : (v : Way) → wayIn s h ≡ v → P (first_of (wayChecks v (length s)) (Done (h.levels - wholeDetails v h.levels) c))
+    pick : (v : Way) → way_in s h ≡ v → P (first_of (way_checks v (length s)) (Done (h.levels - whole_details v h.levels) c))
     pick (Went q) e = went q e (ltb q (length s)) refl
     pick (Short j) e = short j e (eqb j 1) refl
     pick (Wrong j found) e = wrong j found e
@@ -165,27 +165,27 @@ way_by s h c P body trailing whole first cut wrong = pick (wayIn s h) refl
 quiet : (h : Head) (b : ℕ) (r : Refusal) → done r ≡ false → says 9 r ≡ false → says 10 r ≡ false → Said h b r
 quiet h b r z n t = record { level = λ e. off z e; wrong = λ e. off n e; cut = λ e. off t e }
 
-module _ (s : List ℕ) (w p : ℕ) (q : Passing (startChecks s)) where
+module _ (s : List ℕ) (w p : ℕ) (q : Passing (start_checks s)) where
   abbrev h : Head
-  h = headIn s
+  h = head_in s
 
-  no : {A : Type 0} {r : Refusal} → done r ≡ false → says 9 r ≡ false → says 10 r ≡ false → A → Said (headIn s) (length s) r
-  no {r = r} z n t _ = quiet (headIn s) (length s) r z n t
+  no : {A : Type 0} {r : Refusal} → done r ≡ false → says 9 r ≡ false → says 10 r ≡ false → A → Said (head_in s) (length s) r
+  no {r = r} z n t _ = quiet (head_in s) (length s) r z n t
 
   -- a cut in a later section, and a wrong count
-  cut : (j : ℕ) → wayIn s h ≡ Short j → 2 ≤ j → Said h (length s) (Done (h.levels - (j - 2)) (countIn s))
+  cut : (j : ℕ) → way_in s h ≡ Short j → 2 ≤ j → Said h (length s) (Done (h.levels - (j - 2)) (count_in s))
   cut j e two =
       let body = (start-passes s q).1 in
       let most = (way-stops s h body j (Short j) e refl).most in
       let at : h.levels + 2 - (h.levels - (j - 2)) ≡ j = omega (arith, most, two) in
       record { level = λ _ _. (omega arith, subst (λ i. length s ≤ end_of h i) (sym at) (omega (arith, cut-before s h body j e))); wrong = off refl; cut = off refl }
 
-  wrong : (j found : ℕ) → wayIn s h ≡ Wrong j found → Said h (length s) (BadCount j found)
+  wrong : (j found : ℕ) → way_in s h ≡ Wrong j found → Said h (length s) (BadCount j found)
   wrong j found e = let i = way-stops s h (start-passes s q).1 j (Wrong j found) e refl in record { level = off refl; wrong = λ _. (i.some, i.most); cut = off refl }
 
-  pub said : Said (headIn s) (length s) (sayFile s w p)
+  pub said : Said (head_in s) (length s) (say_file s w p)
   said =
       later-by s w p (Said h (length s)) q
       (no refl refl refl, (no refl refl refl, (no refl refl refl, (no refl refl refl, (no refl refl refl, (no refl refl refl, (no refl refl refl, (no refl refl refl, tt))))))))
-      (λ _. way_by s h (countIn s) (Said h (length s)) (start-passes s q).1 (λ _ _. no refl refl refl) (λ _. record { level = λ _ n. absurd (n (omega arith)); wrong = off refl; cut = off refl })
+      (λ _. way_by s h (count_in s) (Said h (length s)) (start-passes s q).1 (λ _ _. no refl refl refl) (λ _. record { level = λ _ n. absurd (n (omega arith)); wrong = off refl; cut = off refl })
       (λ e. record { level = off refl; wrong = off refl; cut = λ _. omega (arith, cut-before s h (start-passes s q).1 1 e) }) cut wrong)

@@ -6,11 +6,11 @@ use Rattle.base_answers.specs.declared.err.Refusal.TheVariants.{Done, MinFilterS
 use Rattle.base_answers.specs.Answers.{answer_of, says, done}
 use Rattle.base_answers.specs.Checks.{first_of}
 use Rattle.base_lengths.specs.declared.Wavelet.TheVariants.{Cdf53}
-use Rattle.base_lengths.specs.Lengths.{mostSamples}
+use Rattle.base_lengths.specs.Lengths.{most_samples}
 use Rattle.base_lengths.specs.Levels.{depth_of}
 use Rattle.file_open.specs.declared.head.Head.{Head}
-use Rattle.file_open.specs.Files.{mostBytes, newCount}
-use Rattle.file_open.specs.Opens.{headIn, startChecks, sayFile, count_of, length_of}
+use Rattle.file_open.specs.Files.{most_bytes, new_count}
+use Rattle.file_open.specs.Opens.{head_in, start_checks, say_file, count_of, length_of}
 use Rattle.file_why.specs.declared.Reason.{Reason}
 
 abbrev pub because : ℕ → ℕ → ℕ → ℕ → ℕ → Reason
@@ -30,9 +30,9 @@ abbrev pub place_of : Head → ℕ → ℕ
 place_of h zero = 0
 place_of h (suc j) = end_of h j
 
-abbrev pub wantedOf : Head → ℕ → ℕ
-wantedOf h zero = newCount
-wantedOf h (suc j) = count_of h (suc j)
+abbrev pub wanted_of : Head → ℕ → ℕ
+wanted_of h zero = new_count
+wanted_of h (suc j) = count_of h (suc j)
 
 -- "the bytes that would complete the part being read: the count if it is broken, else the section", of a section from p to e in b bytes
 abbrev pub missing : ℕ → ℕ → ℕ → ℕ
@@ -42,36 +42,36 @@ missing b p e = cond (ltb b (p + 4)) (p + 4 - b) (e - b)
 abbrev pub cut_in : Head → ℕ → ℕ → ℕ → Reason
 cut_in h b number j = because number j b (missing b (place_of h j) (end_of h j)) 0
 
--- what `sayFile` says, of a file of b bytes: `there` tells whether the first checks pass, so that section 0 is there, and h is what that says. A file that opens at a level
--- above 0 is cut in section L + 2 - level. `sayFile` never says the last nine cases
-abbrev pub reasonBy : Bool → Head → ℕ → Refusal → Reason
-reasonBy there h b (Done level count) = cond (eqb level 0) nothing (cut_in h b 0 (h.levels + 2 - level))
-reasonBy there h b (MinFilterSize n least) = because 1 0 6 least n
-reasonBy there h b BufferWasTooSmallForLevel = because 4 0 5 (depth_of Cdf53 h.samples) h.levels
-reasonBy there h b TooLong = cond there (because 6 0 6 mostSamples h.samples) (because 6 0 0 mostBytes b)
-reasonBy there h b (OtherWidth file asked) = because 8 0 4 asked file
-reasonBy there h b (BadCount j found) = because 9 j (place_of h j) (wantedOf h j) found
-reasonBy there h b (CutShort c) = cut_in h b 10 (cond there 1 0)
-reasonBy there h b (OtherPoint file asked) = because 11 0 10 asked file
-reasonBy there h b (Trailing more) = because 12 (h.levels + 1) (end_of h (h.levels + 1)) (end_of h (h.levels + 1)) b
-reasonBy there h b NoRate = because 18 0 14 1 0
-reasonBy there h b (ApproxSizeNotMatches a c) = because 2 0 0 0 0
-reasonBy there h b (OutputSizeIsNotValid a c) = because 3 0 0 0 0
-reasonBy there h b ZeroedBaseSize = because 5 0 0 0 0
-reasonBy there h b (NoRoom a c) = because 7 0 0 0 0
-reasonBy there h b (NoSuchPlace a c) = because 13 0 0 0 0
-reasonBy there h b BookFull = because 14 0 0 0 0
-reasonBy there h b AlreadyHeld = because 15 0 0 0 0
-reasonBy there h b NotHeld = because 16 0 0 0 0
-reasonBy there h b (DetailsSizeNotMatches a c) = because 17 0 0 0 0
+-- what `say_file` says, of a file of b bytes: `there` tells whether the first checks pass, so that section 0 is there, and h is what that says. A file that opens at a level
+-- above 0 is cut in section L + 2 - level. `say_file` never says the last nine cases
+abbrev pub reason_by : Bool → Head → ℕ → Refusal → Reason
+reason_by there h b (Done level count) = cond (eqb level 0) nothing (cut_in h b 0 (h.levels + 2 - level))
+reason_by there h b (MinFilterSize n least) = because 1 0 6 least n
+reason_by there h b BufferWasTooSmallForLevel = because 4 0 5 (depth_of Cdf53 h.samples) h.levels
+reason_by there h b TooLong = cond there (because 6 0 6 most_samples h.samples) (because 6 0 0 most_bytes b)
+reason_by there h b (OtherWidth file asked) = because 8 0 4 asked file
+reason_by there h b (BadCount j found) = because 9 j (place_of h j) (wanted_of h j) found
+reason_by there h b (CutShort c) = cut_in h b 10 (cond there 1 0)
+reason_by there h b (OtherPoint file asked) = because 11 0 10 asked file
+reason_by there h b (Trailing more) = because 12 (h.levels + 1) (end_of h (h.levels + 1)) (end_of h (h.levels + 1)) b
+reason_by there h b NoRate = because 18 0 14 1 0
+reason_by there h b (ApproxSizeNotMatches a c) = because 2 0 0 0 0
+reason_by there h b (OutputSizeIsNotValid a c) = because 3 0 0 0 0
+reason_by there h b ZeroedBaseSize = because 5 0 0 0 0
+reason_by there h b (NoRoom a c) = because 7 0 0 0 0
+reason_by there h b (NoSuchPlace a c) = because 13 0 0 0 0
+reason_by there h b BookFull = because 14 0 0 0 0
+reason_by there h b AlreadyHeld = because 15 0 0 0 0
+reason_by there h b NotHeld = because 16 0 0 0 0
+reason_by there h b (DetailsSizeNotMatches a c) = because 17 0 0 0 0
 
 -- the first checks of the opener: the file is not too long, and section 0 is there
-abbrev pub sayStart : List ℕ → Refusal
-sayStart s = first_of (startChecks s) (Done 0 0)
+abbrev pub say_start : List ℕ → Refusal
+say_start s = first_of (start_checks s) (Done 0 0)
 
 -- the reason is that of what the opener says of the file alone
-unfoldable pub reasonOf : List ℕ → ℕ → ℕ → Reason
-reasonOf s w p = reasonBy (done (sayStart s)) (headIn s) (length s) (sayFile s w p)
+unfoldable pub reason_of : List ℕ → ℕ → ℕ → Reason
+reason_of s w p = reason_by (done (say_start s)) (head_in s) (length s) (say_file s w p)
 
 -- what the opener can say of a file of b bytes whose section 0 says h: the sections are those that h tells of, and a cut is not behind the end of its section
 pub record Said (h : Head) (b : ℕ) (r : Refusal) : Type 0 where

@@ -1,8 +1,8 @@
 // Why a file does not open: the first check that stopped the opener, in five numbers. Document 02, C-18.
 ghost use Rattle.std.specs.Prelude.{true, false, ◌≡◌, ◌+◌, ◌≤◌, ◌<◌, length};
 ghost use Rattle.base_answers.specs.Answers.{done};
-ghost use Rattle.file_open.specs.Opens.{headIn, Read};
-ghost use Rattle.file_why.specs.Reasons.{because, end_of, place_of, missing, cut_in, reasonBy, sayStart, reasonOf, Said};
+ghost use Rattle.file_open.specs.Opens.{head_in, Read};
+ghost use Rattle.file_why.specs.Reasons.{because, end_of, place_of, missing, cut_in, reason_by, say_start, reason_of, Said};
 
 use base_answers::err::{Refusal, is_done, numbers};
 use base_lengths::{MOST_SAMPLES, Wavelet, depth};
@@ -72,8 +72,8 @@ fn cut_in(h: Head, b: usize, number: usize, j: usize) -> Reason
 
 // How many bytes complete the count of section 0, or section 0, which is cut.
 fn start_missing(s: &[u8]) -> usize
-    requires { 4 ≤ length s.now → length s.now ≤ (headIn s.now).body }
-    ensures { result ≡ missing (length s.now) 0 (headIn s.now).body }
+    requires { 4 ≤ length s.now → length s.now ≤ (head_in s.now).body }
+    ensures { result ≡ missing (length s.now) 0 (head_in s.now).body }
 {
     if s.len() < 4 {
         return 4 - s.len();
@@ -83,8 +83,8 @@ fn start_missing(s: &[u8]) -> usize
 
 // The first checks refuse: a file that is too long, a wrong count of section 0, or a cut in it.
 fn start_reason(s: &[u8], start: Refusal) -> Reason
-    requires { (start ≡ sayStart s.now) × (done start ≡ false) }
-    ensures { result ≡ reasonBy false (headIn s.now) (length s.now) start }
+    requires { (start ≡ say_start s.now) × (done start ≡ false) }
+    ensures { result ≡ reason_by false (head_in s.now) (length s.now) start }
 {
     match start {
         Refusal::TooLong => because(6, 0, 0, MOST_BYTES, s.len()),
@@ -96,7 +96,7 @@ fn start_reason(s: &[u8], start: Refusal) -> Reason
 // The reason of a file of b bytes whose section 0 says h, from what the opener says of it.
 fn file_reason(h: Head, b: usize, said: Refusal) -> Reason
     requires { Read h × Said h b said }
-    ensures { result ≡ reasonBy true h b said }
+    ensures { result ≡ reason_by true h b said }
 {
     match said {
         Refusal::Done(level, _) => {
@@ -125,7 +125,7 @@ fn file_reason(h: Head, b: usize, said: Refusal) -> Reason
 
 // The first check that stopped the opener, of a file that is asked for with width w and point p.
 pub fn why(s: &[u8], w: usize, p: usize) -> Reason
-    ensures { result ≡ reasonOf s.now w p }
+    ensures { result ≡ reason_of s.now w p }
 {
     let start = check_start(s);
     if !is_done(start) {

@@ -3,8 +3,8 @@ ghost use Rattle.std.specs.Prelude.{◌++◌, ◌≡◌, ◌*◌, ◌≤◌, ◌
 ghost use Rattle.base_answers.specs.Checks.{first_of};
 ghost use Rattle.levels_filter.specs.Filters.{Integers, width_of};
 ghost use Rattle.levels_filter.specs.Calls.{Ready};
-ghost use Rattle.file_open.specs.Files.{newSize, fileSize, fileOf};
-ghost use Rattle.file_open.specs.Writes.{writeChecks, sayWrite, Write};
+ghost use Rattle.file_open.specs.Files.{new_size, file_size, file_of};
+ghost use Rattle.file_open.specs.Writes.{write_checks, say_write, Write};
 
 use base_answers::err::{Answer, Refusal, is_done, numbers};
 use base_lengths::at_least_one;
@@ -28,9 +28,9 @@ fn lay_file(
     two: &mut [u8],
 )
     requires ready { Ready f levels n (length signal.now) (length one.old) (length two.old) }
-    requires n_in_bounds { fileSize newSize (width_of f) levels n ≤ length file.old }
+    requires n_in_bounds { file_size new_size (width_of f) levels n ≤ length file.old }
     requires rate_nonzero { 0 < rate }
-    ensures file_after { file.new ≡ fileOf f levels point rate signal.now ++ drop (fileSize newSize (width_of f) levels n) file.old }
+    ensures file_after { file.new ≡ file_of f levels point rate signal.now ++ drop (file_size new_size (width_of f) levels n) file.old }
     ensures one_unchanged { drop (width_of f * n) one.new ≡ drop (width_of f * n) one.old }
     ensures two_unchanged { drop (width_of f * n) two.new ≡ drop (width_of f * n) two.old }
 {
@@ -42,7 +42,7 @@ fn lay_file(
 
 // By samples: n of the signal, u and v of the work areas; b bytes of the file area.
 fn write_lengths(f: Filter, levels: usize, n: usize, b: usize, u: usize, v: usize) -> Refusal
-    ensures { result ≡ first_of (writeChecks f levels n b u v) (Refusal.Done 0 0) }
+    ensures { result ≡ first_of (write_checks f levels n b u v) (Refusal.Done 0 0) }
 {
     let said = check_depth(f, levels, n);
     if !is_done(said) {
@@ -65,7 +65,7 @@ fn check_write(
     one: usize,
     two: usize,
 ) -> Refusal
-    ensures { result ≡ sayWrite f levels rate signal file one two }
+    ensures { result ≡ say_write f levels rate signal file one two }
 {
     let k = width(f);
     let said = check_whole(k, signal, one, two);

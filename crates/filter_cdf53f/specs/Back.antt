@@ -2,18 +2,18 @@
 use Rattle.std.specs.Prelude.{true, false, List, ◌≡◌, ℕ, ◌*◌, Float, get_or}
 use Rattle.std.specs.Float.{nan, Format}
 use Rattle.base_samples.specs.Words.{Front}
-use Rattle.base_samples.specs.Floats.{width, decodeFloats}
+use Rattle.base_samples.specs.Floats.{width, decode_floats}
 use Rattle.filter_floats.specs.Steps.{lift, evens, odds}
 use Rattle.filter_floats.specs.Filters.{decimal}
 use Rattle.filter_floats.specs.Loops.{Lent}
 use Rattle.filter_small.specs.Lists.{in_turn}
 
 -- the even samples whose bands are in a and d, and the odd ones
-unfoldable pub evensOf : Format → Float → List ℕ → List ℕ → List Float
-evensOf f c a d = evens (lift f c) nan (decodeFloats f a) (decodeFloats f d)
+unfoldable pub evens_of : Format → Float → List ℕ → List ℕ → List Float
+evens_of f c a d = evens (lift f c) nan (decode_floats f a) (decode_floats f d)
 
-unfoldable pub oddsOf : Format → Float → Float → List ℕ → List ℕ → List Float
-oddsOf f c g a d = odds (lift f g) nan (evensOf f c a d) (decodeFloats f d)
+unfoldable pub odds_of : Format → Float → Float → List ℕ → List ℕ → List Float
+odds_of f c g a d = odds (lift f g) nan (evens_of f c a d) (decode_floats f d)
 
 -- x has room for the samples whose bands are in a and d; c and g are the factors of the inverse of 5/3
 pub record Given (f : Format) (c g : Float) (x a d : List ℕ) : Type 0 where
@@ -23,5 +23,5 @@ pub record Given (f : Format) (c g : Float) (x a d : List ℕ) : Type 0 where
 
 -- x holds the first 2 i of the n samples that it is to hold, and e is even sample i, which comes next
 pub record Restoring (f : Format) (c g : Float) (n : ℕ) (a d x : List ℕ) (i : ℕ) (e : Float) : Type 0 where
-  pub front : Front (width f) n (2 * i) (in_turn f (evensOf f c a d) (oddsOf f c g a d)) x
-  pub next : e ≡ get_or (evensOf f c a d) i nan
+  pub front : Front (width f) n (2 * i) (in_turn f (evens_of f c a d) (odds_of f c g a d)) x
+  pub next : e ≡ get_or (evens_of f c a d) i nan

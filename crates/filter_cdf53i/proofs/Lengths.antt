@@ -1,10 +1,10 @@
 -- How many bytes the bands of the integer 5/3 filter have, and the samples of two bands; and that each is a list of bytes. Once over the width.
 use Rattle.std.proofs.Common.{◌≡◌, ℕ, zero, suc, ◌+◌, ◌*◌, ◌/◌, ◌<◌, List, [], ◌∷◌, ◌++◌, length, get_or, ℤ, ap, ◌∙◌, mul-add, arith}
-use Rattle.base_lengths.specs.Lengths.{approxLength, detailsLength}
+use Rattle.base_lengths.specs.Lengths.{approx_length, details_length}
 use Rattle.base_samples.specs.Le.{le_bytes, Bytes}
 use Rattle.base_samples.specs.Words.{bytes_of}
 use Rattle.base_samples.specs.Integers.{wrap, decode, encode}
-use Rattle.base_samples.proofs.LeLaws.{bytes-leBytes}
+use Rattle.base_samples.proofs.LeLaws.{bytes-le_bytes}
 use Rattle.base_samples.proofs.Words.{length-tabulate}
 use Rattle.base_samples.proofs.IntegerLaws.{length-decode, length-encode}
 use Rattle.filter_cdf53i.specs.Lift.{details, approxs, restored}
@@ -12,13 +12,13 @@ use Rattle.filter_cdf53i.specs.Bands.{low, high, back}
 
 -- ---- on whole numbers
 
-pub length-approxs : (keep : ℤ → ℤ) (x : List ℤ) → length (approxs keep x) ≡ approxLength (length x)
+pub length-approxs : (keep : ℤ → ℤ) (x : List ℤ) → length (approxs keep x) ≡ approx_length (length x)
 unfolding approxs
-length-approxs keep x = length-tabulate (approxLength (length x)) _
+length-approxs keep x = length-tabulate (approx_length (length x)) _
 
-pub length-details : (keep : ℤ → ℤ) (x : List ℤ) → length (details keep x) ≡ detailsLength (length x)
+pub length-details : (keep : ℤ → ℤ) (x : List ℤ) → length (details keep x) ≡ details_length (length x)
 unfolding details
-length-details keep x = length-tabulate (detailsLength (length x)) _
+length-details keep x = length-tabulate (details_length (length x)) _
 
 pub length-restored : (keep : ℤ → ℤ) (a d : List ℤ) → length (restored keep a d) ≡ length a + length d
 unfolding restored
@@ -28,14 +28,14 @@ length-restored keep a d = length-tabulate (length a + length d) _
 
 module _ (k : ℕ) where
   -- the approximations of a list of bytes
-  pub length-low : (x : List ℕ) → length (low k x) ≡ k * approxLength (length x / k)
+  pub length-low : (x : List ℕ) → length (low k x) ≡ k * approx_length (length x / k)
   unfolding low
-  length-low x = length-encode k _ ∙ ap (λ n. k * n) (length-approxs (wrap k) (decode k x) ∙ ap approxLength (length-decode k x))
+  length-low x = length-encode k _ ∙ ap (λ n. k * n) (length-approxs (wrap k) (decode k x) ∙ ap approx_length (length-decode k x))
 
   -- its details
-  pub length_high : (x : List ℕ) → length (high k x) ≡ k * detailsLength (length x / k)
+  pub length_high : (x : List ℕ) → length (high k x) ≡ k * details_length (length x / k)
   unfolding high
-  length_high x = length-encode k _ ∙ ap (λ n. k * n) (length-details (wrap k) (decode k x) ∙ ap detailsLength (length-decode k x))
+  length_high x = length-encode k _ ∙ ap (λ n. k * n) (length-details (wrap k) (decode k x) ∙ ap details_length (length-decode k x))
 
   -- the samples of two bands
   pub length_back : (a d : List ℕ) → length (back k a d) ≡ k * (length a / k) + k * (length d / k)
@@ -61,7 +61,7 @@ bytes-join s t p q = record { byte = go s p.byte }
 pub bytes-of : (k : ℕ) (us : List ℕ) → Bytes (bytes_of k us)
 unfolding bytes_of
 bytes-of k [] = record { byte = λ i. omega arith }
-bytes-of k (u ∷ us) = bytes-join (le_bytes k u) (bytes_of k us) (record { byte = bytes-leBytes k u }) (bytes-of k us)
+bytes-of k (u ∷ us) = bytes-join (le_bytes k u) (bytes_of k us) (record { byte = bytes-le_bytes k u }) (bytes-of k us)
 
 module _ (k : ℕ) where
   -- the approximations are bytes, whatever the filter was given

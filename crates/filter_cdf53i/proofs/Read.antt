@@ -1,10 +1,10 @@
 -- What the filter's bytes hold, read as numbers: T.800's kept steps; and T.800's own numbers, where k bytes hold each of these.
 use Rattle.std.proofs.Common.{◌≡◌, ℕ, suc, ◌+◌, ◌-◌, ◌/◌, ◌^◌, ◌<◌, ◌≤◌, List, length, ℤ, pos, negsuc, ap, ◌∙◌, mod-eq_of_lt, arith, le-ltb, lt-ltb}
-use Rattle.base_lengths.specs.Lengths.{approxLength, detailsLength}
+use Rattle.base_lengths.specs.Lengths.{approx_length, details_length}
 use Rattle.base_samples.specs.Integers.{val, residue, wrap, decode, encode, Width}
-use Rattle.base_samples.proofs.Words.{length-tabulate, get_d_tabulate}
+use Rattle.base_samples.proofs.Words.{length-tabulate, get_or-tabulate}
 use Rattle.base_samples.proofs.IntegerLaws.{length-decode}
-use Rattle.filter_cdf53i.specs.Lift.{at, evenCount, oddCount, detail, details, approx, approxs, sample, restored}
+use Rattle.filter_cdf53i.specs.Lift.{at, even_count, odd_count, detail, details, approx, approxs, sample, restored}
 use Rattle.filter_cdf53i.specs.Bands as bytes
 use Rattle.filter_cdf53i.specs.T800.{highs, lows, backs}
 use Rattle.filter_cdf53i.specs.Within.{Within, AllWithin, Holding}
@@ -24,11 +24,11 @@ module _ {k : ℕ} (w : Width k) where
   -- ---- on numbers: T.800's own where they are within k bytes
 
   module _ (x : List ℤ) (two : 2 ≤ length x) (hw : AllWithin k (highs (λ z. z) x)) where
-    own-detail : (i : ℕ) → i < oddCount x → wrap k (detail (λ z. z) x i) ≡ detail (λ z. z) x i
+    own-detail : (i : ℕ) → i < odd_count x → wrap k (detail (λ z. z) x i) ≡ detail (λ z. z) x i
     unfolding details
     own-detail i h =
-        let e : at (highs (λ z. z) x) i ≡ detail (λ z. z) x i = rw (← details-is (λ z. z) x two) (get_d_tabulate (oddCount x) (detail (λ z. z) x) i (pos 0) h) in
-        let l : length (highs (λ z. z) x) ≡ oddCount x = rw (← details-is (λ z. z) x two) (length-tabulate (oddCount x) (detail (λ z. z) x)) in
+        let e : at (highs (λ z. z) x) i ≡ detail (λ z. z) x i = rw (← details-is (λ z. z) x two) (get_or-tabulate (odd_count x) (detail (λ z. z) x) i (pos 0) h) in
+        let l : length (highs (λ z. z) x) ≡ odd_count x = rw (← details-is (λ z. z) x two) (length-tabulate (odd_count x) (detail (λ z. z) x)) in
         wrap-within w (detail (λ z. z) x i) (rw e at (hw i (omega arith)))
 
     pub highs-unwrapped : highs (wrap k) x ≡ highs (λ z. z) x
@@ -41,8 +41,8 @@ module _ {k : ℕ} (w : Width k) where
         rw (← approxs-is (wrap k) x two, ← approxs-is (λ z. z) x two)
         (approxs-unwrapped (wrap k) x own-detail
         (λ i h.
-        let e : at (lows (λ z. z) x) i ≡ g i = rw (← approxs-is (λ z. z) x two) (get_d_tabulate (evenCount x) g i (pos 0) h) in
-        let l : length (lows (λ z. z) x) ≡ evenCount x = rw (← approxs-is (λ z. z) x two) (length-tabulate (evenCount x) g) in
+        let e : at (lows (λ z. z) x) i ≡ g i = rw (← approxs-is (λ z. z) x two) (get_or-tabulate (even_count x) g i (pos 0) h) in
+        let l : length (lows (λ z. z) x) ≡ even_count x = rw (← approxs-is (λ z. z) x two) (length-tabulate (even_count x) g) in
         wrap-within w (g i) (rw e at (lw i (omega arith)))))
 
   pub backs-unwrapped : (a d : List ℤ) → length d ≤ length a → length a ≤ length d + 1 → 1 ≤ length d → AllWithin k (backs (λ z. z) a d) → backs (wrap k) a d ≡ backs (λ z. z) a d
@@ -53,7 +53,7 @@ module _ {k : ℕ} (w : Width k) where
       rw (← restored-is (wrap k) a d more less one, ← restored-is (λ z. z) a d more less one)
       (restored-unwrapped (wrap k) a d more less
       (λ j h.
-      let e : at (backs (λ z. z) a d) j ≡ g j = rw (← restored-is (λ z. z) a d more less one) (get_d_tabulate n g j (pos 0) h) in
+      let e : at (backs (λ z. z) a d) j ≡ g j = rw (← restored-is (λ z. z) a d more less one) (get_or-tabulate n g j (pos 0) h) in
       let l : length (backs (λ z. z) a d) ≡ n = rw (← restored-is (λ z. z) a d more less one) (length-tabulate n g) in
       wrap-within w (g j) (rw e at (bw j (omega arith)))))
 
@@ -78,11 +78,11 @@ module _ {k : ℕ} (w : Width k) where
     low-own hw lw = let e = lows-unwrapped (decode k x) some hw lw in record { bytes = low-is k x two ∙ ap (encode k) e; read = low_read ∙ e }
 
   -- of the bands of n samples
-  module _ (a d : List ℕ) (n : ℕ) (ea : length a / k ≡ approxLength n) (ed : length d / k ≡ detailsLength n) (two : 2 ≤ n) where
-    long-a : length (decode k a) ≡ approxLength n
+  module _ (a d : List ℕ) (n : ℕ) (ea : length a / k ≡ approx_length n) (ed : length d / k ≡ details_length n) (two : 2 ≤ n) where
+    long-a : length (decode k a) ≡ approx_length n
     long-a = length-decode k a ∙ ea
 
-    long-d : length (decode k d) ≡ detailsLength n
+    long-d : length (decode k d) ≡ details_length n
     long-d = length-decode k d ∙ ed
 
     pub back_read : decode k (bytes.back k a d) ≡ backs (wrap k) (decode k a) (decode k d)

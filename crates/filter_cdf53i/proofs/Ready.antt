@@ -1,7 +1,7 @@
 -- What the checks leave is what the steps ask.
 use Rattle.std.proofs.Common.{ℕ, ◌/◌, List, length}
 use Rattle.base_lengths.specs.declared.Wavelet.TheVariants.{Cdf53}
-use Rattle.base_lengths.specs.Lengths.{approxLength}
+use Rattle.base_lengths.specs.Lengths.{approx_length}
 use Rattle.base_lengths.specs.Calls.{Level}
 use Rattle.base_samples.specs.Words.{Holds}
 use Rattle.base_samples.specs.Integers.{Width}
@@ -9,7 +9,7 @@ use Rattle.base_samples.proofs.Words.{holds}
 use Rattle.filter_cdf53i.specs.Bands.{Input, InputBands}
 
 -- of the samples and the approximations, whatever d bytes the details have
-pub ready-low : {k n d : ℕ} {x a : List ℕ} → Width k → Level Cdf53 k n (length x) (length a) d → Input k x × Holds k (approxLength (length x / k)) a
+pub ready-low : {k n d : ℕ} {x a : List ℕ} → Width k → Level Cdf53 k n (length x) (length a) d → Input k x × Holds k (approx_length (length x / k)) a
 ready-low {n = n} {x = x} {a = a} w l =
     let s = holds w.some x n l.samples in
     (record { width = w; long = rw s.count l.long; samples = rw s.count s }, rw s.count (holds w.some a _ l.approx))

@@ -7,10 +7,10 @@ use Rattle.base_order.proofs.Order.{lt-or-le}
 use Rattle.base_samples.specs.Words.{tabulate}
 use Rattle.base_samples.specs.Integers.{val, residue, wrap, Width}
 use Rattle.base_samples.proofs.LeLaws.{top_pos}
-use Rattle.base_samples.proofs.Words.{length-tabulate, get_d_tabulate}
+use Rattle.base_samples.proofs.Words.{length-tabulate, get_or-tabulate}
 use Rattle.base_samples.proofs.Diff.{pos-sub, sub-lt, sub-ge, sub-add, mod-cancel, residue-sub}
 use Rattle.base_samples.proofs.IntegerLaws.{residue-lt, word-wrap}
-use Rattle.filter_cdf53i.specs.Lift.{at, floorDiv, evenCount, oddCount, detail, details, approx, approxs, even, odd, sample, restored}
+use Rattle.filter_cdf53i.specs.Lift.{at, floor_div, even_count, odd_count, detail, details, approx, approxs, even, odd, sample, restored}
 use Rattle.filter_cdf53i.proofs.Lengths.{length-approxs, length-details, length-restored}
 
 -- t added and taken away again, or the other way round, with each result kept, leaves what is kept of z
@@ -79,23 +79,23 @@ module _ {k : ℕ} (w : Width k) where
   }
 
 module _ (keep : ℤ → ℤ) (x : List ℤ) where
-  pub at-details : (i : ℕ) → i < oddCount x → at (details keep x) i ≡ detail keep x i
+  pub at-details : (i : ℕ) → i < odd_count x → at (details keep x) i ≡ detail keep x i
   unfolding details
-  at-details i h = get_d_tabulate (oddCount x) (detail keep x) i (pos 0) h
+  at-details i h = get_or-tabulate (odd_count x) (detail keep x) i (pos 0) h
 
 -- ---- the inverse of the transform of x is x, where x is of numbers that are kept as they are
 module _ (keep : ℤ → ℤ) (u : Undoes keep) (x : List ℤ) (long : 2 ≤ length x) (fits : (i : ℕ) → i < length x → keep (at x i) ≡ at x i) where
-  even-back : (i : ℕ) → i < evenCount x → even keep (approxs keep x) (details keep x) i ≡ at x (2 * i)
+  even-back : (i : ℕ) → i < even_count x → even keep (approxs keep x) (details keep x) i ≡ at x (2 * i)
   unfolding even approxs approx
   even-back i h =
-      rw (get_d_tabulate (evenCount x) (approx keep x (details keep x)) i (pos 0) h)
+      rw (get_or-tabulate (even_count x) (approx keep x (details keep x)) i (pos 0) h)
       (u.add (at x (2 * i)) _ ∙ fits (2 * i) (omega arith))
 
-  odd-back : (i : ℕ) → i < oddCount x → odd keep (even keep (approxs keep x) (details keep x)) (length (approxs keep x)) (details keep x) i ≡ at x (2 * i + 1)
+  odd-back : (i : ℕ) → i < odd_count x → odd keep (even keep (approxs keep x) (details keep x)) (length (approxs keep x)) (details keep x) i ≡ at x (2 * i + 1)
   unfolding odd detail
   odd-back i h =
-      rw (length-approxs keep x, at-details keep x i h, even-back i (omega arith), even-back (min (i + 1) (evenCount x - 1)) (omega arith))
-      (u.sub (at x (2 * i + 1)) (floorDiv (at x (2 * i) +ℤ at x (2 * min (i + 1) (evenCount x - 1))) 2) ∙ fits (2 * i + 1) (omega arith))
+      rw (length-approxs keep x, at-details keep x i h, even-back i (omega arith), even-back (min (i + 1) (even_count x - 1)) (omega arith))
+      (u.sub (at x (2 * i + 1)) (floor_div (at x (2 * i) +ℤ at x (2 * min (i + 1) (even_count x - 1))) 2) ∙ fits (2 * i + 1) (omega arith))
 
   sample-back : (j : ℕ) → j < length x → sample keep (approxs keep x) (details keep x) j ≡ at x j
   unfolding sample
@@ -115,7 +115,7 @@ module _ (keep : ℤ → ℤ) (u : Undoes keep) (x : List ℤ) (long : 2 ≤ len
       let len : length (tabulate n (sample keep (approxs keep x) (details keep x))) ≡ length x = length-tabulate n (sample keep (approxs keep x) (details keep x)) ∙ restored-length in
       ext_get_or (pos 0) (tabulate n (sample keep (approxs keep x) (details keep x))) x len
       (λ j h.
-      get_d_tabulate n (sample keep (approxs keep x) (details keep x)) j (pos 0) (omega (arith, restored-length))
+      get_or-tabulate n (sample keep (approxs keep x) (details keep x)) j (pos 0) (omega (arith, restored-length))
       ∙ sample-back j (omega arith))
 
 -- ---- and the transform undoes the inverse
@@ -123,7 +123,7 @@ module _ (keep : ℤ → ℤ) (u : Undoes keep) (a d : List ℤ) (more : length 
     (fit-a : (i : ℕ) → i < length a → keep (at a i) ≡ at a i) (fit-d : (i : ℕ) → i < length d → keep (at d i) ≡ at d i) where
   at-restored : (j : ℕ) → j < length a + length d → at (restored keep a d) j ≡ sample keep a d j
   unfolding restored
-  at-restored j h = get_d_tabulate (length a + length d) (sample keep a d) j (pos 0) h
+  at-restored j h = get_or-tabulate (length a + length d) (sample keep a d) j (pos 0) h
 
   at-even : (i : ℕ) → i < length a → at (restored keep a d) (2 * i) ≡ even keep a d i
   unfolding sample
@@ -136,29 +136,29 @@ module _ (keep : ℤ → ℤ) (u : Undoes keep) (a d : List ℤ) (more : length 
   detail-again : (i : ℕ) → i < length d → detail keep (restored keep a d) i ≡ at d i
   unfolding detail odd
   detail-again i h =
-      let n : evenCount (restored keep a d) ≡ length a = omega (arith, length-restored keep a d) in
-      let p = floorDiv (even keep a d i +ℤ even keep a d (min (i + 1) (length a - 1))) 2 in
+      let n : even_count (restored keep a d) ≡ length a = omega (arith, length-restored keep a d) in
+      let p = floor_div (even keep a d i +ℤ even keep a d (min (i + 1) (length a - 1))) 2 in
       rw (n, at-odd i h, at-even i (omega arith), at-even (min (i + 1) (length a - 1)) (omega arith)) (u.add (at d i) p ∙ fit-d i h)
 
   pub details-again : details keep (restored keep a d) ≡ d
   unfolding details
   details-again =
       let x = restored keep a d in
-      let n : oddCount x ≡ length d = omega (arith, length-restored keep a d) in
-      let len : length (tabulate (oddCount x) (detail keep x)) ≡ length d = length-tabulate (oddCount x) (detail keep x) ∙ n in
-      ext_get_or (pos 0) (tabulate (oddCount x) (detail keep x)) d len
-      (λ i h. get_d_tabulate (oddCount x) (detail keep x) i (pos 0) (omega arith) ∙ detail-again i (omega arith))
+      let n : odd_count x ≡ length d = omega (arith, length-restored keep a d) in
+      let len : length (tabulate (odd_count x) (detail keep x)) ≡ length d = length-tabulate (odd_count x) (detail keep x) ∙ n in
+      ext_get_or (pos 0) (tabulate (odd_count x) (detail keep x)) d len
+      (λ i h. get_or-tabulate (odd_count x) (detail keep x) i (pos 0) (omega arith) ∙ detail-again i (omega arith))
 
   approx-again : (i : ℕ) → i < length a → approx keep (restored keep a d) d i ≡ at a i
   unfolding approx even
-  approx-again i h = rw (at-even i h) (u.sub (at a i) (floorDiv (at d (i - 1) +ℤ at d (min i (length d - 1)) +ℤ pos 2) 4) ∙ fit-a i h)
+  approx-again i h = rw (at-even i h) (u.sub (at a i) (floor_div (at d (i - 1) +ℤ at d (min i (length d - 1)) +ℤ pos 2) 4) ∙ fit-a i h)
 
   pub approxs-again : approxs keep (restored keep a d) ≡ a
   unfolding approxs
   approxs-again =
       let x = restored keep a d in
-      let n : evenCount x ≡ length a = omega (arith, length-restored keep a d) in
-      let len : length (tabulate (evenCount x) (approx keep x d)) ≡ length a = length-tabulate (evenCount x) (approx keep x d) ∙ n in
+      let n : even_count x ≡ length a = omega (arith, length-restored keep a d) in
+      let len : length (tabulate (even_count x) (approx keep x d)) ≡ length a = length-tabulate (even_count x) (approx keep x d) ∙ n in
       rw details-again
-      (ext_get_or (pos 0) (tabulate (evenCount x) (approx keep x d)) a len
-      (λ i h. get_d_tabulate (evenCount x) (approx keep x d) i (pos 0) (omega arith) ∙ approx-again i (omega arith)))
+      (ext_get_or (pos 0) (tabulate (even_count x) (approx keep x d)) a len
+      (λ i h. get_or-tabulate (even_count x) (approx keep x d) i (pos 0) (omega arith) ∙ approx-again i (omega arith)))

@@ -1,6 +1,6 @@
 -- The integer 5/3 filter on bytes: k bytes a sample, each coefficient kept modulo the width. And what its inner functions ask and promise.
 use Rattle.std.specs.Prelude.{◌≡◌, ℕ, ◌+◌, ◌-◌, ◌*◌, ◌/◌, ◌^◌, ◌<◌, ◌≤◌, List, length}
-use Rattle.base_lengths.specs.Lengths.{approxLength, detailsLength}
+use Rattle.base_lengths.specs.Lengths.{approx_length, details_length}
 use Rattle.base_samples.specs.Words.{Holds, Front}
 use Rattle.base_samples.specs.Integers.{Width, wrap, residue, decode, encode}
 use Rattle.filter_cdf53i.specs.Lift.{detail, details, approx, approxs, even, sample, restored}
@@ -25,42 +25,42 @@ pub record Input (k : ℕ) (x : List ℕ) : Type 0 where
 -- and a as many as x has approximations, d as many as it has details
 pub record InputBands (k : ℕ) (x a d : List ℕ) : Type 0 where
   pub input : Input k x
-  pub approx : Holds k (approxLength (length x / k)) a
-  pub details : Holds k (detailsLength (length x / k)) d
+  pub approx : Holds k (approx_length (length x / k)) a
+  pub details : Holds k (details_length (length x / k)) d
 
 -- the word of detail i of the samples in x, and the word of their approximation i
-unfoldable pub detailWord : ℕ → List ℕ → ℕ → ℕ
-detailWord k x i = residue (256 ^ k) (detail (wrap k) (decode k x) i)
+unfoldable pub detail_word : ℕ → List ℕ → ℕ → ℕ
+detail_word k x i = residue (256 ^ k) (detail (wrap k) (decode k x) i)
 
-unfoldable pub approxWord : ℕ → List ℕ → ℕ → ℕ
-approxWord k x i = residue (256 ^ k) (approx (wrap k) (decode k x) (details (wrap k) (decode k x)) i)
+unfoldable pub approx_word : ℕ → List ℕ → ℕ → ℕ
+approx_word k x i = residue (256 ^ k) (approx (wrap k) (decode k x) (details (wrap k) (decode k x)) i)
 
 -- a holds the first i of the approximations of the samples in x, and e is the word of the detail before the next one: of detail 0 where i is 0
 pub record Approximating (k : ℕ) (x a : List ℕ) (i e : ℕ) : Type 0 where
-  pub front : Front k (approxLength (length x / k)) i (approxWord k x) a
-  pub left : e ≡ detailWord k x (i - 1)
+  pub front : Front k (approx_length (length x / k)) i (approx_word k x) a
+  pub left : e ≡ detail_word k x (i - 1)
   pub small : e < 256 ^ k
 
 -- the samples in x have the details i to i + n: before the last no neighbour is mirrored
 pub record Unmirrored (k : ℕ) (x : List ℕ) (i n : ℕ) : Type 0 where
   pub input : Input k x
-  pub details : i + n < detailsLength (length x / k)
+  pub details : i + n < details_length (length x / k)
 
 -- the words of the details from the one before detail i on
-unfoldable pub detailsFrom : ℕ → List ℕ → ℕ → ℕ → ℕ
-detailsFrom k x i j = detailWord k x (i + j - 1)
+unfoldable pub details_from : ℕ → List ℕ → ℕ → ℕ → ℕ
+details_from k x i j = detail_word k x (i + j - 1)
 
 -- the word of sample j of the samples whose bands are in a and d, and the word of their even sample i
-unfoldable pub sampleWord : ℕ → List ℕ → List ℕ → ℕ → ℕ
-sampleWord k a d j = residue (256 ^ k) (sample (wrap k) (decode k a) (decode k d) j)
+unfoldable pub sample_word : ℕ → List ℕ → List ℕ → ℕ → ℕ
+sample_word k a d j = residue (256 ^ k) (sample (wrap k) (decode k a) (decode k d) j)
 
-unfoldable pub evenWord : ℕ → List ℕ → List ℕ → ℕ → ℕ
-evenWord k a d i = residue (256 ^ k) (even (wrap k) (decode k a) (decode k d) i)
+unfoldable pub even_word : ℕ → List ℕ → List ℕ → ℕ → ℕ
+even_word k a d i = residue (256 ^ k) (even (wrap k) (decode k a) (decode k d) i)
 
 -- x holds the first 2 i of the n samples that it is to hold, and e is the word of even sample i, which comes next
 pub record Restoring (k n : ℕ) (a d x : List ℕ) (i e : ℕ) : Type 0 where
-  pub front : Front k n (2 * i) (sampleWord k a d) x
-  pub next : e ≡ evenWord k a d i
+  pub front : Front k n (2 * i) (sample_word k a d) x
+  pub next : e ≡ even_word k a d i
   pub small : e < 256 ^ k
 
 -- a has the approximations and d the details i to i + n: no neighbour is mirrored. Places of d fit a length
@@ -71,11 +71,11 @@ pub record Inside (k : ℕ) (a d : List ℕ) (i n : ℕ) : Type 0 where
   pub few : length d / k ≤ length d
 
 -- the words of the even samples from i on, and of the odd ones
-unfoldable pub evensFrom : ℕ → List ℕ → List ℕ → ℕ → ℕ → ℕ
-evensFrom k a d i j = evenWord k a d (i + j)
+unfoldable pub evens_from : ℕ → List ℕ → List ℕ → ℕ → ℕ → ℕ
+evens_from k a d i j = even_word k a d (i + j)
 
-unfoldable pub oddsFrom : ℕ → List ℕ → List ℕ → ℕ → ℕ → ℕ
-oddsFrom k a d i j = sampleWord k a d (2 * (i + j) + 1)
+unfoldable pub odds_from : ℕ → List ℕ → List ℕ → ℕ → ℕ → ℕ
+odds_from k a d i j = sample_word k a d (2 * (i + j) + 1)
 
 -- s is whole words of k bytes, n of them or more
 pub record EnoughWords (k n : ℕ) (s : List ℕ) : Type 0 where

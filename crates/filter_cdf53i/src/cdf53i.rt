@@ -1,10 +1,10 @@
 // Integer 5/3, one level, once over the width. Ported from osclet's src/cdf53i.rs; execute_forward and execute_inverse with their checks are in levels_filter/src/filter.rt.
 ghost use Rattle.std.specs.Prelude.{◌≡◌, ◌+◌, ◌-◌, ◌*◌, ◌/◌, ◌^◌, ◌<◌, ◌≤◌, length};
-ghost use Rattle.base_lengths.specs.Lengths.{approxLength, detailsLength};
+ghost use Rattle.base_lengths.specs.Lengths.{approx_length, details_length};
 ghost use Rattle.base_samples.specs.Words.{tabulate, Holds, Front};
 ghost use Rattle.base_samples.specs.Integers.{wrap, decode, encode};
-ghost use Rattle.filter_cdf53i.specs.Lift.{approx, evenCount};
-ghost use Rattle.filter_cdf53i.specs.Bands.{low, high, back, detailWord, approxWord, evenWord, sampleWord, detailsFrom, evensFrom, oddsFrom, Input, InputBands, Approximating, Restoring, Unmirrored, Inside, EnoughWords};
+ghost use Rattle.filter_cdf53i.specs.Lift.{approx, even_count};
+ghost use Rattle.filter_cdf53i.specs.Bands.{low, high, back, detail_word, approx_word, even_word, sample_word, details_from, evens_from, odds_from, Input, InputBands, Approximating, Restoring, Unmirrored, Inside, EnoughWords};
 
 use crate::steps::{approx_at, approx_of, detail_at, even_at, odd_of};
 use base_lengths::lesser;
@@ -13,7 +13,7 @@ use base_samples::integers::{get, put};
 // The details of the samples in x, into d.
 fn predict(k: usize, x: &[u8], d: &mut [u8])
     requires input { Input k x.now }
-    requires holds { Holds k (detailsLength (length x.now / k)) d.old }
+    requires holds { Holds k (details_length (length x.now / k)) d.old }
     ensures { d.new ≡ high k x.now }
 {
     let n = x.len() / k;
@@ -29,7 +29,7 @@ fn predict(k: usize, x: &[u8], d: &mut [u8])
 // The approximations of the samples in x and the stored details in d, into a.
 fn update(k: usize, x: &[u8], a: &mut [u8], d: &[u8])
     requires { InputBands k x.now a.old d.now }
-    ensures { a.new ≡ encode k (tabulate (evenCount (decode k x.now)) (approx (wrap k) (decode k x.now) (decode k d.now))) }
+    ensures { a.new ≡ encode k (tabulate (even_count (decode k x.now)) (approx (wrap k) (decode k x.now) (decode k d.now))) }
 {
     let n = x.len() / k;
     let m = n / 2;
@@ -55,9 +55,9 @@ pub fn forward(k: usize, x: &[u8], a: &mut [u8], d: &mut [u8])
 // The details i - 1 to i + n - 1 of the samples in x to the front of t, where detail -1 is detail 0. The first has the word e.
 fn details_from(k: usize, x: &[u8], i: usize, n: usize, e: u32, t: &mut [u8])
     requires unmirrored { Unmirrored k x.now i n }
-    requires e_value { (e ≡ detailWord k x.now (i - 1)) × (e < 256 ^ k) }
+    requires e_value { (e ≡ detail_word k x.now (i - 1)) × (e < 256 ^ k) }
     requires enough_words { EnoughWords k (n + 1) t.old }
-    ensures { Front k (length t.new / k) (n + 1) (detailsFrom k x.now i) t.new }
+    ensures { Front k (length t.new / k) (n + 1) (details_from k x.now i) t.new }
 {
     put(k, t, 0, e);
     let mut j = 0;
@@ -70,9 +70,9 @@ fn details_from(k: usize, x: &[u8], i: usize, n: usize, e: u32, t: &mut [u8])
 // The n approximations from i on, between the details in t, to their places in a.
 fn approxs_from(k: usize, x: &[u8], i: usize, n: usize, t: &[u8], a: &mut [u8])
     requires unmirrored { Unmirrored k x.now i n }
-    requires front { (Front k (length t.now / k) (n + 1) (detailsFrom k x.now i) t.now) × (EnoughWords k (n + 1) t.now) }
-    requires front_2 { Front k (approxLength (length x.now / k)) i (approxWord k x.now) a.old }
-    ensures { Front k (approxLength (length x.now / k)) (i + n) (approxWord k x.now) a.new }
+    requires front { (Front k (length t.now / k) (n + 1) (details_from k x.now i) t.now) × (EnoughWords k (n + 1) t.now) }
+    requires front_2 { Front k (approx_length (length x.now / k)) i (approx_word k x.now) a.old }
+    ensures { Front k (approx_length (length x.now / k)) (i + n) (approx_word k x.now) a.new }
 {
     let mut j = 0;
     while j < n {
@@ -110,7 +110,7 @@ fn approximate_block(
 fn approximate_end(k: usize, x: &[u8], a: &mut [u8], last: usize, e: u32)
     requires input { Input k x.now }
     requires approximating { Approximating k x.now a.old last e }
-    requires last_value { last ≡ detailsLength (length x.now / k) - 1 }
+    requires last_value { last ≡ details_length (length x.now / k) - 1 }
     ensures { a.new ≡ low k x.now }
 {
     let na = (x.len() / k + 1) / 2;
@@ -129,7 +129,7 @@ fn approximate_end(k: usize, x: &[u8], a: &mut [u8], last: usize, e: u32)
 // The approximations of the samples in x alone, into a.
 pub fn approximate(k: usize, x: &[u8], a: &mut [u8])
     requires input { Input k x.now }
-    requires holds { Holds k (approxLength (length x.now / k)) a.old }
+    requires holds { Holds k (approx_length (length x.now / k)) a.old }
     ensures { a.new ≡ low k x.now }
 {
     let last = x.len() / k / 2 - 1;
@@ -148,9 +148,9 @@ pub fn approximate(k: usize, x: &[u8], a: &mut [u8])
 // The even samples i to i + n, of which the first has the word e, to the front of t.
 fn evens_from(k: usize, a: &[u8], d: &[u8], i: usize, n: usize, e: u32, t: &mut [u8])
     requires inside { Inside k a.now d.now i n }
-    requires e_value { (e ≡ evenWord k a.now d.now i) × (e < 256 ^ k) }
+    requires e_value { (e ≡ even_word k a.now d.now i) × (e < 256 ^ k) }
     requires enough_words { EnoughWords k (n + 1) t.old }
-    ensures { Front k (length t.new / k) (n + 1) (evensFrom k a.now d.now i) t.new }
+    ensures { Front k (length t.new / k) (n + 1) (evens_from k a.now d.now i) t.new }
 {
     put(k, t, 0, e);
     let mut j = 0;
@@ -163,9 +163,9 @@ fn evens_from(k: usize, a: &[u8], d: &[u8], i: usize, n: usize, e: u32, t: &mut 
 // The n odd samples between those of t, to the front of u.
 fn odds_from(k: usize, a: &[u8], d: &[u8], i: usize, n: usize, t: &[u8], u: &mut [u8])
     requires inside { Inside k a.now d.now i n }
-    requires front { Front k (length t.now / k) (n + 1) (evensFrom k a.now d.now i) t.now }
+    requires front { Front k (length t.now / k) (n + 1) (evens_from k a.now d.now i) t.now }
     requires enough_words { (EnoughWords k (n + 1) t.now) × (EnoughWords k n u.old) }
-    ensures { Front k (length u.old / k) n (oddsFrom k a.now d.now i) u.new }
+    ensures { Front k (length u.old / k) n (odds_from k a.now d.now i) u.new }
 {
     let mut j = 0;
     while j < n {
@@ -182,11 +182,11 @@ fn odds_from(k: usize, a: &[u8], d: &[u8], i: usize, n: usize, t: &[u8], u: &mut
 // The n pairs of t and u to their places in x.
 fn pairs_from(k: usize, a: &[u8], d: &[u8], i: usize, n: usize, t: &[u8], u: &[u8], x: &mut [u8])
     requires inside { Inside k a.now d.now i n }
-    requires front { Front k (length t.now / k) (n + 1) (evensFrom k a.now d.now i) t.now }
-    requires front_2 { Front k (length u.now / k) n (oddsFrom k a.now d.now i) u.now }
+    requires front { Front k (length t.now / k) (n + 1) (evens_from k a.now d.now i) t.now }
+    requires front_2 { Front k (length u.now / k) n (odds_from k a.now d.now i) u.now }
     requires enough_words { (EnoughWords k (n + 1) t.now) × (EnoughWords k n u.now) × (2 * (i + n) ≤ length x.old / k) }
-    requires front_3 { Front k (length x.old / k) (2 * i) (sampleWord k a.now d.now) x.old }
-    ensures { Front k (length x.old / k) (2 * (i + n)) (sampleWord k a.now d.now) x.new }
+    requires front_3 { Front k (length x.old / k) (2 * i) (sample_word k a.now d.now) x.old }
+    ensures { Front k (length x.old / k) (2 * (i + n)) (sample_word k a.now d.now) x.new }
 {
     let mut j = 0;
     while j < n {

@@ -10,25 +10,25 @@ use lib.Ieee.{Float, nan, Format, binary32, binary64, add, mul, is_nan}
 use lib.ListN.{length, get_or}
 use Rattle.base_order.proofs.Order.{lt-or-le}
 use Rattle.base_lengths.specs.declared.Wavelet.TheVariants.{Cdf97}
-use Rattle.base_lengths.specs.Lengths.{approxLength, detailsLength}
+use Rattle.base_lengths.specs.Lengths.{approx_length, details_length}
 use Rattle.base_samples.specs.Words.{Front}
-use Rattle.base_samples.specs.Floats.{width, encodeFloats}
-use Rattle.filter_floats.specs.Filters.{Set, factorsOf, steps97}
+use Rattle.base_samples.specs.Floats.{width, encode_floats}
+use Rattle.filter_floats.specs.Filters.{Set, factors_of, steps97}
 use Rattle.filter_floats.specs.Steps.{lift}
 use Rattle.filter_floats.specs.Bands.{approxs, details, low, high}
 use Rattle.filter_small.specs.Small.{Small, SmallFrom, SmallIf}
-use Rattle.filter_small.specs.Lists.{evenIn, oddIn, oddsTo, evensTo, patternOf}
-use Rattle.filter_small.proofs.Sizes.{sizeRead, ceiling, small-le, small-part}
+use Rattle.filter_small.specs.Lists.{even_in, odd_in, odds_to, evens_to, pattern_of}
+use Rattle.filter_small.proofs.Sizes.{size_read, ceiling, small-le, small-part}
 use Rattle.filter_small.specs.Pieces.{Piece, Stepped}
 use Rattle.filter_small.proofs.Pieces.{stepped-piece}
 use Rattle.filter_small.proofs.Factors.{Factors, factors}
 use Rattle.filter_small.proofs.Lifts as lifts
 use Rattle.filter_small.proofs.Firsts as firsts
-use Rattle.filter_cdf97f_forward.specs.Ahead.{oddsOne, evensTwo, oddsThree, evensFour, scaledOdds, scaledEvens, Samples, Ahead, Carried, Handed, Splitting, Split}
+use Rattle.filter_cdf97f_forward.specs.Ahead.{odds_one, evens_two, odds_three, evens_four, scaled_odds, scaled_evens, Samples, Ahead, Carried, Handed, Splitting, Split}
 
 -- ---- four steps and a scaling stay far below the largest float
 
-far : (f : Format) → sizeRead f + 9 + 9 + 9 + 9 + 3 < ceiling f
+far : (f : Format) → size_read f + 9 + 9 + 9 + 9 + 3 < ceiling f
 far binary32 = omega arith
 far binary64 = omega arith
 
@@ -39,65 +39,65 @@ module _ {f : Format} {t : Set} {x : List ℕ} (v : Samples f t x) where
   given : Factors t
   given = subst Factors (sym v.set) (factors f)
 
-  pub length-one : length (oddsOne f t x) ≡ length x / width f / 2
-  length-one = firsts.length-oddsTo f x long t.alpha
+  pub length-one : length (odds_one f t x) ≡ length x / width f / 2
+  length-one = firsts.length-odds_to f x long t.alpha
 
-  pub length_two : length (evensTwo f t x) ≡ (length x / width f + 1) / 2
-  length_two = firsts.length-evensTo f x long t.alpha t.beta
+  pub length_two : length (evens_two f t x) ≡ (length x / width f + 1) / 2
+  length_two = firsts.length-evens_to f x long t.alpha t.beta
 
-  length_three : length (oddsThree f t x) ≡ length x / width f / 2
-  unfolding oddsThree
-  length_three = lifts.length-odds f t.gamma (evensTwo f t x) (oddsOne f t x) ∙ length-one
+  length_three : length (odds_three f t x) ≡ length x / width f / 2
+  unfolding odds_three
+  length_three = lifts.length-odds f t.gamma (evens_two f t x) (odds_one f t x) ∙ length-one
 
-  length-four : length (evensFour f t x) ≡ (length x / width f + 1) / 2
-  unfolding evensFour
-  length-four = lifts.length-evens f t.delta (evensTwo f t x) (oddsThree f t x) ∙ length_two
+  length-four : length (evens_four f t x) ≡ (length x / width f + 1) / 2
+  unfolding evens_four
+  length-four = lifts.length-evens f t.delta (evens_two f t x) (odds_three f t x) ∙ length_two
 
-  length-odds-scaled : length (scaledOdds f t x) ≡ length x / width f / 2
-  unfolding scaledOdds
-  length-odds-scaled = lifts.length-scaled f t.invk (oddsThree f t x) ∙ length_three
+  length-odds-scaled : length (scaled_odds f t x) ≡ length x / width f / 2
+  unfolding scaled_odds
+  length-odds-scaled = lifts.length-scaled f t.invk (odds_three f t x) ∙ length_three
 
-  length-evens-scaled : length (scaledEvens f t x) ≡ (length x / width f + 1) / 2
-  unfolding scaledEvens
-  length-evens-scaled = lifts.length-scaled f t.k (evensFour f t x) ∙ length-four
+  length-evens-scaled : length (scaled_evens f t x) ≡ (length x / width f + 1) / 2
+  unfolding scaled_evens
+  length-evens-scaled = lifts.length-scaled f t.k (evens_four f t x) ∙ length-four
 
   -- ---- as the code makes them: r is the place of the right neighbour
 
-  pub three_made : (i r : ℕ) {y z u : Float} → i < length x / width f / 2 → r ≡ min (i + 1) ((length x / width f + 1) / 2 - 1) → y ≡ get_or (evensTwo f t x) i nan → z ≡ get_or (evensTwo f t x) r nan
-      → u ≡ get_or (oddsOne f t x) i nan → add f (mul f (add f y z) t.gamma) u ≡ get_or (oddsThree f t x) i nan
-  unfolding oddsThree
-  three_made i r h er ey ez eu = lifts.odd-made f t.gamma (evensTwo f t x) (oddsOne f t x) i r (rw length-one h) (rw length_two er) ey ez eu
+  pub three_made : (i r : ℕ) {y z u : Float} → i < length x / width f / 2 → r ≡ min (i + 1) ((length x / width f + 1) / 2 - 1) → y ≡ get_or (evens_two f t x) i nan → z ≡ get_or (evens_two f t x) r nan
+      → u ≡ get_or (odds_one f t x) i nan → add f (mul f (add f y z) t.gamma) u ≡ get_or (odds_three f t x) i nan
+  unfolding odds_three
+  three_made i r h er ey ez eu = lifts.odd-made f t.gamma (evens_two f t x) (odds_one f t x) i r (rw length-one h) (rw length_two er) ey ez eu
 
-  pub low-made : (i l r : ℕ) {y z u : Float} → i < (length x / width f + 1) / 2 → l ≡ i - 1 → r ≡ min i (length x / width f / 2 - 1) → y ≡ get_or (oddsThree f t x) l nan → z ≡ get_or (oddsThree f t x) r nan
-      → u ≡ get_or (evensTwo f t x) i nan → mul f (add f (mul f (add f y z) t.delta) u) t.k ≡ get_or (scaledEvens f t x) i nan
-  unfolding scaledEvens evensFour
+  pub low-made : (i l r : ℕ) {y z u : Float} → i < (length x / width f + 1) / 2 → l ≡ i - 1 → r ≡ min i (length x / width f / 2 - 1) → y ≡ get_or (odds_three f t x) l nan → z ≡ get_or (odds_three f t x) r nan
+      → u ≡ get_or (evens_two f t x) i nan → mul f (add f (mul f (add f y z) t.delta) u) t.k ≡ get_or (scaled_evens f t x) i nan
+  unfolding scaled_evens evens_four
   low-made i l r h el er ey ez eu =
-      lifts.scaled_made f t.k _ i (rw (lifts.length-evens f t.delta (evensTwo f t x) (oddsThree f t x), length_two) h)
-      (lifts.even-made f t.delta (evensTwo f t x) (oddsThree f t x) i l r (rw length_two h) el (rw length_three er) ey ez eu)
+      lifts.scaled_made f t.k _ i (rw (lifts.length-evens f t.delta (evens_two f t x) (odds_three f t x), length_two) h)
+      (lifts.even-made f t.delta (evens_two f t x) (odds_three f t x) i l r (rw length_two h) el (rw length_three er) ey ez eu)
 
-  pub high-made : (i : ℕ) {y : Float} → i < length x / width f / 2 → y ≡ get_or (oddsThree f t x) i nan → mul f y t.invk ≡ get_or (scaledOdds f t x) i nan
-  unfolding scaledOdds
-  high-made i h ey = lifts.scaled_made f t.invk (oddsThree f t x) i (rw length_three h) ey
+  pub high-made : (i : ℕ) {y : Float} → i < length x / width f / 2 → y ≡ get_or (odds_three f t x) i nan → mul f y t.invk ≡ get_or (scaled_odds f t x) i nan
+  unfolding scaled_odds
+  high-made i h ey = lifts.scaled_made f t.invk (odds_three f t x) i (rw length_three h) ey
 
   -- ---- the steps of a block, the turns i to before i + n
 
-  module _ (i n : ℕ) (h : i + n + 1 < length x / width f / 2) {y z u₀ u v₀ w w₀ s : List Float} {p q r : Float} (py : Piece (evenIn f x) 0 (i + 1) (n + 1) y) (pz : Piece (oddIn f x) 0 (i + 1) n z)
+  module _ (i n : ℕ) (h : i + n + 1 < length x / width f / 2) {y z u₀ u v₀ w w₀ s : List Float} {p q r : Float} (py : Piece (even_in f x) 0 (i + 1) (n + 1) y) (pz : Piece (odd_in f x) 0 (i + 1) n z)
       (c : Carried f t x i p q r) (one : Stepped f t.alpha y z n p u₀ u) (two : Stepped f t.beta u y n q v₀ w) (three : Stepped f t.gamma w u n r w₀ s) where
-    ones : Piece (oddsOne f t x) 0 i (n + 1) u
-    unfolding lift oddsTo
+    ones : Piece (odds_one f t x) 0 i (n + 1) u
+    unfolding lift odds_to
     ones =
         stepped-piece _ _ _ i one (omega arith) c.one (λ j k hj ek.
-        lifts.odd-made f t.alpha (evenIn f x) (oddIn f x) k (k + 1) (rw (lifts.length-oddIn f x) (omega arith)) (rw (lifts.length-evenIn f x) (omega arith))
+        lifts.odd-made f t.alpha (even_in f x) (odd_in f x) k (k + 1) (rw (lifts.length-odd_in f x) (omega arith)) (rw (lifts.length-even_in f x) (omega arith))
         (py.each j k (omega arith) (omega arith)) (py.each (j + 1) (k + 1) (omega arith) (omega arith)) (pz.each j k hj (omega arith)))
 
-    twos : Piece (evensTwo f t x) 0 i (n + 1) w
-    unfolding lift evensTo
+    twos : Piece (evens_two f t x) 0 i (n + 1) w
+    unfolding lift evens_to
     twos =
         stepped-piece _ _ _ i two (omega arith) c.two (λ j k hj ek.
-        lifts.even-made f t.beta (evenIn f x) (oddsOne f t x) k (i + j) k (rw (lifts.length-evenIn f x) (omega arith)) (omega arith) (rw length-one (omega arith))
+        lifts.even-made f t.beta (even_in f x) (odds_one f t x) k (i + j) k (rw (lifts.length-even_in f x) (omega arith)) (omega arith) (rw length-one (omega arith))
         (ones.each j _ (omega arith) (omega arith)) (ones.each (j + 1) k (omega arith) (omega arith)) (py.each j k (omega arith) (omega arith)))
 
-    threes : Piece (oddsThree f t x) 1 i (n + 1) s
+    threes : Piece (odds_three f t x) 1 i (n + 1) s
     unfolding lift
     threes =
         stepped-piece _ _ _ (i - 1) three refl c.three (λ j k hj ek.
@@ -109,47 +109,47 @@ module _ {f : Format} {t : Set} {x : List ℕ} (v : Samples f t x) where
   -- ---- small samples leave no NaN: entry i of the bands is made of those from 2 i - 4 to 2 i + 4
 
   -- each step reaches a sample further on either side
-  one-small : (i : ℕ) → i < length x / width f / 2 → SmallFrom f x (2 * i) (2 * i + 3) → Small f (sizeRead f + 9 + 9) (get_or (oddsOne f t x) i nan)
-  one-small i h w = small-le f (get_or (oddsOne f t x) i nan) (sizeRead f + 9) (sizeRead f + 9 + 9) (firsts.odd-small f x long t.alpha i h given.alpha w) (omega arith)
+  one-small : (i : ℕ) → i < length x / width f / 2 → SmallFrom f x (2 * i) (2 * i + 3) → Small f (size_read f + 9 + 9) (get_or (odds_one f t x) i nan)
+  one-small i h w = small-le f (get_or (odds_one f t x) i nan) (size_read f + 9) (size_read f + 9 + 9) (firsts.odd-small f x long t.alpha i h given.alpha w) (omega arith)
 
-  two-small : (i : ℕ) → i < (length x / width f + 1) / 2 → SmallFrom f x (2 * i - 2) (2 * i + 3) → Small f (sizeRead f + 9 + 9) (get_or (evensTwo f t x) i nan)
+  two-small : (i : ℕ) → i < (length x / width f + 1) / 2 → SmallFrom f x (2 * i - 2) (2 * i + 3) → Small f (size_read f + 9 + 9) (get_or (evens_two f t x) i nan)
   two-small i h w = firsts.even-small f x long t.alpha t.beta i h given.alpha given.beta w
 
-  three-small : (i : ℕ) → i < length x / width f / 2 → SmallFrom f x (2 * i - 2) (2 * i + 5) → Small f (sizeRead f + 9 + 9 + 9) (get_or (oddsThree f t x) i nan)
-  unfolding oddsThree
+  three-small : (i : ℕ) → i < length x / width f / 2 → SmallFrom f x (2 * i - 2) (2 * i + 5) → Small f (size_read f + 9 + 9 + 9) (get_or (odds_three f t x) i nan)
+  unfolding odds_three
   three-small i h w =
       let r = min (i + 1) ((length x / width f + 1) / 2 - 1) in
-      lifts.odd-small f t.gamma (evensTwo f t x) (oddsOne f t x) (sizeRead f + 9 + 9) given.gamma (omega (arith, far f)) i r (rw length-one h) (rw length_two refl)
+      lifts.odd-small f t.gamma (evens_two f t x) (odds_one f t x) (size_read f + 9 + 9) given.gamma (omega (arith, far f)) i r (rw length-one h) (rw length_two refl)
       (two-small i (omega arith) (small-part _ _ w (omega arith) (omega arith)))
       (two-small r (omega arith) (small-part _ _ w (omega arith) (omega arith)))
       (one-small i h (small-part _ _ w (omega arith) (omega arith)))
 
-  four-small : (i : ℕ) → i < (length x / width f + 1) / 2 → SmallFrom f x (2 * i - 4) (2 * i + 5) → Small f (sizeRead f + 9 + 9 + 9 + 9) (get_or (evensFour f t x) i nan)
-  unfolding evensFour
+  four-small : (i : ℕ) → i < (length x / width f + 1) / 2 → SmallFrom f x (2 * i - 4) (2 * i + 5) → Small f (size_read f + 9 + 9 + 9 + 9) (get_or (evens_four f t x) i nan)
+  unfolding evens_four
   four-small i h w =
       let r = min i (length x / width f / 2 - 1) in
-      lifts.even-small f t.delta (evensTwo f t x) (oddsThree f t x) (sizeRead f + 9 + 9 + 9) given.delta (omega (arith, far f)) i (i - 1) r (rw length_two h) refl (rw length_three refl)
+      lifts.even-small f t.delta (evens_two f t x) (odds_three f t x) (size_read f + 9 + 9 + 9) given.delta (omega (arith, far f)) i (i - 1) r (rw length_two h) refl (rw length_three refl)
       (three-small (i - 1) (omega (arith, long)) (small-part _ _ w (omega arith) (omega arith)))
       (three-small r (omega (arith, long)) (small-part _ _ w (omega arith) (omega arith)))
-      (small-le f (get_or (evensTwo f t x) i nan) (sizeRead f + 9 + 9) (sizeRead f + 9 + 9 + 9) (two-small i h (small-part _ _ w (omega arith) (omega arith))) (omega arith))
+      (small-le f (get_or (evens_two f t x) i nan) (size_read f + 9 + 9) (size_read f + 9 + 9 + 9) (two-small i h (small-part _ _ w (omega arith) (omega arith))) (omega arith))
 
   module _ {b : Bool} {e : Float} (i : ℕ) (w : SmallIf b f x (2 * i - 4) (2 * i + 5)) where
-    pub high-no-nan : i < length x / width f / 2 → e ≡ get_or (scaledOdds f t x) i nan → b ≡ true → T (not (is_nan e))
-    unfolding scaledOdds
+    pub high-no-nan : i < length x / width f / 2 → e ≡ get_or (scaled_odds f t x) i nan → b ≡ true → T (not (is_nan e))
+    unfolding scaled_odds
     high-no-nan h q s =
-        lifts.no-nan-is f (sizeRead f + 9 + 9 + 9 + 3) (get_or (scaledOdds f t x) i nan)
-        (lifts.scaled_small f t.invk (oddsThree f t x) (sizeRead f + 9 + 9 + 9) i given.invk (omega (arith, far f)) (rw length_three h) (three-small i h (small-part _ _ (w s) (omega arith) (omega arith)))) q
+        lifts.no-nan-is f (size_read f + 9 + 9 + 9 + 3) (get_or (scaled_odds f t x) i nan)
+        (lifts.scaled_small f t.invk (odds_three f t x) (size_read f + 9 + 9 + 9) i given.invk (omega (arith, far f)) (rw length_three h) (three-small i h (small-part _ _ (w s) (omega arith) (omega arith)))) q
 
-    pub low-no-nan : i < (length x / width f + 1) / 2 → e ≡ get_or (scaledEvens f t x) i nan → b ≡ true → T (not (is_nan e))
-    unfolding scaledEvens
+    pub low-no-nan : i < (length x / width f + 1) / 2 → e ≡ get_or (scaled_evens f t x) i nan → b ≡ true → T (not (is_nan e))
+    unfolding scaled_evens
     low-no-nan h q s =
-        lifts.no-nan-is f (sizeRead f + 9 + 9 + 9 + 9 + 3) (get_or (scaledEvens f t x) i nan)
-        (lifts.scaled_small f t.k (evensFour f t x) (sizeRead f + 9 + 9 + 9 + 9) i given.k (far f) (rw length-four h) (four-small i h (w s))) q
+        lifts.no-nan-is f (size_read f + 9 + 9 + 9 + 9 + 3) (get_or (scaled_evens f t x) i nan)
+        (lifts.scaled_small f t.k (evens_four f t x) (size_read f + 9 + 9 + 9 + 9) i given.k (far f) (rw length-four h) (four-small i h (w s))) q
 
   -- all of the bands
-  pub split-all : {both : Bool} {y z : List ℕ} {i : ℕ} → Front (width f) (approxLength (length x / width f)) i (patternOf f (scaledEvens f t x)) y → i ≡ approxLength (length x / width f)
-      → (both ≡ true → Front (width f) (detailsLength (length x / width f)) (detailsLength (length x / width f)) (patternOf f (scaledOdds f t x)) z) → Split both f t x y z
-  split-all h e k = record { approx = lifts.stored-all f (scaledEvens f t x) h e (sym length-evens-scaled); details = λ w. lifts.stored-all f (scaledOdds f t x) (k w) refl (sym length-odds-scaled) }
+  pub split-all : {both : Bool} {y z : List ℕ} {i : ℕ} → Front (width f) (approx_length (length x / width f)) i (pattern_of f (scaled_evens f t x)) y → i ≡ approx_length (length x / width f)
+      → (both ≡ true → Front (width f) (details_length (length x / width f)) (details_length (length x / width f)) (pattern_of f (scaled_odds f t x)) z) → Split both f t x y z
+  split-all h e k = record { approx = lifts.stored-all f (scaled_evens f t x) h e (sym length-evens-scaled); details = λ w. lifts.stored-all f (scaled_odds f t x) (k w) refl (sym length-odds-scaled) }
 
 -- ---- what a block hands on
 
@@ -181,21 +181,21 @@ carried-at {f} {t} {x} {p = p} {q = q} {r = r} k c w = subst (λ m. Carried f t 
 
 -- ---- by the set of the forward filter they are its bands
 
-pub high-97 : (f : Format) (x : List ℕ) {t : Set} {y : List ℕ} → t ≡ factorsOf f → y ≡ encodeFloats f (scaledOdds f t x) → y ≡ high f Cdf97 x
+pub high-97 : (f : Format) (x : List ℕ) {t : Set} {y : List ℕ} → t ≡ factors_of f → y ≡ encode_floats f (scaled_odds f t x) → y ≡ high f Cdf97 x
 unfolding high details steps97
-high-97 f x et e = e ∙ unfold scaledOdds oddsThree evensTo oddsTo evenIn oddIn in rw et
+high-97 f x et e = e ∙ unfold scaled_odds odds_three evens_to odds_to even_in odd_in in rw et
 
-pub low-97 : (f : Format) (x : List ℕ) {t : Set} {y : List ℕ} → t ≡ factorsOf f → y ≡ encodeFloats f (scaledEvens f t x) → y ≡ low f Cdf97 x
+pub low-97 : (f : Format) (x : List ℕ) {t : Set} {y : List ℕ} → t ≡ factors_of f → y ≡ encode_floats f (scaled_evens f t x) → y ≡ low f Cdf97 x
 unfolding low approxs steps97
-low-97 f x et e = e ∙ unfold scaledEvens evensFour oddsThree evensTo oddsTo evenIn oddIn in rw et
+low-97 f x et e = e ∙ unfold scaled_evens evens_four odds_three evens_to odds_to even_in odd_in in rw et
 
 -- a number that is not even is one more than twice its half
 pub odd-count : (n : ℕ) → (n % 2 ≡ 0 → ⊥) → n ≡ 2 * (n / 2) + 1
 odd-count n ne = ⊎_elim (λ (z : n % 2 < 1). absurd (ne (omega arith))) (λ (z : 1 ≤ n % 2). omega arith) (lt-or-le (n % 2) 1)
 
 -- the odd sample after the third step that a turn hands on is of the place before
-pub carried-three : {f : Format} {t : Set} {x : List ℕ} {p q r : Float} (i : ℕ) → Carried f t x (i + 1) p q r → r ≡ get_or (oddsThree f t x) i nan
-carried-three {f} {t} {x} i c = c.three ∙ ap (λ (k : ℕ). get_or (oddsThree f t x) k nan) (omega arith)
+pub carried-three : {f : Format} {t : Set} {x : List ℕ} {p q r : Float} (i : ℕ) → Carried f t x (i + 1) p q r → r ≡ get_or (odds_three f t x) i nan
+carried-three {f} {t} {x} i c = c.three ∙ ap (λ (k : ℕ). get_or (odds_three f t x) k nan) (omega arith)
 
 -- a length that is not odd has as many approximations as details
 pub even-halves : (n : ℕ) → (n % 2 ≡ 1 → ⊥) → n / 2 ≡ (n + 1) / 2

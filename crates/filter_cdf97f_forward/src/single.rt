@@ -5,10 +5,10 @@ ghost use Rattle.filter_floats.specs.Bands.{low, high};
 ghost use Rattle.filter_floats.specs.Filters.{factors32};
 ghost use Rattle.filter_floats.specs.Kinds.{set32};
 ghost use Rattle.filter_floats.specs.Loops.{LentLow, Lent};
-ghost use Rattle.filter_small.specs.Lists.{evenIn, oddIn};
+ghost use Rattle.filter_small.specs.Lists.{even_in, odd_in};
 ghost use Rattle.filter_small.specs.Pieces.{Piece, Rooms};
 ghost use Rattle.filter_small.specs.Small.{SmallIf};
-ghost use Rattle.filter_cdf97f_forward.specs.Ahead.{oddsOne, evensTwo, oddsThree, Samples, Ahead, Carried, Handed, Splitting, Split};
+ghost use Rattle.filter_cdf97f_forward.specs.Ahead.{odds_one, evens_two, odds_three, Samples, Ahead, Carried, Handed, Splitting, Split};
 
 use base_lengths::{Wavelet, lesser};
 use filter_floats::single::Factors32;
@@ -22,7 +22,7 @@ use filter_small::turns::{BLOCK, block_turns, minus};
 fn carry_f32(t: Factors32, x: &[u8], i: usize, j: usize, p: f32, q: f32) -> Carry32
     requires samples { Samples binary32 (set32 t) x.now }
     requires i_in_bounds { (i + 1 < length x.now / 4 / 2) × (j ≡ min (i + 2) ((length x.now / 4 + 1) / 2 - 1)) }
-    requires p_value { (p ≡ get_or (oddsOne binary32 (set32 t) x.now) i nan) × (q ≡ get_or (evensTwo binary32 (set32 t) x.now) i nan) }
+    requires p_value { (p ≡ get_or (odds_one binary32 (set32 t) x.now) i nan) × (q ≡ get_or (evens_two binary32 (set32 t) x.now) i nan) }
     ensures { Carried binary32 (set32 t) x.now (i + 1) result.one result.two result.three }
 {
     let e = get_f32(false, x, 2 * i + 2);
@@ -69,7 +69,7 @@ fn put_at_f32(
     requires splitting { Splitting both binary32 (set32 t) x.now a.old d.old i }
     requires carried { Carried binary32 (set32 t) x.now i s.one s.two s.three }
     requires small_if { SmallIf small binary32 x.now (2 * i - 4) (2 * i + 5) }
-    requires i_in_bounds { (i < length x.now / 4 / 2) × (third ≡ get_or (oddsThree binary32 (set32 t) x.now) i nan) }
+    requires i_in_bounds { (i < length x.now / 4 / 2) × (third ≡ get_or (odds_three binary32 (set32 t) x.now) i nan) }
     ensures { Splitting both binary32 (set32 t) x.now a.new d.new (i + 1) }
 {
     put_f32(small, a, i, ((s.three + third) * t.delta + s.two) * t.k);
@@ -103,7 +103,7 @@ fn split_pair_f32(
 fn read_pairs_f32(small: bool, x: &[u8], y: &mut [f32], z: &mut [f32], i: usize, n: usize)
     requires n_in_bounds { (2 * (i + n) < length x.now / 4) × (n < length y.old) × (n ≤ length z.old) }
     requires small_if { SmallIf small binary32 x.now (2 * i) (2 * (i + n) + 1) }
-    ensures { Piece (evenIn binary32 x.now) 0 i (n + 1) y.new × Piece (oddIn binary32 x.now) 0 i n z.new }
+    ensures { Piece (even_in binary32 x.now) 0 i (n + 1) y.new × Piece (odd_in binary32 x.now) 0 i n z.new }
 {
     let mut j = 0;
     while j < n {
@@ -179,8 +179,8 @@ fn split_block_f32(
 // The last even sample after the second step: p is the last odd sample after the first, q the even one before it after the second.
 fn top_f32(t: Factors32, x: &[u8], p: f32, q: f32) -> f32
     requires samples { Samples binary32 (set32 t) x.now }
-    requires p_value { (p ≡ get_or (oddsOne binary32 (set32 t) x.now) (length x.now / 4 / 2 - 1) nan) × (q ≡ get_or (evensTwo binary32 (set32 t) x.now) (length x.now / 4 / 2 - 1) nan) }
-    ensures { result ≡ get_or (evensTwo binary32 (set32 t) x.now) ((length x.now / 4 + 1) / 2 - 1) nan }
+    requires p_value { (p ≡ get_or (odds_one binary32 (set32 t) x.now) (length x.now / 4 / 2 - 1) nan) × (q ≡ get_or (evens_two binary32 (set32 t) x.now) (length x.now / 4 / 2 - 1) nan) }
+    ensures { result ≡ get_or (evens_two binary32 (set32 t) x.now) ((length x.now / 4 + 1) / 2 - 1) nan }
 {
     let n = x.len() / 4;
     if n % 2 == 0 {

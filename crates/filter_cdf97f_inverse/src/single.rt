@@ -7,7 +7,7 @@ ghost use Rattle.filter_floats.specs.Kinds.{set32};
 ghost use Rattle.filter_floats.specs.Loops.{Lent};
 ghost use Rattle.filter_small.specs.Small.{SmallIf, BothSmallIf};
 ghost use Rattle.filter_small.specs.Pieces.{Piece, Rooms};
-ghost use Rattle.filter_cdf97f_inverse.specs.Back.{timesOf, oddsTwo, evensThree, Bands97, Carried, Pair, Restoring};
+ghost use Rattle.filter_cdf97f_inverse.specs.Back.{times_of, odds_two, evens_three, Bands97, Carried, Pair, Restoring};
 
 use base_lengths::{Wavelet, lesser};
 use filter_floats::single::Factors32;
@@ -114,7 +114,7 @@ fn restore_end_f32(t: Factors32, a: &[u8], d: &[u8], x: &mut [u8], i: usize, s: 
 fn read_times_f32(small: bool, k: f32, s: &[u8], y: &mut [f32], i: usize, n: usize)
     requires n_in_bounds { (i + n ≤ length s.now / 4) × (n ≤ length y.old) }
     requires small_if { SmallIf small binary32 s.now i (i + n) }
-    ensures { Piece (timesOf binary32 k s.now) 0 i n y.new }
+    ensures { Piece (times_of binary32 k s.now) 0 i n y.new }
 {
     let mut j = 0;
     while j < n {
@@ -138,8 +138,8 @@ fn put_pairs_f32(
     requires bands97 { Bands97 binary32 (set32 t) a.now d.now }
     requires restoring { Restoring binary32 (set32 t) a.now d.now x.old i }
     requires both_small_if { BothSmallIf small binary32 a.now d.now (i - 2) (i + n + 2) }
-    requires piece { Piece (oddsTwo binary32 (set32 t) a.now d.now) 0 i (n + 1) v.now }
-    requires piece_2 { Piece (evensThree binary32 (set32 t) a.now d.now) 0 i (n + 1) w.now }
+    requires piece { Piece (odds_two binary32 (set32 t) a.now d.now) 0 i (n + 1) v.now }
+    requires piece_2 { Piece (evens_three binary32 (set32 t) a.now d.now) 0 i (n + 1) w.now }
     requires n_in_bounds { (n < length v.now) × (n < length w.now) × (i + n + 2 ≤ length d.now / 4) }
     ensures { Restoring binary32 (set32 t) a.now d.now x.new (i + n) }
 {

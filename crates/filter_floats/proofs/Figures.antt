@@ -5,8 +5,8 @@ use mathlib.Core.Path.{◌≡◌, refl}
 use lib.Ieee.{Float, binary32, add, mul, round}
 use Rattle.base_lengths.specs.declared.Wavelet.TheVariants.{Cdf53}
 use Rattle.base_samples.specs.Words.{tabulate}
-use Rattle.base_samples.specs.Halves.{evenOf, oddOf, joined}
-use Rattle.filter_floats.specs.Steps.{oddAt, evenAt, odds, evens, lift}
+use Rattle.base_samples.specs.Halves.{even_of, odd_of, joined}
+use Rattle.filter_floats.specs.Steps.{odd_at, even_at, odds, evens, lift}
 use Rattle.filter_floats.specs.Filters.{decimal, steps53, back53}
 use Rattle.filter_floats.specs.Bands.{approxs, details, restored}
 
@@ -20,5 +20,5 @@ abbrev high : List Float
 high = decimal binary32 false 35 1 ∷ []
 
 pub figure : (approxs binary32 Cdf53 samples ≡ low) × (details binary32 Cdf53 samples ≡ high) × (restored binary32 Cdf53 low high ≡ samples)
-unfolding approxs details restored steps53 back53 decimal tabulate evenOf oddOf joined odds evens oddAt evenAt lift add mul round
+unfolding approxs details restored steps53 back53 decimal tabulate even_of odd_of joined odds evens odd_at even_at lift add mul round
 figure = (refl, refl, refl)

@@ -11,11 +11,11 @@ use lib.Ieee.{Float, nan, Format, fits}
 use lib.ListN.{length, get_or}
 use Rattle.base_order.proofs.Order.{lt-or-le}
 use Rattle.base_samples.specs.Words.{tabulate, Holds}
-use Rattle.base_samples.specs.Floats.{width, float_at, putFloat, decodeFloats, encodeFloats, Plain}
-use Rattle.base_samples.proofs.Words.{tabulate-same, tabulate-getD, holds_on}
-use Rattle.base_samples.proofs.FloatLaws.{length-putFloat, length-decodeFloats, floatAt-encode, plain-encode, put-encode}
+use Rattle.base_samples.specs.Floats.{width, float_at, put_float, decode_floats, encode_floats, Plain}
+use Rattle.base_samples.proofs.Words.{tabulate-same, tabulate-get_or, holds_on}
+use Rattle.base_samples.proofs.FloatLaws.{length-put_float, length-decode_floats, float_at-encode, plain-encode, put-encode}
 use Rattle.filter_floats.specs.Loops.{Stored}
-use Rattle.filter_floats.proofs.Fits.{getD-fits}
+use Rattle.filter_floats.proofs.Fits.{get_or-fits}
 
 -- entry i where the first j entries are new ones
 abbrev pub mix : (ℕ → Float) → (ℕ → Float) → ℕ → ℕ → Float
@@ -24,7 +24,7 @@ mix new old j i = cond (ltb i j) (new i) (old i)
 -- s is n floats, of which the first j are the new ones, and the others still the old
 pub record Midway (f : Format) (n j : ℕ) (new old : ℕ → Float) (s : List ℕ) : Type 0 where
   pub holds : Holds (width f) n s
-  pub bytes : s ≡ encodeFloats f (tabulate n (mix new old j))
+  pub bytes : s ≡ encode_floats f (tabulate n (mix new old j))
 
 mix-new : (new old : ℕ → Float) (j i : ℕ) → i < j → mix new old j i ≡ new i
 mix-new new old j i h = rw (lt-ltb i j h)
@@ -44,32 +44,32 @@ mix-more new old j i ne =
     above i j h ne = ⊎_elim (λ l. omega arith) (λ l. absurd (ne (omega arith))) (lt-or-le j i)
 
 -- the floats that s has
-abbrev pub floatsOf : Format → List ℕ → ℕ → Float
-floatsOf f s i = get_or (decodeFloats f s) i nan
+abbrev pub floats_of : Format → List ℕ → ℕ → Float
+floats_of f s i = get_or (decode_floats f s) i nan
 
 module _ {f : Format} {n : ℕ} where
   -- nothing is passed yet
-  pub midway-none : {s : List ℕ} (new : ℕ → Float) → Stored f n s → Midway f n 0 new (floatsOf f s) s
+  pub midway-none : {s : List ℕ} (new : ℕ → Float) → Stored f n s → Midway f n 0 new (floats_of f s) s
   midway-none {s} new h =
-      let len : length (decodeFloats f s) ≡ n = length-decodeFloats f s ∙ h.holds.count in
+      let len : length (decode_floats f s) ≡ n = length-decode_floats f s ∙ h.holds.count in
       record {
         holds = h.holds;
         bytes =
             sym h.plain
-            ∙ ap (encodeFloats f)
-            (sym (tabulate-getD (decodeFloats f s) nan)
-            ∙ rw len (tabulate-same n (floatsOf f s) (mix new (floatsOf f s) 0) (λ i l. sym (mix-old new (floatsOf f s) 0 i (omega arith)))));
+            ∙ ap (encode_floats f)
+            (sym (tabulate-get_or (decode_floats f s) nan)
+            ∙ rw len (tabulate-same n (floats_of f s) (mix new (floats_of f s) 0) (λ i l. sym (mix-old new (floats_of f s) 0 i (omega arith)))));
       }
 
   module _ {j : ℕ} {new old : ℕ → Float} {s : List ℕ} (m : Midway f n j new old s) where
     -- float j is written
-    pub midway-put : {t : List ℕ} {v : Float} → j < n → v ≡ new j → t ≡ putFloat f s j v → Midway f n (j + 1) new old t
+    pub midway-put : {t : List ℕ} {v : Float} → j < n → v ≡ new j → t ≡ put_float f s j v → Midway f n (j + 1) new old t
     midway-put {t} {v} h e put =
         record {
-          holds = holds_on t m.holds (ap length put ∙ length-putFloat f s j v);
+          holds = holds_on t m.holds (ap length put ∙ length-put_float f s j v);
           bytes =
               put
-              ∙ ap (λ r. putFloat f r j v) m.bytes
+              ∙ ap (λ r. put_float f r j v) m.bytes
               ∙ put-encode f n (mix new old j) (mix new old (j + 1)) j v h (mix-new new old (j + 1) j (omega arith) ∙ sym e) (λ i l ne. mix-more new old j i ne);
         }
 
@@ -80,40 +80,40 @@ module _ {f : Format} {n : ℕ} where
           holds = m.holds;
           bytes =
               m.bytes
-              ∙ ap (encodeFloats f) (tabulate-same n (mix new old j) (mix new old (j + 1)) (λ i l. ⊎_elim (λ h. sym (mix-more new old j i (λ q. omega arith))) (λ h. ⊎_elim (λ k. sym (mix-more new old j i (λ q. omega arith))) (λ k. here i (omega arith) l) (lt-or-le j i)) (lt-or-le i j)));
+              ∙ ap (encode_floats f) (tabulate-same n (mix new old j) (mix new old (j + 1)) (λ i l. ⊎_elim (λ h. sym (mix-more new old j i (λ q. omega arith))) (λ h. ⊎_elim (λ k. sym (mix-more new old j i (λ q. omega arith))) (λ k. here i (omega arith) l) (lt-or-le j i)) (lt-or-le i j)));
         }
       where
         here : (i : ℕ) → i ≡ j → i < n → mix new old j i ≡ mix new old (j + 1) i
         here i q l = rw q (mix-old new old j j (omega arith) ∙ sym (e (rw q at l)) ∙ sym (mix-new new old (j + 1) j (omega arith)))
 
     -- all are passed
-    pub midway-all : n ≤ j → s ≡ encodeFloats f (tabulate n new)
-    midway-all h = m.bytes ∙ ap (encodeFloats f) (tabulate-same n (mix new old j) new (λ i l. mix-new new old j i (omega arith)))
+    pub midway-all : n ≤ j → s ≡ encode_floats f (tabulate n new)
+    midway-all h = m.bytes ∙ ap (encode_floats f) (tabulate-same n (mix new old j) new (λ i l. mix-new new old j i (omega arith)))
 
 -- a float that is not passed yet, or that stays, is still the old one, and stands as it is written
-module _ {f : Format} {n j : ℕ} {new : ℕ → Float} {s : List ℕ} (t : List ℕ) (m : Midway f n j new (floatsOf f t) s) (i : ℕ) (l : i < n) where
-  module _ (e : mix new (floatsOf f t) j i ≡ floatsOf f t i) where
-    fit : T (fits f (mix new (floatsOf f t) j i))
-    fit = rw e (getD-fits f t i)
+module _ {f : Format} {n j : ℕ} {new : ℕ → Float} {s : List ℕ} (t : List ℕ) (m : Midway f n j new (floats_of f t) s) (i : ℕ) (l : i < n) where
+  module _ (e : mix new (floats_of f t) j i ≡ floats_of f t i) where
+    fit : T (fits f (mix new (floats_of f t) j i))
+    fit = rw e (get_or-fits f t i)
 
-    same : float_at f s i ≡ floatsOf f t i
-    same = rw m.bytes (floatAt-encode f n (mix new (floatsOf f t) j) i l fit ∙ e)
+    same : float_at f s i ≡ floats_of f t i
+    same = rw m.bytes (float_at-encode f n (mix new (floats_of f t) j) i l fit ∙ e)
 
     plain : Plain f s i
-    plain = rw m.bytes (plain-encode f n (mix new (floatsOf f t) j) i l fit)
+    plain = rw m.bytes (plain-encode f n (mix new (floats_of f t) j) i l fit)
 
   module _ (k : j ≤ i) where
-    pub midway-later : float_at f s i ≡ floatsOf f t i
-    midway-later = same (mix-old new (floatsOf f t) j i k)
+    pub midway-later : float_at f s i ≡ floats_of f t i
+    midway-later = same (mix-old new (floats_of f t) j i k)
 
     pub later-plain : Plain f s i
-    later-plain = plain (mix-old new (floatsOf f t) j i k)
+    later-plain = plain (mix-old new (floats_of f t) j i k)
 
-  module _ (e : new i ≡ floatsOf f t i) where
-    stays : mix new (floatsOf f t) j i ≡ floatsOf f t i
-    stays = ⊎_elim (λ k. mix-new new (floatsOf f t) j i k ∙ e) (λ k. mix-old new (floatsOf f t) j i k) (lt-or-le i j)
+  module _ (e : new i ≡ floats_of f t i) where
+    stays : mix new (floats_of f t) j i ≡ floats_of f t i
+    stays = ⊎_elim (λ k. mix-new new (floats_of f t) j i k ∙ e) (λ k. mix-old new (floats_of f t) j i k) (lt-or-le i j)
 
-    pub midway-kept : float_at f s i ≡ floatsOf f t i
+    pub midway-kept : float_at f s i ≡ floats_of f t i
     midway-kept = same stays
 
     pub kept-plain : Plain f s i
@@ -124,8 +124,8 @@ abbrev pub Ready : Format → List ℕ → ℕ → Type 0
 Ready f s i = (i < length s / width f) × Plain f s i
 
 module _ {f : Format} {n : ℕ} {s : List ℕ} where
-  pub midway-ready : {j i : ℕ} {new : ℕ → Float} (t : List ℕ) → Midway f n j new (floatsOf f t) s → j ≤ i → i < n → Ready f s i
+  pub midway-ready : {j i : ℕ} {new : ℕ → Float} (t : List ℕ) → Midway f n j new (floats_of f t) s → j ≤ i → i < n → Ready f s i
   midway-ready {i = i} t m k l = (rw m.holds.count l, later-plain t m i l k)
 
   pub stored-ready : {i : ℕ} → Stored f n s → i < n → Ready f s i
-  stored-ready h l = midway-ready s (midway-none (floatsOf f s) h) (omega arith) l
+  stored-ready h l = midway-ready s (midway-none (floats_of f s) h) (omega arith) l

@@ -6,73 +6,73 @@ use native.Mathlib.Omega.{arith}
 use lib.Ieee.{Float, nan, Format}
 use lib.ListN.{length, get_or, take, length-map}
 use lib.Seq.{take_all}
-use Rattle.base_samples.specs.Halves.{evenOf, oddOf}
-use Rattle.base_samples.specs.Floats.{width, decodeFloats, encodeFloats}
+use Rattle.base_samples.specs.Halves.{even_of, odd_of}
+use Rattle.base_samples.specs.Floats.{width, decode_floats, encode_floats}
 use Rattle.base_samples.proofs.Halves.{length-even, length-odd, length-joined, joined-halves, even-joined, odd-joined}
-use Rattle.base_samples.proofs.FloatLaws.{length-decodeFloats}
-use Rattle.filter_floats.specs.Steps.{Step, oddly, evenly, scaling, runA, runD}
+use Rattle.base_samples.proofs.FloatLaws.{length-decode_floats}
+use Rattle.filter_floats.specs.Steps.{Step, oddly, evenly, scaling, run_a, run_d}
 use Rattle.filter_floats.specs.Loops.{Stored}
-use Rattle.filter_floats.specs.Lanes.{lane, scaledLanes, runOn, Lanes, RanOn}
-use Rattle.filter_floats.proofs.Fits.{Fit, stored-encode, fit-even, fit-odd, fit-joined, fit-runA, fit-runD}
+use Rattle.filter_floats.specs.Lanes.{lane, scaled_lanes, run_on, Lanes, RanOn}
+use Rattle.filter_floats.proofs.Fits.{Fit, stored-encode, fit-even, fit-odd, fit-joined, fit-run_a, fit-run_d}
 use Rattle.filter_floats.proofs.Lanes.{lane-odds, lane-evens, lanes-scaled}
-use Rattle.filter_floats.proofs.Runs.{length-runA, length-runD, runA-append, runD-append, front-step}
+use Rattle.filter_floats.proofs.Runs.{length-run_a, length-run_d, run_a-append, run_d-append, front-step}
 
 module _ (f : Format) where
-  length-runOn : (ss : List Step) (x : List Float) → length (runOn f ss x) ≡ length x
-  unfolding runOn
-  length-runOn ss x = length-joined nan _ _ ∙ rw (length-runA, length-runD, length-even, length-odd) (omega arith)
+  length-run_on : (ss : List Step) (x : List Float) → length (run_on f ss x) ≡ length x
+  unfolding run_on
+  length-run_on ss x = length-joined nan _ _ ∙ rw (length-run_a, length-run_d, length-even, length-odd) (omega arith)
 
-  fit-runOn : (ss : List Step) (s : List ℕ) → Fit f (runOn f ss (decodeFloats f s))
-  unfolding runOn
-  fit-runOn ss s = fit-joined f _ _ (fit-runA f ss _ _ (fit-even f s) (fit-odd f s)) (fit-runD f ss _ _ (fit-even f s) (fit-odd f s))
+  fit-run_on : (ss : List Step) (s : List ℕ) → Fit f (run_on f ss (decode_floats f s))
+  unfolding run_on
+  fit-run_on ss s = fit-joined f _ _ (fit-run_a f ss _ _ (fit-even f s) (fit-odd f s)) (fit-run_d f ss _ _ (fit-even f s) (fit-odd f s))
 
   -- nothing done, and one schedule after another
-  runOn-none : (x : List Float) → runOn f [] x ≡ x
-  unfolding runOn
-  runOn-none x = joined-halves nan x
+  run_on-none : (x : List Float) → run_on f [] x ≡ x
+  unfolding run_on
+  run_on-none x = joined-halves nan x
 
-  runOn-append : (ss ts : List Step) (x : List Float) → runOn f (ss ++ ts) x ≡ runOn f ts (runOn f ss x)
-  unfolding runOn
-  runOn-append ss ts x =
-      let a = evenOf nan x in
-      let d = oddOf nan x in
-      let na : length (runA f ss a d) ≡ (length x + 1) / 2 = length-runA f ss a d ∙ length-even nan x in
-      let nd : length (runD f ss a d) ≡ length x / 2 = length-runD f ss a d ∙ length-odd nan x in
-      rw (runA-append f ss ts a d, runD-append f ss ts a d, even-joined nan (runA f ss a d) (runD f ss a d) (omega arith) (omega arith), odd-joined nan (runA f ss a d) (runD f ss a d) (omega arith) (omega arith))
+  run_on-append : (ss ts : List Step) (x : List Float) → run_on f (ss ++ ts) x ≡ run_on f ts (run_on f ss x)
+  unfolding run_on
+  run_on-append ss ts x =
+      let a = even_of nan x in
+      let d = odd_of nan x in
+      let na : length (run_a f ss a d) ≡ (length x + 1) / 2 = length-run_a f ss a d ∙ length-even nan x in
+      let nd : length (run_d f ss a d) ≡ length x / 2 = length-run_d f ss a d ∙ length-odd nan x in
+      rw (run_a-append f ss ts a d, run_d-append f ss ts a d, even-joined nan (run_a f ss a d) (run_d f ss a d) (omega arith) (omega arith), odd-joined nan (run_a f ss a d) (run_d f ss a d) (omega arith) (omega arith))
 
 module _ {f : Format} {x : List ℕ} (l : Lanes f x) where
-  ranOn-none : RanOn f [] x x
-  ranOn-none = record { output = sym (ap (encodeFloats f) (runOn-none f (decodeFloats f x)) ∙ l.stored.plain) }
+  ran_on-none : RanOn f [] x x
+  ran_on-none = record { output = sym (ap (encode_floats f) (run_on-none f (decode_floats f x)) ∙ l.stored.plain) }
 
   -- one step
-  entries : 2 ≤ length (decodeFloats f x)
-  entries = rw (length-decodeFloats f x) l.long
+  entries : 2 ≤ length (decode_floats f x)
+  entries = rw (length-decode_floats f x) l.long
 
-  pub ranOn-odds : {c : Float} {x' : List ℕ} → x' ≡ encodeFloats f (lane f c 1 (decodeFloats f x)) → RanOn f (oddly c ∷ []) x x'
-  ranOn-odds {c} e = record { output = e ∙ ap (encodeFloats f) (lane-odds f (decodeFloats f x) entries c) }
+  pub ran_on-odds : {c : Float} {x' : List ℕ} → x' ≡ encode_floats f (lane f c 1 (decode_floats f x)) → RanOn f (oddly c ∷ []) x x'
+  ran_on-odds {c} e = record { output = e ∙ ap (encode_floats f) (lane-odds f (decode_floats f x) entries c) }
 
-  pub ranOn-evens : {c : Float} {x' : List ℕ} → x' ≡ encodeFloats f (lane f c 0 (decodeFloats f x)) → RanOn f (evenly c ∷ []) x x'
-  ranOn-evens {c} e = record { output = e ∙ ap (encodeFloats f) (lane-evens f (decodeFloats f x) entries c) }
+  pub ran_on-evens : {c : Float} {x' : List ℕ} → x' ≡ encode_floats f (lane f c 0 (decode_floats f x)) → RanOn f (evenly c ∷ []) x x'
+  ran_on-evens {c} e = record { output = e ∙ ap (encode_floats f) (lane-evens f (decode_floats f x) entries c) }
 
-  pub ranOn-scaled : {p q : Float} {x' : List ℕ} → x' ≡ encodeFloats f (scaledLanes f p q (decodeFloats f x)) → RanOn f (scaling p q ∷ []) x x'
-  ranOn-scaled {p} {q} e = record { output = e ∙ ap (encodeFloats f) (lanes-scaled f (decodeFloats f x) p q) }
+  pub ran_on-scaled : {p q : Float} {x' : List ℕ} → x' ≡ encode_floats f (scaled_lanes f p q (decode_floats f x)) → RanOn f (scaling p q ∷ []) x x'
+  ran_on-scaled {p} {q} e = record { output = e ∙ ap (encode_floats f) (lanes-scaled f (decode_floats f x) p q) }
 
   module _ {ss : List Step} {x' : List ℕ} (r : RanOn f ss x x') where
     -- a schedule leaves as many floats
-    storedOn : Stored f (length x / width f) x'
-    storedOn = stored-encode f _ (runOn f ss (decodeFloats f x)) x' r.output (length-runOn f ss _ ∙ length-decodeFloats f x) (fit-runOn f ss x)
+    stored_on : Stored f (length x / width f) x'
+    stored_on = stored-encode f _ (run_on f ss (decode_floats f x)) x' r.output (length-run_on f ss _ ∙ length-decode_floats f x) (fit-run_on f ss x)
 
-    ranOn-length : length x' ≡ length x
-    ranOn-length = storedOn.holds.size ∙ sym l.stored.holds.size
+    ran_on-length : length x' ≡ length x
+    ran_on-length = stored_on.holds.size ∙ sym l.stored.holds.size
 
-    ranOn-lanes : Lanes f x'
-    ranOn-lanes = let n = storedOn.holds.count in record { stored = rw n storedOn; long = rw n l.long }
+    ran_on-lanes : Lanes f x'
+    ran_on-lanes = let n = stored_on.holds.count in record { stored = rw n stored_on; long = rw n l.long }
 
 -- the steps ss, and then the steps ts
-ranOn-then : {f : Format} (ss ts : List Step) {x x₁ x₂ : List ℕ} → RanOn f ss x x₁ → RanOn f ts x₁ x₂ → RanOn f (ss ++ ts) x x₂
-ranOn-then {f} ss ts {x} {x₁} r q =
-    let e : decodeFloats f x₁ ≡ runOn f ss (decodeFloats f x) = rw r.output (fit-runOn f ss x) in
-    record { output = q.output ∙ rw (e, runOn-append f ss ts (decodeFloats f x)) }
+ran_on-then : {f : Format} (ss ts : List Step) {x x₁ x₂ : List ℕ} → RanOn f ss x x₁ → RanOn f ts x₁ x₂ → RanOn f (ss ++ ts) x x₂
+ran_on-then {f} ss ts {x} {x₁} r q =
+    let e : decode_floats f x₁ ≡ run_on f ss (decode_floats f x) = rw r.output (fit-run_on f ss x) in
+    record { output = q.output ∙ rw (e, run_on-append f ss ts (decode_floats f x)) }
 
 -- the loop over a schedule of k steps: the list is what the first i of them leave
 pub record RanOnTo (f : Format) {S : Type 0} (kind : S → Step) (s : List S) (k : ℕ) (x : List ℕ) (i : ℕ) (x₁ : List ℕ) : Type 0 where
@@ -81,23 +81,23 @@ pub record RanOnTo (f : Format) {S : Type 0} (kind : S → Step) (s : List S) (k
   pub ran : RanOn f (take i (map kind s)) x x₁
 
 module _ {f : Format} {S : Type 0} {kind : S → Step} {s : List S} {k : ℕ} {x : List ℕ} where
-  pub ranOnTo-none : Lanes f x → length s ≡ k → RanOnTo f kind s k x 0 x
-  ranOnTo-none l n = record { lanes = l; count = n; ran = ranOn-none l }
+  pub ran_on_to-none : Lanes f x → length s ≡ k → RanOnTo f kind s k x 0 x
+  ran_on_to-none l n = record { lanes = l; count = n; ran = ran_on-none l }
 
   module _ {i : ℕ} {x₁ : List ℕ} (r : RanOnTo f kind s k x i x₁) where
-    pub ranOnTo-lanes : Lanes f x₁
-    ranOnTo-lanes = ranOn-lanes r.lanes r.ran
+    pub ran_on_to-lanes : Lanes f x₁
+    ran_on_to-lanes = ran_on-lanes r.lanes r.ran
 
-    pub ranOnTo-length : length x₁ ≡ length x
-    ranOnTo-length = ranOn-length r.lanes r.ran
+    pub ran_on_to-length : length x₁ ≡ length x
+    ran_on_to-length = ran_on-length r.lanes r.ran
 
-    pub ranOnTo-more : (z : S) {x₂ : List ℕ} → i < k → RanOn f (kind (get_or s i z) ∷ []) x₁ x₂ → RanOnTo f kind s k x (i + 1) x₂
-    ranOnTo-more z h q =
+    pub ran_on_to-more : (z : S) {x₂ : List ℕ} → i < k → RanOn f (kind (get_or s i z) ∷ []) x₁ x₂ → RanOnTo f kind s k x (i + 1) x₂
+    ran_on_to-more z h q =
         record {
           lanes = r.lanes;
           count = r.count;
-          ran = rw (front-step kind s z i (omega (arith, r.count))) (ranOn-then (take i (map kind s)) (kind (get_or s i z) ∷ []) r.ran q);
+          ran = rw (front-step kind s z i (omega (arith, r.count))) (ran_on-then (take i (map kind s)) (kind (get_or s i z) ∷ []) r.ran q);
         }
 
-    pub ranOnTo-all : k ≤ i → RanOn f (map kind s) x x₁
-    ranOnTo-all h = rw (take_all i (map kind s) (rw (length-map s kind) (omega (arith, r.count)))) at r.ran
+    pub ran_on_to-all : k ≤ i → RanOn f (map kind s) x x₁
+    ran_on_to-all h = rw (take_all i (map kind s) (rw (length-map s kind) (omega (arith, r.count)))) at r.ran

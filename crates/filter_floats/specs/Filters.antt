@@ -9,7 +9,7 @@ use Rattle.filter_floats.specs.Steps.{Step, oddly, evenly, scaling}
 
 -- digits / 10 ^ places, below zero where s says so, rounded once
 unfoldable pub decimal : Format → Bool → ℕ → ℕ → Float
-decimal f s digits countAt = round f s digits (10 ^ countAt)
+decimal f s digits count_at = round f s digits (10 ^ count_at)
 
 -- a float rounded once to the format f
 unfoldable pub rounded : Format → Float → Float
@@ -46,9 +46,9 @@ factors32 = record {
   invk = rounded binary32 factors64.invk;
 }
 
-abbrev pub factorsOf : Format → Set
-factorsOf binary32 = factors32
-factorsOf binary64 = factors64
+abbrev pub factors_of : Format → Set
+factors_of binary32 = factors32
+factors_of binary64 = factors64
 
 -- the four lifting factors "with signs changed"
 unfoldable pub turned : Set → Set
@@ -72,8 +72,8 @@ back53 f = evenly (decimal f true 25 2) ∷ oddly (decimal f false 5 1) ∷ []
 -- a filter's schedules
 abbrev pub steps_of : Format → Wavelet → List Step
 steps_of f Cdf53 = steps53 f
-steps_of f Cdf97 = steps97 (factorsOf f)
+steps_of f Cdf97 = steps97 (factors_of f)
 
-abbrev pub backSteps : Format → Wavelet → List Step
-backSteps f Cdf53 = back53 f
-backSteps f Cdf97 = back97 (turned (factorsOf f))
+abbrev pub back_steps : Format → Wavelet → List Step
+back_steps f Cdf53 = back53 f
+back_steps f Cdf97 = back97 (turned (factors_of f))

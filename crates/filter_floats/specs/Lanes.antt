@@ -3,32 +3,32 @@ use Rattle.std.specs.Prelude.{cond, List, ◌≡◌, ℕ, ◌+◌, ◌-◌, ◌*
 use Rattle.std.specs.Float.{nan, Format}
 use Rattle.std.specs.Float.Ieee.{mul}
 use Rattle.base_samples.specs.Words.{tabulate}
-use Rattle.base_samples.specs.Halves.{evenOf, oddOf, joined}
-use Rattle.base_samples.specs.Floats.{width, decodeFloats, encodeFloats}
-use Rattle.filter_floats.specs.Steps.{lift, Step, runA, runD}
+use Rattle.base_samples.specs.Halves.{even_of, odd_of, joined}
+use Rattle.base_samples.specs.Floats.{width, decode_floats, encode_floats}
+use Rattle.filter_floats.specs.Steps.{lift, Step, run_a, run_d}
 use Rattle.filter_floats.specs.Loops.{Stored}
 
 -- the place before j, mirrored at 0, and the place after it, mirrored at n - 1
 abbrev pub left_of : ℕ → ℕ
 left_of j = (j - 1) + (1 - j)
 
-abbrev pub rightOf : ℕ → ℕ → ℕ
-rightOf n j = min (j + 1) (2 * (n - 1) - (j + 1))
+abbrev pub right_of : ℕ → ℕ → ℕ
+right_of n j = min (j + 1) (2 * (n - 1) - (j + 1))
 
 -- entry j after a lifting step on the places p, p + 2, ..
-unfoldable pub laneAt : Format → Float → ℕ → List Float → ℕ → Float
-laneAt f c p x j = cond (eqb (j % 2) p) (lift f c (get_or x (left_of j) nan) (get_or x (rightOf (length x) j) nan) (get_or x j nan)) (get_or x j nan)
+unfoldable pub lane_at : Format → Float → ℕ → List Float → ℕ → Float
+lane_at f c p x j = cond (eqb (j % 2) p) (lift f c (get_or x (left_of j) nan) (get_or x (right_of (length x) j) nan) (get_or x j nan)) (get_or x j nan)
 
 unfoldable pub lane : Format → Float → ℕ → List Float → List Float
-lane f c p x = tabulate (length x) (laneAt f c p x)
+lane f c p x = tabulate (length x) (lane_at f c p x)
 
 -- entries at even places times p, the others times q
-unfoldable pub scaledLanes : Format → Float → Float → List Float → List Float
-scaledLanes f p q x = tabulate (length x) (λ j. mul f (get_or x j nan) (cond (eqb (j % 2) 0) p q))
+unfoldable pub scaled_lanes : Format → Float → Float → List Float → List Float
+scaled_lanes f p q x = tabulate (length x) (λ j. mul f (get_or x j nan) (cond (eqb (j % 2) 0) p q))
 
 -- the list after a schedule of steps
-unfoldable pub runOn : Format → List Step → List Float → List Float
-runOn f ss x = joined nan (runA f ss (evenOf nan x) (oddOf nan x)) (runD f ss (evenOf nan x) (oddOf nan x))
+unfoldable pub run_on : Format → List Step → List Float → List Float
+run_on f ss x = joined nan (run_a f ss (even_of nan x) (odd_of nan x)) (run_d f ss (even_of nan x) (odd_of nan x))
 
 -- x holds the entries of both bands
 pub record Lanes (f : Format) (x : List ℕ) : Type 0 where
@@ -37,4 +37,4 @@ pub record Lanes (f : Format) (x : List ℕ) : Type 0 where
 
 -- x' is what the steps ss leave of x
 pub record RanOn (f : Format) (ss : List Step) (x x' : List ℕ) : Type 0 where
-  pub output : x' ≡ encodeFloats f (runOn f ss (decodeFloats f x))
+  pub output : x' ≡ encode_floats f (run_on f ss (decode_floats f x))

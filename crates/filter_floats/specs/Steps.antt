@@ -7,18 +7,18 @@ use Rattle.base_samples.specs.Words.{tabulate}
 
 module _ {A : Type 0} where
   -- what g makes of a[i], a[i+1] and d[i], where the approximation after the last is the last; z is never read
-  unfoldable pub oddAt : (A → A → A → A) → A → List A → List A → ℕ → A
-  oddAt g z a d i = g (get_or a i z) (get_or a (min (i + 1) (length a - 1)) z) (get_or d i z)
+  unfoldable pub odd_at : (A → A → A → A) → A → List A → List A → ℕ → A
+  odd_at g z a d i = g (get_or a i z) (get_or a (min (i + 1) (length a - 1)) z) (get_or d i z)
 
   -- what g makes of d[i-1], d[i] and a[i], where the detail before the first is the first (0 - 1 is 0 here), and the one after the last is the last
-  unfoldable pub evenAt : (A → A → A → A) → A → List A → List A → ℕ → A
-  evenAt g z a d i = g (get_or d (i - 1) z) (get_or d (min i (length d - 1)) z) (get_or a i z)
+  unfoldable pub even_at : (A → A → A → A) → A → List A → List A → ℕ → A
+  even_at g z a d i = g (get_or d (i - 1) z) (get_or d (min i (length d - 1)) z) (get_or a i z)
 
   unfoldable pub odds : (A → A → A → A) → A → List A → List A → List A
-  odds g z a d = tabulate (length d) (oddAt g z a d)
+  odds g z a d = tabulate (length d) (odd_at g z a d)
 
   unfoldable pub evens : (A → A → A → A) → A → List A → List A → List A
-  evens g z a d = tabulate (length a) (evenAt g z a d)
+  evens g z a d = tabulate (length a) (even_at g z a d)
 
 -- (l + r) * c + x: "each addition and each multiplication is rounded once, in that order"
 unfoldable pub lift : Format → Float → Float → Float → Float → Float
@@ -35,21 +35,21 @@ pub data Step : Type 0 where
   scaling : Float → Float → Step
 
 -- the two lists after a step
-abbrev pub stepA : Format → Step → List Float → List Float → List Float
-stepA f (oddly c) a d = a
-stepA f (evenly c) a d = evens (lift f c) nan a d
-stepA f (scaling p q) a d = scaled f p a
+abbrev pub step_a : Format → Step → List Float → List Float → List Float
+step_a f (oddly c) a d = a
+step_a f (evenly c) a d = evens (lift f c) nan a d
+step_a f (scaling p q) a d = scaled f p a
 
-abbrev pub stepD : Format → Step → List Float → List Float → List Float
-stepD f (oddly c) a d = odds (lift f c) nan a d
-stepD f (evenly c) a d = d
-stepD f (scaling p q) a d = scaled f q d
+abbrev pub step_d : Format → Step → List Float → List Float → List Float
+step_d f (oddly c) a d = odds (lift f c) nan a d
+step_d f (evenly c) a d = d
+step_d f (scaling p q) a d = scaled f q d
 
 -- and after a schedule of steps, one after the other
-abbrev pub runA : Format → List Step → List Float → List Float → List Float
-runA f [] a d = a
-runA f (s ∷ ss) a d = runA f ss (stepA f s a d) (stepD f s a d)
+abbrev pub run_a : Format → List Step → List Float → List Float → List Float
+run_a f [] a d = a
+run_a f (s ∷ ss) a d = run_a f ss (step_a f s a d) (step_d f s a d)
 
-abbrev pub runD : Format → List Step → List Float → List Float → List Float
-runD f [] a d = d
-runD f (s ∷ ss) a d = runD f ss (stepA f s a d) (stepD f s a d)
+abbrev pub run_d : Format → List Step → List Float → List Float → List Float
+run_d f [] a d = d
+run_d f (s ∷ ss) a d = run_d f ss (step_a f s a d) (step_d f s a d)

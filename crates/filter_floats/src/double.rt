@@ -2,11 +2,11 @@
 ghost use Rattle.std.specs.Prelude.{◌≡◌, [], ◌∷◌, map, ◌/◌, ◌<◌, length};
 ghost use Rattle.std.specs.Float.{binary64, nan};
 ghost use Rattle.std.specs.Float.Ieee.{mul};
-ghost use Rattle.base_samples.specs.Halves.{evenOf, oddOf, joined};
-ghost use Rattle.base_samples.specs.Floats.{float_at, putFloat, decodeFloats, encodeFloats, Plain};
+ghost use Rattle.base_samples.specs.Halves.{even_of, odd_of, joined};
+ghost use Rattle.base_samples.specs.Floats.{float_at, put_float, decode_floats, encode_floats, Plain};
 ghost use Rattle.filter_floats.specs.Steps.{odds, evens, lift, scaled};
 ghost use Rattle.filter_floats.specs.Loops.{Lent, Stored, StoredBands, Ran};
-ghost use Rattle.filter_floats.specs.Lanes.{lane, scaledLanes, Lanes, RanOn};
+ghost use Rattle.filter_floats.specs.Lanes.{lane, scaled_lanes, Lanes, RanOn};
 ghost use Rattle.filter_floats.specs.Kinds.{kind64};
 
 use crate::mla::fmla_f64;
@@ -34,8 +34,8 @@ pub struct Factors64 {
 // The evens of the samples in x, into a, and the odds, into d.
 pub fn split_f64(x: &[u8], a: &mut [u8], d: &mut [u8])
     requires { Lent binary64 x.now a.old d.old }
-    ensures a_after { a.new ≡ encodeFloats binary64 (evenOf nan (decodeFloats binary64 x.now)) }
-    ensures d_after { d.new ≡ encodeFloats binary64 (oddOf nan (decodeFloats binary64 x.now)) }
+    ensures a_after { a.new ≡ encode_floats binary64 (even_of nan (decode_floats binary64 x.now)) }
+    ensures d_after { d.new ≡ encode_floats binary64 (odd_of nan (decode_floats binary64 x.now)) }
 {
     let n = x.len() / 8;
     let m = n / 2;
@@ -54,7 +54,7 @@ pub fn split_f64(x: &[u8], a: &mut [u8], d: &mut [u8])
 fn lift_at_f64(s: &mut [u8], i: usize, left: f64, right: f64, c: f64)
     requires i_in_bounds { i < length s.old / 8 }
     requires plain { Plain binary64 s.old i }
-    ensures { s.new ≡ putFloat binary64 s.old i (lift binary64 c left right (float_at binary64 s.old i)) }
+    ensures { s.new ≡ put_float binary64 s.old i (lift binary64 c left right (float_at binary64 s.old i)) }
 {
     let x = get_plain_f64(s, i);
     put_f64(s, i, fmla_f64(left + right, c, x));
@@ -63,7 +63,7 @@ fn lift_at_f64(s: &mut [u8], i: usize, left: f64, right: f64, c: f64)
 // "Odds c": each detail from the approximations on either side. The mirrored end stays out of the loop, so that LLVM takes several floats at a time.
 fn dwt97_forward_update_odd_f64(a: &[u8], d: &mut [u8], c: f64)
     requires { StoredBands binary64 a.now d.old }
-    ensures { d.new ≡ encodeFloats binary64 (odds (lift binary64 c) nan (decodeFloats binary64 a.now) (decodeFloats binary64 d.old)) }
+    ensures { d.new ≡ encode_floats binary64 (odds (lift binary64 c) nan (decode_floats binary64 a.now) (decode_floats binary64 d.old)) }
 {
     let na = a.len() / 8;
     let last = d.len() / 8 - 1;
@@ -82,7 +82,7 @@ fn dwt97_forward_update_odd_f64(a: &[u8], d: &mut [u8], c: f64)
 // "Evens c": each approximation from the details on either side. The right neighbour is the next left one, so that the first place needs no turn of its own.
 fn dwt97_forward_update_even_f64(a: &mut [u8], d: &[u8], c: f64)
     requires { StoredBands binary64 a.old d.now }
-    ensures { a.new ≡ encodeFloats binary64 (evens (lift binary64 c) nan (decodeFloats binary64 a.old) (decodeFloats binary64 d.now)) }
+    ensures { a.new ≡ encode_floats binary64 (evens (lift binary64 c) nan (decode_floats binary64 a.old) (decode_floats binary64 d.now)) }
 {
     let na = a.len() / 8;
     let nd = d.len() / 8;
@@ -103,7 +103,7 @@ fn dwt97_forward_update_even_f64(a: &mut [u8], d: &[u8], c: f64)
 fn scale_at_f64(s: &mut [u8], i: usize, k: f64)
     requires i_in_bounds { i < length s.old / 8 }
     requires plain { Plain binary64 s.old i }
-    ensures { s.new ≡ putFloat binary64 s.old i (mul binary64 (float_at binary64 s.old i) k) }
+    ensures { s.new ≡ put_float binary64 s.old i (mul binary64 (float_at binary64 s.old i) k) }
 {
     let x = get_plain_f64(s, i);
     put_f64(s, i, x * k);
@@ -112,7 +112,7 @@ fn scale_at_f64(s: &mut [u8], i: usize, k: f64)
 // Each float of a band times k.
 fn dwt97_scale_f64(s: &mut [u8], k: f64)
     requires { Stored binary64 (length s.old / 8) s.old }
-    ensures { s.new ≡ encodeFloats binary64 (scaled binary64 k (decodeFloats binary64 s.old)) }
+    ensures { s.new ≡ encode_floats binary64 (scaled binary64 k (decode_floats binary64 s.old)) }
 {
     let n = s.len() / 8;
     let mut i = 0;
@@ -166,7 +166,7 @@ pub fn run5_f64(schedule: [Step64; 5], a: &mut [u8], d: &mut [u8])
 // The approximations in a and the details in d, one of each in turn, into x.
 pub fn join_f64(a: &[u8], d: &[u8], x: &mut [u8])
     requires { Lent binary64 x.old a.now d.now }
-    ensures { x.new ≡ encodeFloats binary64 (joined nan (decodeFloats binary64 a.now) (decodeFloats binary64 d.now)) }
+    ensures { x.new ≡ encode_floats binary64 (joined nan (decode_floats binary64 a.now) (decode_floats binary64 d.now)) }
 {
     let n = x.len() / 8;
     let m = n / 2;
@@ -185,7 +185,7 @@ pub fn join_f64(a: &[u8], d: &[u8], x: &mut [u8])
 fn lift_lane_f64(x: &mut [u8], start: usize, c: f64)
     requires lanes { Lanes binary64 x.old }
     requires start_bound { start < 2 }
-    ensures { x.new ≡ encodeFloats binary64 (lane binary64 c start (decodeFloats binary64 x.old)) }
+    ensures { x.new ≡ encode_floats binary64 (lane binary64 c start (decode_floats binary64 x.old)) }
 {
     let n = x.len() / 8;
     let mut left = get_plain_f64(x, 1 - start);
@@ -204,7 +204,7 @@ fn lift_lane_f64(x: &mut [u8], start: usize, c: f64)
 // A scaling where both bands stand in x.
 fn scale_lanes_f64(x: &mut [u8], k: f64, l: f64)
     requires { Lanes binary64 x.old }
-    ensures { x.new ≡ encodeFloats binary64 (scaledLanes binary64 k l (decodeFloats binary64 x.old)) }
+    ensures { x.new ≡ encode_floats binary64 (scaled_lanes binary64 k l (decode_floats binary64 x.old)) }
 {
     let n = x.len() / 8;
     let m = n / 2;

@@ -2,11 +2,11 @@
 ghost use Rattle.std.specs.Prelude.{◌≡◌, [], ◌∷◌, map, ◌/◌, ◌<◌, length};
 ghost use Rattle.std.specs.Float.{binary32, nan};
 ghost use Rattle.std.specs.Float.Ieee.{mul};
-ghost use Rattle.base_samples.specs.Halves.{evenOf, oddOf, joined};
-ghost use Rattle.base_samples.specs.Floats.{float_at, putFloat, decodeFloats, encodeFloats, Plain};
+ghost use Rattle.base_samples.specs.Halves.{even_of, odd_of, joined};
+ghost use Rattle.base_samples.specs.Floats.{float_at, put_float, decode_floats, encode_floats, Plain};
 ghost use Rattle.filter_floats.specs.Steps.{odds, evens, lift, scaled};
 ghost use Rattle.filter_floats.specs.Loops.{Lent, Stored, StoredBands, Ran};
-ghost use Rattle.filter_floats.specs.Lanes.{lane, scaledLanes, Lanes, RanOn};
+ghost use Rattle.filter_floats.specs.Lanes.{lane, scaled_lanes, Lanes, RanOn};
 ghost use Rattle.filter_floats.specs.Kinds.{kind32};
 
 use crate::mla::fmla_f32;
@@ -34,8 +34,8 @@ pub struct Factors32 {
 // The evens of the samples in x, into a, and the odds, into d.
 pub fn split_f32(x: &[u8], a: &mut [u8], d: &mut [u8])
     requires { Lent binary32 x.now a.old d.old }
-    ensures a_after { a.new ≡ encodeFloats binary32 (evenOf nan (decodeFloats binary32 x.now)) }
-    ensures d_after { d.new ≡ encodeFloats binary32 (oddOf nan (decodeFloats binary32 x.now)) }
+    ensures a_after { a.new ≡ encode_floats binary32 (even_of nan (decode_floats binary32 x.now)) }
+    ensures d_after { d.new ≡ encode_floats binary32 (odd_of nan (decode_floats binary32 x.now)) }
 {
     let n = x.len() / 4;
     let m = n / 2;
@@ -54,7 +54,7 @@ pub fn split_f32(x: &[u8], a: &mut [u8], d: &mut [u8])
 fn lift_at_f32(s: &mut [u8], i: usize, left: f32, right: f32, c: f32)
     requires i_in_bounds { i < length s.old / 4 }
     requires plain { Plain binary32 s.old i }
-    ensures { s.new ≡ putFloat binary32 s.old i (lift binary32 c left right (float_at binary32 s.old i)) }
+    ensures { s.new ≡ put_float binary32 s.old i (lift binary32 c left right (float_at binary32 s.old i)) }
 {
     let x = get_plain_f32(s, i);
     put_f32(s, i, fmla_f32(left + right, c, x));
@@ -63,7 +63,7 @@ fn lift_at_f32(s: &mut [u8], i: usize, left: f32, right: f32, c: f32)
 // "Odds c": each detail from the approximations on either side. The mirrored end stays out of the loop, so that LLVM takes several floats at a time.
 fn dwt97_forward_update_odd_f32(a: &[u8], d: &mut [u8], c: f32)
     requires { StoredBands binary32 a.now d.old }
-    ensures { d.new ≡ encodeFloats binary32 (odds (lift binary32 c) nan (decodeFloats binary32 a.now) (decodeFloats binary32 d.old)) }
+    ensures { d.new ≡ encode_floats binary32 (odds (lift binary32 c) nan (decode_floats binary32 a.now) (decode_floats binary32 d.old)) }
 {
     let na = a.len() / 4;
     let last = d.len() / 4 - 1;
@@ -82,7 +82,7 @@ fn dwt97_forward_update_odd_f32(a: &[u8], d: &mut [u8], c: f32)
 // "Evens c": each approximation from the details on either side. The right neighbour is the next left one, so that the first place needs no turn of its own.
 fn dwt97_forward_update_even_f32(a: &mut [u8], d: &[u8], c: f32)
     requires { StoredBands binary32 a.old d.now }
-    ensures { a.new ≡ encodeFloats binary32 (evens (lift binary32 c) nan (decodeFloats binary32 a.old) (decodeFloats binary32 d.now)) }
+    ensures { a.new ≡ encode_floats binary32 (evens (lift binary32 c) nan (decode_floats binary32 a.old) (decode_floats binary32 d.now)) }
 {
     let na = a.len() / 4;
     let nd = d.len() / 4;
@@ -103,7 +103,7 @@ fn dwt97_forward_update_even_f32(a: &mut [u8], d: &[u8], c: f32)
 fn scale_at_f32(s: &mut [u8], i: usize, k: f32)
     requires i_in_bounds { i < length s.old / 4 }
     requires plain { Plain binary32 s.old i }
-    ensures { s.new ≡ putFloat binary32 s.old i (mul binary32 (float_at binary32 s.old i) k) }
+    ensures { s.new ≡ put_float binary32 s.old i (mul binary32 (float_at binary32 s.old i) k) }
 {
     let x = get_plain_f32(s, i);
     put_f32(s, i, x * k);
@@ -112,7 +112,7 @@ fn scale_at_f32(s: &mut [u8], i: usize, k: f32)
 // Each float of a band times k.
 fn dwt97_scale_f32(s: &mut [u8], k: f32)
     requires { Stored binary32 (length s.old / 4) s.old }
-    ensures { s.new ≡ encodeFloats binary32 (scaled binary32 k (decodeFloats binary32 s.old)) }
+    ensures { s.new ≡ encode_floats binary32 (scaled binary32 k (decode_floats binary32 s.old)) }
 {
     let n = s.len() / 4;
     let mut i = 0;
@@ -166,7 +166,7 @@ pub fn run5_f32(schedule: [Step32; 5], a: &mut [u8], d: &mut [u8])
 // The approximations in a and the details in d, one of each in turn, into x.
 pub fn join_f32(a: &[u8], d: &[u8], x: &mut [u8])
     requires { Lent binary32 x.old a.now d.now }
-    ensures { x.new ≡ encodeFloats binary32 (joined nan (decodeFloats binary32 a.now) (decodeFloats binary32 d.now)) }
+    ensures { x.new ≡ encode_floats binary32 (joined nan (decode_floats binary32 a.now) (decode_floats binary32 d.now)) }
 {
     let n = x.len() / 4;
     let m = n / 2;
@@ -185,7 +185,7 @@ pub fn join_f32(a: &[u8], d: &[u8], x: &mut [u8])
 fn lift_lane_f32(x: &mut [u8], start: usize, c: f32)
     requires lanes { Lanes binary32 x.old }
     requires start_bound { start < 2 }
-    ensures { x.new ≡ encodeFloats binary32 (lane binary32 c start (decodeFloats binary32 x.old)) }
+    ensures { x.new ≡ encode_floats binary32 (lane binary32 c start (decode_floats binary32 x.old)) }
 {
     let n = x.len() / 4;
     let mut left = get_plain_f32(x, 1 - start);
@@ -204,7 +204,7 @@ fn lift_lane_f32(x: &mut [u8], start: usize, c: f32)
 // A scaling where both bands stand in x.
 fn scale_lanes_f32(x: &mut [u8], k: f32, l: f32)
     requires { Lanes binary32 x.old }
-    ensures { x.new ≡ encodeFloats binary32 (scaledLanes binary32 k l (decodeFloats binary32 x.old)) }
+    ensures { x.new ≡ encode_floats binary32 (scaled_lanes binary32 k l (decode_floats binary32 x.old)) }
 {
     let n = x.len() / 4;
     let m = n / 2;

@@ -2,7 +2,7 @@
 use Prim.Native.Nat.{ℕ, ◌*◌, ◌≤◌}
 use native.Mathlib.Omega.{arith}
 use lib.Ieee.{Float, nan, inf, fin, Format, binary32, binary64, neg, round}
-use Rattle.filter_floats.specs.Filters.{Set, decimal, rounded, factors32, factors64, factorsOf, turned}
+use Rattle.filter_floats.specs.Filters.{Set, decimal, rounded, factors32, factors64, factors_of, turned}
 use Rattle.filter_small.specs.Small.{Factor}
 
 pub record Factors (t : Set) : Type 0 where
@@ -13,7 +13,7 @@ pub record Factors (t : Set) : Type 0 where
   pub k : Factor t.k
   pub invk : Factor t.invk
 
-pub factors : (f : Format) → Factors (factorsOf f)
+pub factors : (f : Format) → Factors (factors_of f)
 unfolding factors32 factors64 rounded decimal round
 factors binary32 = record { alpha = omega arith; beta = omega arith; gamma = omega arith; delta = omega arith; k = omega arith; invk = omega arith }
 factors binary64 = record { alpha = omega arith; beta = omega arith; gamma = omega arith; delta = omega arith; k = omega arith; invk = omega arith }

@@ -10,35 +10,35 @@ use lib.Ieee.{Float, nan, Format, add, mul, to_bits, is_nan}
 use lib.ListN.{length, get_or}
 use Rattle.base_samples.specs.Words.{Front}
 use Rattle.base_samples.specs.Halves.{joined}
-use Rattle.base_samples.specs.Floats.{width, float_at, putFloat, decodeFloats, encodeFloats}
-use Rattle.base_samples.proofs.Words.{length-tabulate, get_d_tabulate, tabulate-getD}
+use Rattle.base_samples.specs.Floats.{width, float_at, put_float, decode_floats, encode_floats}
+use Rattle.base_samples.proofs.Words.{length-tabulate, get_or-tabulate, tabulate-get_or}
 use Rattle.base_samples.proofs.Halves.{length-even, length-odd, at-even, at-odd}
 use Rattle.base_samples.proofs.Fronts.{front-more, front_at, front-all}
-use Rattle.base_samples.proofs.FloatLaws.{length-decodeFloats, at-decodeFloats, encodeFloats-tabulate}
-use Rattle.filter_floats.specs.Steps.{lift, oddAt, evenAt, odds, evens, scaled}
+use Rattle.base_samples.proofs.FloatLaws.{length-decode_floats, at-decode_floats, encode_floats-tabulate}
+use Rattle.filter_floats.specs.Steps.{lift, odd_at, even_at, odds, evens, scaled}
 use Rattle.filter_small.specs.Small.{Small, Factor, SmallFrom}
-use Rattle.filter_small.specs.Lists.{evenIn, oddIn, patternOf, in_turn}
-use Rattle.filter_small.proofs.Sizes.{ceiling, sizeRead, lift-small, mul_small, small-no-nan, float_small}
+use Rattle.filter_small.specs.Lists.{even_in, odd_in, pattern_of, in_turn}
+use Rattle.filter_small.proofs.Sizes.{ceiling, size_read, lift-small, mul_small, small-no-nan, float_small}
 
 -- ---- the floats in a slice
 
 module _ (f : Format) (x : List ℕ) where
-  pub length-evenIn : length (evenIn f x) ≡ (length x / width f + 1) / 2
-  unfolding evenIn
-  length-evenIn = length-even nan _ ∙ rw (length-decodeFloats f x)
+  pub length-even_in : length (even_in f x) ≡ (length x / width f + 1) / 2
+  unfolding even_in
+  length-even_in = length-even nan _ ∙ rw (length-decode_floats f x)
 
-  pub length-oddIn : length (oddIn f x) ≡ length x / width f / 2
-  unfolding oddIn
-  length-oddIn = length-odd nan _ ∙ rw (length-decodeFloats f x)
+  pub length-odd_in : length (odd_in f x) ≡ length x / width f / 2
+  unfolding odd_in
+  length-odd_in = length-odd nan _ ∙ rw (length-decode_floats f x)
 
   -- float k is even entry i, or odd entry i
-  pub even-in : (i k : ℕ) → k ≡ 2 * i → k < length x / width f → float_at f x k ≡ get_or (evenIn f x) i nan
-  unfolding evenIn
-  even-in i k e h = sym (at-even nan (decodeFloats f x) i (rw (length-decodeFloats f x) (omega arith)) ∙ rw (← e) (at-decodeFloats f x k h))
+  pub even-in : (i k : ℕ) → k ≡ 2 * i → k < length x / width f → float_at f x k ≡ get_or (even_in f x) i nan
+  unfolding even_in
+  even-in i k e h = sym (at-even nan (decode_floats f x) i (rw (length-decode_floats f x) (omega arith)) ∙ rw (← e) (at-decode_floats f x k h))
 
-  pub odd-in : (i k : ℕ) → k ≡ 2 * i + 1 → k < length x / width f → float_at f x k ≡ get_or (oddIn f x) i nan
-  unfolding oddIn
-  odd-in i k e h = sym (at-odd nan (decodeFloats f x) i (rw (length-decodeFloats f x) (omega arith)) ∙ rw (← e) (at-decodeFloats f x k h))
+  pub odd-in : (i k : ℕ) → k ≡ 2 * i + 1 → k < length x / width f → float_at f x k ≡ get_or (odd_in f x) i nan
+  unfolding odd_in
+  odd-in i k e h = sym (at-odd nan (decode_floats f x) i (rw (length-decode_floats f x) (omega arith)) ∙ rw (← e) (at-decode_floats f x k h))
 
 -- ---- one step
 
@@ -52,12 +52,12 @@ module _ (f : Format) (c : Float) (p q : List Float) where
   length-evens = length-tabulate _ _
 
   odd-at : (i r : ℕ) → i < length q → r ≡ min (i + 1) (length p - 1) → get_or (odds (lift f c) nan p q) i nan ≡ lift f c (get_or p i nan) (get_or p r nan) (get_or q i nan)
-  unfolding odds oddAt
-  odd-at i r h er = rw (get_d_tabulate (length q) (oddAt (lift f c) nan p q) i nan h, ← er)
+  unfolding odds odd_at
+  odd-at i r h er = rw (get_or-tabulate (length q) (odd_at (lift f c) nan p q) i nan h, ← er)
 
   even-at : (i l r : ℕ) → i < length p → l ≡ i - 1 → r ≡ min i (length q - 1) → get_or (evens (lift f c) nan p q) i nan ≡ lift f c (get_or q l nan) (get_or q r nan) (get_or p i nan)
-  unfolding evens evenAt
-  even-at i l r h el er = rw (get_d_tabulate (length p) (evenAt (lift f c) nan p q) i nan h, ← el, ← er)
+  unfolding evens even_at
+  even-at i l r h el er = rw (get_or-tabulate (length p) (even_at (lift f c) nan p q) i nan h, ← el, ← er)
 
   -- as the code makes them: r is the place of the right neighbour, l of the left one
   pub odd-made : (i r : ℕ) {y z t : Float} → i < length q → r ≡ min (i + 1) (length p - 1) → y ≡ get_or p i nan → z ≡ get_or p r nan → t ≡ get_or q i nan
@@ -88,7 +88,7 @@ module _ (f : Format) (k : Float) (l : List Float) where
 
   pub scaled_made : (i : ℕ) {y : Float} → i < length l → y ≡ get_or l i nan → mul f y k ≡ get_or (scaled f k l) i nan
   unfolding scaled
-  scaled_made i h e = rw e (sym (get_d_tabulate (length l) (λ i. mul f (get_or l i nan) k) i nan h))
+  scaled_made i h e = rw e (sym (get_or-tabulate (length l) (λ i. mul f (get_or l i nan) k) i nan h))
 
   pub scaled_small : (j i : ℕ) → Factor k → j + 3 < ceiling f → i < length l → Small f j (get_or l i nan) → Small f (j + 3) (get_or (scaled f k l) i nan)
   scaled_small j i b far h s = rw (← scaled_made i h refl) (mul_small f (get_or l i nan) k j (j + 3) s b (omega arith) far)
@@ -97,13 +97,13 @@ module _ (f : Format) (k : Float) (l : List Float) where
 
 -- the floats of a slice, where it has small ones
 module _ {f : Format} {x : List ℕ} {lo hi : ℕ} (w : SmallFrom f x lo hi) (i : ℕ) where
-  pub small-in : lo ≤ i → i < hi → i < length x / width f → Small f (sizeRead f) (get_or (decodeFloats f x) i nan)
-  small-in a b h = rw (at-decodeFloats f x i h) (float_small w i a b h)
+  pub small-in : lo ≤ i → i < hi → i < length x / width f → Small f (size_read f) (get_or (decode_floats f x) i nan)
+  small-in a b h = rw (at-decode_floats f x i h) (float_small w i a b h)
 
-  pub even-in-small : lo ≤ 2 * i → 2 * i < hi → 2 * i < length x / width f → Small f (sizeRead f) (get_or (evenIn f x) i nan)
+  pub even-in-small : lo ≤ 2 * i → 2 * i < hi → 2 * i < length x / width f → Small f (size_read f) (get_or (even_in f x) i nan)
   even-in-small a b h = rw (← even-in f x i (2 * i) refl h) (float_small w (2 * i) a b h)
 
-  pub odd-in-small : lo ≤ 2 * i + 1 → 2 * i + 1 < hi → 2 * i + 1 < length x / width f → Small f (sizeRead f) (get_or (oddIn f x) i nan)
+  pub odd-in-small : lo ≤ 2 * i + 1 → 2 * i + 1 < hi → 2 * i + 1 < length x / width f → Small f (size_read f) (get_or (odd_in f x) i nan)
   odd-in-small a b h = rw (← odd-in f x i (2 * i + 1) refl h) (float_small w (2 * i + 1) a b h)
 
 -- a finite float is no NaN
@@ -112,13 +112,13 @@ no-nan-is f j z s q = subst (λ (y : Float). T (not (is_nan y))) (sym q) (small-
 
 -- ---- a list that is stored
 
-pub stored_more : (f : Format) (l : List Float) {n i : ℕ} {s t : List ℕ} {e : Float} → Front (width f) n i (patternOf f l) s → i < n → e ≡ get_or l i nan → t ≡ putFloat f s i e → Front (width f) n (i + 1) (patternOf f l) t
-unfolding putFloat patternOf
+pub stored_more : (f : Format) (l : List Float) {n i : ℕ} {s t : List ℕ} {e : Float} → Front (width f) n i (pattern_of f l) s → i < n → e ≡ get_or l i nan → t ≡ put_float f s i e → Front (width f) n (i + 1) (pattern_of f l) t
+unfolding put_float pattern_of
 stored_more f l h hn q put = front-more h refl hn (ap (to_bits f) q) put
 
-pub stored-all : (f : Format) (l : List Float) {n i : ℕ} {s : List ℕ} → Front (width f) n i (patternOf f l) s → i ≡ n → n ≡ length l → s ≡ encodeFloats f l
-unfolding patternOf
-stored-all f l h e en = front-all (length l) h e en ∙ sym (ap (encodeFloats f) (sym (tabulate-getD l nan)) ∙ encodeFloats-tabulate f (length l) (λ i. get_or l i nan))
+pub stored-all : (f : Format) (l : List Float) {n i : ℕ} {s : List ℕ} → Front (width f) n i (pattern_of f l) s → i ≡ n → n ≡ length l → s ≡ encode_floats f l
+unfolding pattern_of
+stored-all f l h e en = front-all (length l) h e en ∙ sym (ap (encode_floats f) (sym (tabulate-get_or l nan)) ∙ encode_floats-tabulate f (length l) (λ i. get_or l i nan))
 
 -- nothing is asked where a flag is not set
 pub never : {A : Type 0} → false ≡ true → A
@@ -140,15 +140,15 @@ module _ (f : Format) (p q : List Float) where
   turn_odd i = let half : (2 * i + 1) / 2 ≡ i = omega arith in rw (ne_eqb ((2 * i + 1) % 2) 0 (omega arith), half)
 
   -- an even entry more, and the odd one after it
-  pub even-more : {n : ℕ} {s t : List ℕ} {e : Float} (i : ℕ) → Front (width f) n (2 * i) (in_turn f p q) s → 2 * i < n → e ≡ get_or p i nan → t ≡ putFloat f s (2 * i) e → Front (width f) n (2 * i + 1) (in_turn f p q) t
-  unfolding putFloat
+  pub even-more : {n : ℕ} {s t : List ℕ} {e : Float} (i : ℕ) → Front (width f) n (2 * i) (in_turn f p q) s → 2 * i < n → e ≡ get_or p i nan → t ≡ put_float f s (2 * i) e → Front (width f) n (2 * i + 1) (in_turn f p q) t
+  unfolding put_float
   even-more i h hn r put = front-more h refl hn (ap (to_bits f) r ∙ sym (turn_even i)) put
 
-  pub odd-more : {n : ℕ} {s t : List ℕ} {o : Float} (i : ℕ) → Front (width f) n (2 * i + 1) (in_turn f p q) s → 2 * i + 1 < n → o ≡ get_or q i nan → t ≡ putFloat f s (2 * i + 1) o → Front (width f) n (2 * (i + 1)) (in_turn f p q) t
-  unfolding putFloat
+  pub odd-more : {n : ℕ} {s t : List ℕ} {o : Float} (i : ℕ) → Front (width f) n (2 * i + 1) (in_turn f p q) s → 2 * i + 1 < n → o ≡ get_or q i nan → t ≡ put_float f s (2 * i + 1) o → Front (width f) n (2 * (i + 1)) (in_turn f p q) t
+  unfolding put_float
   odd-more i h hn r put = front_at _ (front-more h refl hn (ap (to_bits f) r ∙ sym (turn_odd i)) put) (omega arith)
 
   -- all of both
-  pub turns-all : {n i : ℕ} {s : List ℕ} → Front (width f) n i (in_turn f p q) s → i ≡ n → n ≡ length p + length q → s ≡ encodeFloats f (joined nan p q)
+  pub turns-all : {n i : ℕ} {s : List ℕ} → Front (width f) n i (in_turn f p q) s → i ≡ n → n ≡ length p + length q → s ≡ encode_floats f (joined nan p q)
   unfolding joined in_turn
-  turns-all h e en = front-all (length p + length q) h e en ∙ sym (encodeFloats-tabulate f _ _)
+  turns-all h e en = front-all (length p + length q) h e en ∙ sym (encode_floats-tabulate f _ _)

@@ -171,8 +171,8 @@ abbrev field : Format → ℕ
 field binary32 = 191
 field binary64 = 1791
 
-abbrev pub sizeRead : Format → ℕ
-sizeRead f = prec f + field f
+abbrev pub size_read : Format → ℕ
+size_read f = prec f + field f
 
 field_lt : (f : Format) → field f < ones f
 field_lt binary32 = omega arith
@@ -182,7 +182,7 @@ field-le : (f : Format) (n : ℕ) → n % top f < edge f → n % top f / hid f �
 field-le binary32 n h = omega arith
 field-le binary64 n h = omega arith
 
-bits_small : (f : Format) (n : ℕ) → n % top f < edge f → Small f (sizeRead f) (of_bits f n)
+bits_small : (f : Format) (n : ℕ) → n % top f < edge f → Small f (size_read f) (of_bits f n)
 unfolding of_bits
 bits_small f n h = fields-small f (leb (top f) n) (n % top f / hid f) (n % hid f) (field f) (field-le f n h) (field_lt f) (mod-lt n (hid-pos f))
 
@@ -191,7 +191,7 @@ below_nan binary32 n h = omega arith
 below_nan binary64 n h = omega arith
 
 module _ {f : Format} {s : List ℕ} {i j : ℕ} (h : SmallFrom f s i j) (p : ℕ) (ip : i ≤ p) (pj : p < j) (l : p < length s / width f) where
-  pub float_small : Small f (sizeRead f) (float_at f s p)
+  pub float_small : Small f (size_read f) (float_at f s p)
   unfolding float_at
   float_small = bits_small f _ (h.each p ip pj l)
 

@@ -2,7 +2,7 @@
 ghost use Rattle.std.specs.Prelude.{true, not, cond, ◌≡◌, ◌+◌, ◌/◌, ◌≤◌, ◌<◌, T, length, get_or};
 ghost use Rattle.std.specs.Float.{binary32, nan};
 ghost use Rattle.std.specs.Float.Ieee.{is_nan};
-ghost use Rattle.base_samples.specs.Floats.{float_at, putFloat};
+ghost use Rattle.base_samples.specs.Floats.{float_at, put_float};
 ghost use Rattle.filter_small.specs.Pieces.{Stepped, Rooms};
 ghost use Rattle.filter_small.specs.Small.{SmallFrom, SmallIf, BothSmallIf};
 
@@ -52,7 +52,7 @@ fn get_small_f32(s: &[u8], i: usize) -> f32
 fn put_small_f32(s: &mut [u8], i: usize, x: f32)
     requires i_in_bounds { i < length s.old / 4 }
     requires t { T (not (is_nan x)) }
-    ensures { s.new ≡ putFloat binary32 s.old i x }
+    ensures { s.new ≡ put_float binary32 s.old i x }
 {
     write_u32(s, 4 * i, f32::to_bits(x));
 }
@@ -74,7 +74,7 @@ pub fn get_f32(small: bool, s: &[u8], i: usize) -> f32
 pub fn put_f32(small: bool, s: &mut [u8], i: usize, x: f32)
     requires i_in_bounds { i < length s.old / 4 }
     requires t { small ≡ true → T (not (is_nan x)) }
-    ensures { s.new ≡ putFloat binary32 s.old i x }
+    ensures { s.new ≡ put_float binary32 s.old i x }
 {
     if small {
         put_small_f32(s, i, x);
@@ -87,7 +87,7 @@ pub fn put_f32(small: bool, s: &mut [u8], i: usize, x: f32)
 pub fn put_if_f32(wanted: bool, small: bool, s: &mut [u8], i: usize, x: f32)
     requires i_in_bounds { wanted ≡ true → i < length s.old / 4 }
     requires t { small ≡ true → T (not (is_nan x)) }
-    ensures { s.new ≡ cond wanted (putFloat binary32 s.old i x) s.old }
+    ensures { s.new ≡ cond wanted (put_float binary32 s.old i x) s.old }
 {
     if wanted {
         put_f32(small, s, i, x);

@@ -2,7 +2,7 @@
 ghost use Rattle.std.specs.Prelude.{true, not, cond, ◌≡◌, ◌+◌, ◌/◌, ◌≤◌, ◌<◌, T, length, get_or};
 ghost use Rattle.std.specs.Float.{binary64, nan};
 ghost use Rattle.std.specs.Float.Ieee.{is_nan};
-ghost use Rattle.base_samples.specs.Floats.{float_at, putFloat};
+ghost use Rattle.base_samples.specs.Floats.{float_at, put_float};
 ghost use Rattle.filter_small.specs.Pieces.{Stepped, Rooms};
 ghost use Rattle.filter_small.specs.Small.{SmallFrom, SmallIf, BothSmallIf};
 
@@ -52,7 +52,7 @@ fn get_small_f64(s: &[u8], i: usize) -> f64
 fn put_small_f64(s: &mut [u8], i: usize, x: f64)
     requires i_in_bounds { i < length s.old / 8 }
     requires t { T (not (is_nan x)) }
-    ensures { s.new ≡ putFloat binary64 s.old i x }
+    ensures { s.new ≡ put_float binary64 s.old i x }
 {
     write_u64(s, 8 * i, f64::to_bits(x));
 }
@@ -74,7 +74,7 @@ pub fn get_f64(small: bool, s: &[u8], i: usize) -> f64
 pub fn put_f64(small: bool, s: &mut [u8], i: usize, x: f64)
     requires i_in_bounds { i < length s.old / 8 }
     requires t { small ≡ true → T (not (is_nan x)) }
-    ensures { s.new ≡ putFloat binary64 s.old i x }
+    ensures { s.new ≡ put_float binary64 s.old i x }
 {
     if small {
         put_small_f64(s, i, x);
@@ -87,7 +87,7 @@ pub fn put_f64(small: bool, s: &mut [u8], i: usize, x: f64)
 pub fn put_if_f64(wanted: bool, small: bool, s: &mut [u8], i: usize, x: f64)
     requires i_in_bounds { wanted ≡ true → i < length s.old / 8 }
     requires t { small ≡ true → T (not (is_nan x)) }
-    ensures { s.new ≡ cond wanted (putFloat binary64 s.old i x) s.old }
+    ensures { s.new ≡ cond wanted (put_float binary64 s.old i x) s.old }
 {
     if wanted {
         put_f64(small, s, i, x);

@@ -6,7 +6,7 @@ use native.Mathlib.Omega.{arith}
 use lib.ListN.{length, get_or, replicate}
 use lib.Seq.{take-append_seam, drop-append_seam}
 use Rattle.base_samples.specs.Le.{le_bytes, Bytes}
-use Rattle.base_samples.proofs.LeLaws.{bytes-leBytes}
+use Rattle.base_samples.proofs.LeLaws.{bytes-le_bytes}
 use Rattle.law_levels.proofs.Undone.{bytes_take, bytes_drop}
 
 -- both of two
@@ -25,4 +25,4 @@ bytes-zeros n = record { byte = λ i. omega (arith, zero-at n i) }
 
 -- a number's
 pub bytes-number : (k n : ℕ) → Bytes (le_bytes k n)
-bytes-number k n = record { byte = bytes-leBytes k n }
+bytes-number k n = record { byte = bytes-le_bytes k n }

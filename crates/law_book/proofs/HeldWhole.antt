@@ -10,13 +10,13 @@ use Rattle.base_answers.specs.declared.err.Refusal.TheVariants.{Done}
 use Rattle.base_answers.specs.Answers.{done}
 use Rattle.base_answers.proofs.Passed.{Passing, passing, both-refuse, both-pass}
 use Rattle.base_samples.specs.Le.{Bytes}
-use Rattle.book_entries.specs.Checks.{wholeChecks}
+use Rattle.book_entries.specs.Checks.{whole_checks}
 use Rattle.book_entries.proofs.Passed.{whole-refuses}
-use Rattle.law_book.specs.PlainMap.{BookCall, fresh, add, withdraw, find, room, Lent, AllLent, Map, has, fileFor, removed, mapChecks, mapSays, changed, onMap, mapAfter}
+use Rattle.law_book.specs.PlainMap.{BookCall, fresh, add, withdraw, find, room, Lent, AllLent, Map, has, file_for, removed, map_checks, map_says, changed, on_map, map_after}
 
 -- a file of bytes that adding takes for point p
 abbrev pub Taken : ℕ → List ℕ → Type 0
-Taken p s = Bytes s × Passing (wholeChecks s p)
+Taken p s = Bytes s × Passing (whole_checks s p)
 
 -- a map of such files
 unfoldable pub AllTaken : Map → Type 0
@@ -40,26 +40,26 @@ taken-less (h ∷ hs) p a = pick (eqb h.0 p) (taken-less hs p a.1)
     pick false i = (a.0, i)
 
 -- the file that the map has for a point
-taken-file : (hs : Map) (q : ℕ) → AllTaken hs → has q hs ≡ true → Taken q (fileFor q hs)
-unfolding AllTaken has fileFor
+taken-file : (hs : Map) (q : ℕ) → AllTaken hs → has q hs ≡ true → Taken q (file_for q hs)
+unfolding AllTaken has file_for
 taken-file [] q a h = absurd (subst T (sym h) tt)
 taken-file (g ∷ hs) q a h = pick (eqb g.0 q) (eqb-true g.0 q) (taken-file hs q a.1) h
   where
-    pick : (t : Bool) → (t ≡ true → g.0 ≡ q) → (has q hs ≡ true → Taken q (fileFor q hs)) → (t || has q hs) ≡ true → Taken q (cond t g.1 (fileFor q hs))
+    pick : (t : Bool) → (t ≡ true → g.0 ≡ q) → (has q hs ≡ true → Taken q (file_for q hs)) → (t || has q hs) ≡ true → Taken q (cond t g.1 (file_for q hs))
     pick true e i h = subst (λ (p : ℕ). Taken p g.1) (e refl) a.0
     pick false e i h = i h
 
 -- a call leaves such a map
-taken-on : (n : ℕ) (hs : Map) (c : BookCall) → Lent c → AllTaken hs → AllTaken (onMap n hs c)
+taken-on : (n : ℕ) (hs : Map) (c : BookCall) → Lent c → AllTaken hs → AllTaken (on_map n hs c)
 unfolding AllTaken
-taken-on n hs c l a = pick (done (mapSays n hs c)) (each c l)
+taken-on n hs c l a = pick (done (map_says n hs c)) (each c l)
   where
-    each : (c : BookCall) → Lent c → done (mapSays n hs c) ≡ true → AllTaken (changed hs c)
+    each : (c : BookCall) → Lent c → done (map_says n hs c) ≡ true → AllTaken (changed hs c)
     each fresh l d = tt
     each (add p s) l d =
-        let rest = mapChecks n hs p (length s) in
-        let refuse = both-refuse (wholeChecks s p) rest (whole-refuses s p) (refl, (refl, (refl, tt))) in
-        taken_more hs p s a (l, (both-pass (wholeChecks s p) rest (passing (wholeChecks s p ++ rest) (Done 0 0) refuse d)).0)
+        let rest = map_checks n hs p (length s) in
+        let refuse = both-refuse (whole_checks s p) rest (whole-refuses s p) (refl, (refl, (refl, tt))) in
+        taken_more hs p s a (l, (both-pass (whole_checks s p) rest (passing (whole_checks s p ++ rest) (Done 0 0) refuse d)).0)
     each (withdraw p) l d = taken-less hs p a
     each (find p) l d = a
     each room l d = a
@@ -69,13 +69,13 @@ taken-on n hs c l a = pick (done (mapSays n hs c)) (each c l)
     pick false i = a
 
 -- and so do calls, one after the other
-taken-after : (n : ℕ) (hs : Map) (cs : List BookCall) → AllLent cs → AllTaken hs → AllTaken (mapAfter n hs cs)
-unfolding AllLent mapAfter
+taken-after : (n : ℕ) (hs : Map) (cs : List BookCall) → AllLent cs → AllTaken hs → AllTaken (map_after n hs cs)
+unfolding AllLent map_after
 taken-after n hs [] l a = a
-taken-after n hs (c ∷ cs) l a = taken-after n (onMap n hs c) cs l.1 (taken-on n hs c l.0 a)
+taken-after n hs (c ∷ cs) l a = taken-after n (on_map n hs c) cs l.1 (taken-on n hs c l.0 a)
 
 -- over any sequence of calls, from none: what the map has is bytes, and whole for its point
-pub held_whole : (n : ℕ) (cs : List BookCall) → AllLent cs → (q : ℕ) → has q (mapAfter n [] cs) ≡ true
-    → let s = fileFor q (mapAfter n [] cs) in Bytes s × Passing (wholeChecks s q)
+pub held_whole : (n : ℕ) (cs : List BookCall) → AllLent cs → (q : ℕ) → has q (map_after n [] cs) ≡ true
+    → let s = file_for q (map_after n [] cs) in Bytes s × Passing (whole_checks s q)
 unfolding AllTaken
-held_whole n cs l q h = taken-file (mapAfter n [] cs) q (taken-after n [] cs l tt) h
+held_whole n cs l q h = taken-file (map_after n [] cs) q (taken-after n [] cs l tt) h

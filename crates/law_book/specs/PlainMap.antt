@@ -7,8 +7,8 @@ use Rattle.base_answers.specs.declared.err.Refusal.TheVariants.{Done, BookFull, 
 use Rattle.base_answers.specs.Answers.{say, answer_of, done}
 use Rattle.base_answers.specs.Checks.{Check, first_of}
 use Rattle.base_samples.specs.Le.{Bytes}
-use Rattle.book_entries.specs.Books.{most, dataAt, pointBy, sizeBy, entriesIn, dataIn}
-use Rattle.book_entries.specs.Checks.{Book, wholeChecks, sayFind, sayRoom}
+use Rattle.book_entries.specs.Books.{most, data_at, point_by, size_by, entries_in, data_in}
+use Rattle.book_entries.specs.Checks.{Book, whole_checks, say_find, say_room}
 use Rattle.book_calls.specs.Calls.{Fresh, Add, Withdraw}
 
 -- ---- the calls
@@ -25,8 +25,8 @@ abbrev pub Does : BookCall → List ℕ → Answer → List ℕ → Type 0
 Does fresh b r b' = Fresh b r b'
 Does (add p s) b r b' = Add b p s r b'
 Does (withdraw p) b r b' = Withdraw b p r b'
-Does (find p) b r b' = (r ≡ answer_of (sayFind b p)) × (b' ≡ b)
-Does room b r b' = (r ≡ answer_of (sayRoom b)) × (b' ≡ b)
+Does (find p) b r b' = (r ≡ answer_of (say_find b p)) × (b' ≡ b)
+Does room b r b' = (r ≡ answer_of (say_room b)) × (b' ≡ b)
 
 -- these calls, one after the other, answer rs and leave b' of the area b
 pub data Ran : List ℕ → List BookCall → List Answer → List ℕ → Type 0 where
@@ -67,18 +67,18 @@ has p [] = false
 has p (h ∷ hs) = eqb h.0 p || has p hs
 
 -- the file of point p, and [] where there is none
-unfoldable pub fileFor : ℕ → Map → List ℕ
-fileFor p [] = []
-fileFor p (h ∷ hs) = cond (eqb h.0 p) h.1 (fileFor p hs)
+unfoldable pub file_for : ℕ → Map → List ℕ
+file_for p [] = []
+file_for p (h ∷ hs) = cond (eqb h.0 p) h.1 (file_for p hs)
 
 -- how many bytes all files have, and those before that of point p
-unfoldable pub mapTotal : Map → ℕ
-mapTotal [] = 0
-mapTotal (h ∷ hs) = length h.1 + mapTotal hs
+unfoldable pub map_total : Map → ℕ
+map_total [] = 0
+map_total (h ∷ hs) = length h.1 + map_total hs
 
-unfoldable pub bytesBefore : ℕ → Map → ℕ
-bytesBefore p [] = 0
-bytesBefore p (h ∷ hs) = cond (eqb h.0 p) 0 (length h.1 + bytesBefore p hs)
+unfoldable pub bytes_before : ℕ → Map → ℕ
+bytes_before p [] = 0
+bytes_before p (h ∷ hs) = cond (eqb h.0 p) 0 (length h.1 + bytes_before p hs)
 
 unfoldable pub removed : ℕ → Map → Map
 removed p [] = []
@@ -87,19 +87,19 @@ removed p (h ∷ hs) = cond (eqb h.0 p) hs (h ∷ removed p hs)
 -- ---- what a map of so much data room answers, and what a call leaves of it
 
 -- "found .. as place and length", the files standing one after the other from the data's first byte on
-abbrev pub placeFor : ℕ → Map → ℕ
-placeFor p hs = dataAt + bytesBefore p hs
+abbrev pub place_for : ℕ → Map → ℕ
+place_for p hs = data_at + bytes_before p hs
 
 -- 15, and 14, of a file of m bytes
-abbrev pub mapChecks : ℕ → Map → ℕ → ℕ → List Check
-mapChecks n hs p m = (has p hs, AlreadyHeld) ∷ (leb most (length hs), BookFull) ∷ (ltb (n - mapTotal hs) m, BookFull) ∷ []
+abbrev pub map_checks : ℕ → Map → ℕ → ℕ → List Check
+map_checks n hs p m = (has p hs, AlreadyHeld) ∷ (leb most (length hs), BookFull) ∷ (ltb (n - map_total hs) m, BookFull) ∷ []
 
-abbrev pub mapSays : ℕ → Map → BookCall → Refusal
-mapSays n hs fresh = Done 0 0
-mapSays n hs (add p s) = first_of (wholeChecks s p ++ mapChecks n hs p (length s)) (Done 0 0)
-mapSays n hs (withdraw p) = cond (has p hs) (Done 0 0) NotHeld
-mapSays n hs (find p) = cond (has p hs) (Done (placeFor p hs) (length (fileFor p hs))) NotHeld
-mapSays n hs room = Done (n - mapTotal hs) (length hs)
+abbrev pub map_says : ℕ → Map → BookCall → Refusal
+map_says n hs fresh = Done 0 0
+map_says n hs (add p s) = first_of (whole_checks s p ++ map_checks n hs p (length s)) (Done 0 0)
+map_says n hs (withdraw p) = cond (has p hs) (Done 0 0) NotHeld
+map_says n hs (find p) = cond (has p hs) (Done (place_for p hs) (length (file_for p hs))) NotHeld
+map_says n hs room = Done (n - map_total hs) (length hs)
 
 -- of a call that is done
 abbrev pub changed : Map → BookCall → Map
@@ -109,27 +109,27 @@ changed hs (withdraw p) = removed p hs
 changed hs (find p) = hs
 changed hs room = hs
 
-abbrev pub onMap : ℕ → Map → BookCall → Map
-onMap n hs c = cond (done (mapSays n hs c)) (changed hs c) hs
+abbrev pub on_map : ℕ → Map → BookCall → Map
+on_map n hs c = cond (done (map_says n hs c)) (changed hs c) hs
 
 -- of a sequence of calls
-unfoldable pub mapAnswers : ℕ → Map → List BookCall → List Answer
-mapAnswers n hs [] = []
-mapAnswers n hs (c ∷ cs) = answer_of (mapSays n hs c) ∷ mapAnswers n (onMap n hs c) cs
+unfoldable pub map_answers : ℕ → Map → List BookCall → List Answer
+map_answers n hs [] = []
+map_answers n hs (c ∷ cs) = answer_of (map_says n hs c) ∷ map_answers n (on_map n hs c) cs
 
-unfoldable pub mapAfter : ℕ → Map → List BookCall → Map
-mapAfter n hs [] = hs
-mapAfter n hs (c ∷ cs) = mapAfter n (onMap n hs c) cs
+unfoldable pub map_after : ℕ → Map → List BookCall → Map
+map_after n hs [] = hs
+map_after n hs (c ∷ cs) = map_after n (on_map n hs c) cs
 
 -- ---- a book as a map
 
 -- entries by their points, each with as many bytes of the data as it says
-unfoldable pub filesBy : List (List ℕ) → List ℕ → Map
-filesBy [] d = []
-filesBy (e ∷ es) d = (pointBy e, take (sizeBy e) d) ∷ filesBy es (drop (sizeBy e) d)
+unfoldable pub files_by : List (List ℕ) → List ℕ → Map
+files_by [] d = []
+files_by (e ∷ es) d = (point_by e, take (size_by e) d) ∷ files_by es (drop (size_by e) d)
 
-unfoldable pub mapIn : List ℕ → Map
-mapIn b = filesBy (entriesIn b) (dataIn b)
+unfoldable pub map_in : List ℕ → Map
+map_in b = files_by (entries_in b) (data_in b)
 
 -- an area of bytes that passes the check
 pub record Standing (b : List ℕ) : Type 0 where
@@ -140,20 +140,20 @@ pub record Standing (b : List ℕ) : Type 0 where
 pub record Onward (b : List ℕ) (hs : Map) (b' : List ℕ) : Type 0 where
   pub stands : Standing b'
   pub size : length b' ≡ length b
-  pub map : mapIn b' ≡ hs
+  pub map : map_in b' ≡ hs
 
 -- the area b shows the map hs, of so much data room: what finding each point and asking for the room answer, and the bytes at the place that finding names
 pub record Shows (b : List ℕ) (n : ℕ) (hs : Map) : Type 0 where
-  pub absent : (q : ℕ) → has q hs ≡ false → sayFind b q ≡ NotHeld
-  pub present : (q : ℕ) → has q hs ≡ true → (sayFind b q ≡ Done (placeFor q hs) (length (fileFor q hs))) × (take (length (fileFor q hs)) (drop (placeFor q hs) b) ≡ fileFor q hs)
-  pub room : sayRoom b ≡ Done (n - mapTotal hs) (length hs)
-  pub fits : mapTotal hs ≤ n
+  pub absent : (q : ℕ) → has q hs ≡ false → say_find b q ≡ NotHeld
+  pub present : (q : ℕ) → has q hs ≡ true → (say_find b q ≡ Done (place_for q hs) (length (file_for q hs))) × (take (length (file_for q hs)) (drop (place_for q hs) b) ≡ file_for q hs)
+  pub room : say_room b ≡ Done (n - map_total hs) (length hs)
+  pub fits : map_total hs ≤ n
   pub few : length hs ≤ most
 
 -- finding q in the area b is done, and the bytes that it names are f
 pub record Finds (b : List ℕ) (q : ℕ) (f : List ℕ) : Type 0 where
   pub place : ℕ
-  pub says : sayFind b q ≡ Done place (length f)
+  pub says : say_find b q ≡ Done place (length f)
   pub there : take (length f) (drop place b) ≡ f
 
 -- ---- "no other point's bytes change"
@@ -185,4 +185,4 @@ pub record Reached (n : ℕ) (d : List ℕ) : Type 0 where
   pub answers : List Answer
   pub left : List ℕ
   pub ran : Ran begun calls answers left
-  pub front : take dataAt left ≡ d
+  pub front : take data_at left ≡ d

@@ -13,31 +13,31 @@ use Rattle.base_answers.specs.declared.err.Refusal.TheVariants.{Done, CutShort}
 use Rattle.base_answers.specs.Answers.{answer_of}
 use Rattle.base_answers.specs.Checks.{first_of}
 use Rattle.base_order.proofs.Order.{lt-or-le}
-use Rattle.base_lengths.specs.Lengths.{approxLength}
-use Rattle.base_lengths.specs.Levels.{afterLevels, countAt}
+use Rattle.base_lengths.specs.Lengths.{approx_length}
+use Rattle.base_lengths.specs.Levels.{after_levels, count_at}
 use Rattle.levels_filter.specs.declared.filter.Filter.{Filter}
 use Rattle.levels_filter.specs.Filters.{width_of}
-use Rattle.levels_filter.specs.Pyramids.{approxAt}
-use Rattle.file_open.specs.Files.{bodySize, fileSize}
-use Rattle.file_open.specs.Opens.{rooms_for, sayOpen}
+use Rattle.levels_filter.specs.Pyramids.{approx_at}
+use Rattle.file_open.specs.Files.{body_size, file_size}
+use Rattle.file_open.specs.Opens.{rooms_for, say_open}
 use Rattle.file_open.proofs.Opening.{rooms-say}
-use Rattle.law_cuts.specs.Sees.{needed, whole_of, wholeIn, levelLeft, Sampled, Roomy, OpensTo}
+use Rattle.law_cuts.specs.Sees.{needed, whole_of, whole_in, level_left, Sampled, Roomy, OpensTo}
 use Rattle.law_cuts.proofs.Restored.{whole-all, whole-less, whole-most}
 use Rattle.law_cuts.proofs.Filed.{Filed, all-length}
 use Rattle.law_cuts.proofs.Whole.{first-most, whole_is}
 use Rattle.law_cuts.proofs.Survives.{cut_short, rooms-decide, survives}
 
 -- in a whole file all sections are whole
-pub all_whole : (z k l n : ℕ) → whole_of z k l n (fileSize z k l n) ≡ l
+pub all_whole : (z k l n : ℕ) → whole_of z k l n (file_size z k l n) ≡ l
 all_whole z k l n =
-    let e : bodySize k l n ≡ fileSize z k l n - z = omega arith in
-    sym (whole_is z k l n (fileSize z k l n) (omega (arith, first-most k l n))) ∙ ap (wholeIn k l n) (sym e) ∙ whole-all k l n (bodySize k l n) (omega arith)
+    let e : body_size k l n ≡ file_size z k l n - z = omega arith in
+    sym (whole_is z k l n (file_size z k l n) (omega (arith, first-most k l n))) ∙ ap (whole_in k l n) (sym e) ∙ whole-all k l n (body_size k l n) (omega arith)
 
 -- "only the whole file gives it": with fewer bytes the level is not 0
-pub only-whole : (z k l n b : ℕ) → 1 ≤ l → needed z k l n ≤ b → b < fileSize z k l n → 1 ≤ levelLeft z k l n b
+pub only-whole : (z k l n b : ℕ) → 1 ≤ l → needed z k l n ≤ b → b < file_size z k l n → 1 ≤ level_left z k l n b
 only-whole z k zero n b h c e = omega arith
 only-whole z k (suc l) n b h c e =
-    omega (arith, whole_is z k (suc l) n b c, whole-less k l n (b - z) (omega arith), whole-most k l (approxLength n) (b - z))
+    omega (arith, whole_is z k (suc l) n b c, whole-less k l n (b - z) (omega arith), whole-most k l (approx_length n) (b - z))
 
 -- the number of an answer is none of those of a file of another width, with a wrong count, for another point, with bytes behind it, or without the rate that its kind has
 pub record Unmixed (r : Answer) : Type 0 where
@@ -63,27 +63,27 @@ module _ {z : ℕ} {f : Filter} {l n p : ℕ} {x s : List ℕ} (d : Filed z f l 
 
   -- the whole file, with room for the samples: level 0, and the samples
   pub opens-whole : Roomy k n o u v → OpensTo s k p o u v 0 n x
-  unfolding afterLevels
+  unfolding after_levels
   opens-whole g =
-      let b = fileSize z k l n in
+      let b = file_size z k l n in
       let e : take b s ≡ s = take_all b s (omega (arith, all-length d)) in
-      let q : levelLeft z k l n b ≡ 0 = omega (arith, all_whole z k l n) in
-      let room : Roomy k (countAt (levelLeft z k l n b) n) o u v = subst (λ (m : ℕ). Roomy k (countAt m n) o u v) (sym q) g in
+      let q : level_left z k l n b ≡ 0 = omega (arith, all_whole z k l n) in
+      let room : Roomy k (count_at (level_left z k l n b) n) o u v = subst (λ (m : ℕ). Roomy k (count_at m n) o u v) (sym q) g in
       let i = survives d a b (omega (arith, first-most k l n)) (omega arith) room in
-      subst (λ (t : List ℕ). OpensTo t k p o u v 0 n x) e (subst (λ (m : ℕ). OpensTo (take b s) k p o u v m (countAt m n) (approxAt f m x)) q i)
+      subst (λ (t : List ℕ). OpensTo t k p o u v 0 n x) e (subst (λ (m : ℕ). OpensTo (take b s) k p o u v m (count_at m n) (approx_at f m x)) q i)
 
   -- whatever the room, opening is done, 7 or 10
-  pub plain : (b : ℕ) → b ≤ fileSize z k l n → Plain (answer_of (sayOpen (take b s) k p o u v))
+  pub plain : (b : ℕ) → b ≤ file_size z k l n → Plain (answer_of (say_open (take b s) k p o u v))
   plain b e =
-      let i = levelLeft z k l n b in
+      let i = level_left z k l n b in
       ⊎_elim
-      (λ (h : b < needed z k l n). plain-is (sayOpen (take b s) k p o u v) (CutShort b) (cut_short d a b h) (inr (inr refl)))
+      (λ (h : b < needed z k l n). plain-is (say_open (take b s) k p o u v) (CutShort b) (cut_short d a b h) (inr (inr refl)))
       (λ (h : needed z k l n ≤ b).
-      plain-is (sayOpen (take b s) k p o u v) (first_of (rooms_for k (countAt i n) o u v) (Done i (countAt i n))) (rooms-decide d a b h e) (rooms-plain k (countAt i n) o u v i))
+      plain-is (say_open (take b s) k p o u v) (first_of (rooms_for k (count_at i n) o u v) (Done i (count_at i n))) (rooms-decide d a b h e) (rooms-plain k (count_at i n) o u v i))
       (lt-or-le b (needed z k l n))
 
   -- and never refused as a file that is not this one
-  pub never_other : (b : ℕ) → b ≤ fileSize z k l n → Unmixed (answer_of (sayOpen (take b s) k p o u v))
+  pub never_other : (b : ℕ) → b ≤ file_size z k l n → Unmixed (answer_of (say_open (take b s) k p o u v))
   never_other b e =
       ⊎_elim
       (λ z. record { no-width = λ h. omega arith; no-count = λ h. omega arith; no-point = λ h. omega arith; no-trail = λ h. omega arith; no-rate = λ h. omega arith })

@@ -14,24 +14,24 @@ use Rattle.levels_filter.specs.declared.filter.Filter.{Filter}
 use Rattle.levels_filter.specs.Filters.{width_of}
 use Rattle.file_open.specs.declared.walk.Way.{Way}
 use Rattle.file_open.specs.declared.walk.Way.TheVariants.{Went}
-use Rattle.file_open.specs.Files.{mostBytes, head_of, headSize, body_of, bodySize, fileOf, fileSize}
+use Rattle.file_open.specs.Files.{most_bytes, head_of, head_size, body_of, body_size, file_of, file_size}
 use Rattle.file_open.specs.Walks.{walk_of}
-use Rattle.file_open.specs.Opens.{headIn, headChecks, wayIn, wayChecks, levelIn, countIn, areaChecks, rooms_for, sayOpen}
+use Rattle.file_open.specs.Opens.{head_in, head_checks, way_in, way_checks, level_in, count_in, area_checks, rooms_for, say_open}
 use Rattle.file_open.proofs.Opening.{whole-areas-pass}
 use Rattle.file_open.proofs.Writing.{head-length}
-use Rattle.law_cuts.specs.Sees.{Sampled, wayWithin}
+use Rattle.law_cuts.specs.Sees.{Sampled, way_within}
 use Rattle.law_cuts.proofs.Sized.{body-length}
 use Rattle.law_cuts.proofs.CutWalk.{walk-cut, within-whole}
 use Rattle.law_cuts.proofs.Filed.{Recording}
 use Rattle.law_cuts.proofs.WrittenHead.{parts, head-of, head-pass}
 
 module _ {f : Filter} {l n p : ℕ} {x : List ℕ} (d : Recording f l n p x) {rate : ℕ} (hr : rate < 2 ^ 32) (t : List ℕ) (some : 1 ≤ length t)
-    (short : fileSize (headSize rate) (width_of f) l n + length t ≤ mostBytes) where
+    (short : file_size (head_size rate) (width_of f) l n + length t ≤ most_bytes) where
   abbrev k : ℕ
   k = width_of f
 
   abbrev z : ℕ
-  z = headSize rate
+  z = head_size rate
 
   -- the sections, and the bytes behind them
   abbrev rest : List ℕ
@@ -40,31 +40,31 @@ module _ {f : Filter} {l n p : ℕ} {x : List ℕ} (d : Recording f l n p x) {ra
   abbrev y : List ℕ
   y = head_of k l n p rate ++ rest
 
-  rest-long : length rest ≡ bodySize k l n + length t
+  rest-long : length rest ≡ body_size k l n + length t
   rest-long = length-append (body_of f l n x) t ∙ ap (λ (j : ℕ). j + length t) (body-length f l n x d.size)
 
-  long : length y ≡ z + bodySize k l n + length t
+  long : length y ≡ z + body_size k l n + length t
   long = length-append (head_of k l n p rate) rest ∙ omega (arith, head-length k l n p rate, rest-long)
 
   -- the walk goes through all sections
-  way : wayIn y (headIn y) ≡ Went (z + bodySize k l n)
+  way : way_in y (head_in y) ≡ Went (z + body_size k l n)
   way =
-      ap (wayIn y) (head-of d hr rest)
+      ap (way_in y) (head-of d hr rest)
       ∙ ap (λ (s : List ℕ). walk_of (head_of k l n p rate ++ s) k l n z) (sym (take_all (length rest) rest (omega arith)))
-      ∙ subst (λ (q : ℕ). walk_of (head_of k l n p rate ++ take (length rest) rest) k l n q ≡ wayWithin k l n q (length rest)) (head-length k l n p rate)
+      ∙ subst (λ (q : ℕ). walk_of (head_of k l n p rate ++ take (length rest) rest) k l n q ≡ way_within k l n q (length rest)) (head-length k l n p rate)
       (walk-cut f l n x (head_of k l n p rate) t (length rest) d.size (omega (arith, d.most)) (omega arith))
       ∙ sym (within-whole k l n z (length rest) (omega (arith, rest-long)))
 
-  pub behind-file : (o u v : ℕ) → Sampled k o u v → sayOpen (fileOf f l p rate x ++ t) k p o u v ≡ Trailing (length t)
-  unfolding sayOpen
+  pub behind-file : (o u v : ℕ) → Sampled k o u v → say_open (file_of f l p rate x ++ t) k p o u v ≡ Trailing (length t)
+  unfolding say_open
   behind-file o u v a =
-      let end = Done (levelIn y) (countIn y) in
-      let rooms = rooms_for k (countIn y) o u v in
-      let heads = headChecks y k p in
-      let ways = wayChecks (wayIn y (headIn y)) (length y) in
-      ap (λ (s : List ℕ). sayOpen s k p o u v) (ap (λ (s : List ℕ). s ++ t) (parts d hr) ∙ append_assoc (head_of k l n p rate) (body_of f l n x) t)
-      ∙ pass_on (areaChecks k o u v) ((heads ++ ways) ++ rooms) end (whole-areas-pass k o u v (λ _. (a.output, a.first, a.second)))
+      let end = Done (level_in y) (count_in y) in
+      let rooms = rooms_for k (count_in y) o u v in
+      let heads = head_checks y k p in
+      let ways = way_checks (way_in y (head_in y)) (length y) in
+      ap (λ (s : List ℕ). say_open s k p o u v) (ap (λ (s : List ℕ). s ++ t) (parts d hr) ∙ append_assoc (head_of k l n p rate) (body_of f l n x) t)
+      ∙ pass_on (area_checks k o u v) ((heads ++ ways) ++ rooms) end (whole-areas-pass k o u v (λ _. (a.output, a.first, a.second)))
       ∙ ap (λ (m : List Check). first_of m end) (append_assoc heads ways rooms)
       ∙ pass_on heads (ways ++ rooms) end (head-pass d hr rest (omega (arith, long)))
-      ∙ ap (λ (v : Way). first_of (wayChecks v (length y) ++ rooms) end) way
-      ∙ sym (stop _ (lt-ltb (z + bodySize k l n) (length y) (omega (arith, long))) (ap Trailing (omega (arith, long))))
+      ∙ ap (λ (v : Way). first_of (way_checks v (length y) ++ rooms) end) way
+      ∙ sym (stop _ (lt-ltb (z + body_size k l n) (length y) (omega (arith, long))) (ap Trailing (omega (arith, long))))

@@ -11,13 +11,13 @@ use Rattle.base_answers.specs.declared.err.Refusal.TheVariants.{CutShort}
 use Rattle.base_answers.specs.Checks.{Check, first_of}
 use Rattle.base_answers.proofs.Passed.{Passing}
 use Rattle.base_lengths.specs.declared.Wavelet.TheVariants.{Cdf53}
-use Rattle.base_lengths.specs.Lengths.{mostSamples}
+use Rattle.base_lengths.specs.Lengths.{most_samples}
 use Rattle.base_lengths.specs.Levels.{depth_of}
 use Rattle.base_samples.specs.Le.{Bytes}
 use Rattle.levels_filter.specs.declared.filter.Filter.{Filter}
 use Rattle.levels_filter.specs.Filters.{width_of, Integers}
-use Rattle.file_open.specs.Files.{body_of, fileSize}
-use Rattle.file_open.specs.Opens.{headIn, headChecks}
+use Rattle.file_open.specs.Files.{body_of, file_size}
+use Rattle.file_open.specs.Opens.{head_in, head_checks}
 use Rattle.law_cuts.proofs.Sized.{file-length}
 
 -- a recording that can be written: x are the bytes of n samples of an integer filter f, for l levels and for point p
@@ -26,7 +26,7 @@ pub record Recording (f : Filter) (l n p : ℕ) (x : List ℕ) : Type 0 where
   pub bytes : Bytes x
   pub size : length x ≡ width_of f * n
   pub least : 3 ≤ n
-  pub most : n ≤ mostSamples
+  pub most : n ≤ most_samples
   pub some : 1 ≤ l
   pub deep : l ≤ depth_of Cdf53 n
   pub point : p < 2 ^ 32
@@ -38,10 +38,10 @@ pub record Filed (z : ℕ) (f : Filter) (l n p : ℕ) (x s : List ℕ) : Type 0 
   pub long : length front ≡ z
   pub parts : s ≡ front ++ body_of f l n x
   -- cut after section 0, it still says what was recorded, and the checks of section 0 pass
-  pub head : (b : ℕ) → z ≤ b → headIn (take b s) ≡ record { width = width_of f; levels = l; samples = n; point = p; body = z }
-  pub passes : (b : ℕ) → z ≤ b → b ≤ fileSize z (width_of f) l n → Passing (headChecks (take b s) (width_of f) p)
+  pub head : (b : ℕ) → z ≤ b → head_in (take b s) ≡ record { width = width_of f; levels = l; samples = n; point = p; body = z }
+  pub passes : (b : ℕ) → z ≤ b → b ≤ file_size z (width_of f) l n → Passing (head_checks (take b s) (width_of f) p)
   -- cut in section 0 it is 10, whatever else is checked
-  pub early : (b : ℕ) → b < z → (m : List Check) (e : Refusal) → first_of (headChecks (take b s) (width_of f) p ++ m) e ≡ CutShort b
+  pub early : (b : ℕ) → b < z → (m : List Check) (e : Refusal) → first_of (head_checks (take b s) (width_of f) p ++ m) e ≡ CutShort b
 
 module _ {z : ℕ} {f : Filter} {l n p : ℕ} {x s : List ℕ} (d : Filed z f l n p x s) where
   -- what is left of a file that was cut after section 0: section 0, and of the rest so many bytes less
@@ -56,8 +56,8 @@ module _ {z : ℕ} {f : Filter} {l n p : ℕ} {x s : List ℕ} (d : Filed z f l 
       ∙ ap (λ (t : List ℕ). front ++ take (b - z) t) (sym (append-nil body))
 
   -- how long it is, and how much is left of it
-  pub all-length : length s ≡ fileSize z (width_of f) l n
+  pub all-length : length s ≡ file_size z (width_of f) l n
   all-length = file-length f l n z x d.front s d.recording.size d.long d.parts
 
-  pub cut-length : (b : ℕ) → b ≤ fileSize z (width_of f) l n → length (take b s) ≡ b
+  pub cut-length : (b : ℕ) → b ≤ file_size z (width_of f) l n → length (take b s) ≡ b
   cut-length b c = length-take-le b s (omega (arith, all-length))

@@ -11,8 +11,8 @@ use lib.IntN.{pos, neg_ℤ}
 use lib.ListN.{length, get_or, length-map, get_or-map}
 use Rattle.base_lengths.specs.Levels.{Runs}
 use Rattle.base_samples.specs.Words.{tabulate}
-use Rattle.base_samples.specs.Halves.{evenOf, oddOf}
-use Rattle.filter_floats.specs.Steps.{oddAt, evenAt, odds, evens}
+use Rattle.base_samples.specs.Halves.{even_of, odd_of}
+use Rattle.filter_floats.specs.Steps.{odd_at, even_at, odds, evens}
 use Rattle.law_exact.specs.Exact.{Worth, plus, minus, Whole, Are, WholeWithin, Inputs, number, details2, approximations8}
 use Rattle.law_exact.specs.Levels.{most, Exact}
 use Rattle.law_exact.proofs.Worth.{same-worth}
@@ -55,5 +55,5 @@ exact64 n h = inputs-exact binary64 n (omega arith)
 
 -- "f32 1, 5, 2: a 2.75, 3.75; d 3.5": eight times the approximations, and twice the detail
 pub figure : (approximations8 (pos 1 ∷ pos 5 ∷ pos 2 ∷ []) ≡ pos 22 ∷ pos 30 ∷ []) × (details2 (pos 1 ∷ pos 5 ∷ pos 2 ∷ []) ≡ pos 7 ∷ [])
-unfolding approximations8 details2 evens evenAt odds oddAt evenOf oddOf tabulate
+unfolding approximations8 details2 evens even_at odds odd_at even_of odd_of tabulate
 figure = (refl, refl)

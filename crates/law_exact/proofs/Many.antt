@@ -9,12 +9,12 @@ use lib.IntN.{ℤ, pos, ◌*ℤ◌}
 use lib.ListN.{length, get_or}
 use lib.Pow.{pow-add, pow_mono}
 use Rattle.base_lengths.specs.declared.Wavelet.TheVariants.{Cdf53}
-use Rattle.base_lengths.specs.Levels.{afterLevels, thereAndBack, Runs}
+use Rattle.base_lengths.specs.Levels.{after_levels, there_and_back, Runs}
 use Rattle.base_lengths.proofs.Depths.{depth-runs, runs-depth}
-use Rattle.base_samples.proofs.Words.{length-tabulate, get_d_tabulate}
+use Rattle.base_samples.proofs.Words.{length-tabulate, get_or-tabulate}
 use Rattle.filter_floats.specs.Bands.{approxs, details}
 use Rattle.law_exact.specs.Exact.{Are, FormatHolds, details2, approximations8}
-use Rattle.law_exact.specs.Levels.{most, floatsAt, floatsBack, numbersAt, times, Exact}
+use Rattle.law_exact.specs.Levels.{most, floats_at, floats_back, numbers_at, times, Exact}
 use Rattle.law_exact.proofs.Whole.{is-scaled, is_eq, abs-mul}
 use Rattle.law_exact.proofs.Level.{details-exact, approximations-exact, inverse-exact, length-approximations8}
 
@@ -30,7 +30,7 @@ are-scaled k b j x z r = record {
   same = r.same ∙ sym (length-tabulate (length z) g);
   each = λ i l.
       let l' : i < length z = rw (length-tabulate (length z) g) at l in
-      rw (get_d_tabulate (length z) g i (pos 0) l')
+      rw (get_or-tabulate (length z) g i (pos 0) l')
       (record { is = is-scaled (get_or x i nan) (get_or z i (pos 0)) k j (r.each i l').is; size = rw (abs-mul (get_or z i (pos 0)) (2 ^ j)) (mul-le-mul_right (2 ^ j) (r.each i l').size) });
 }
   where
@@ -61,21 +61,21 @@ step : (f : Format) (l k b : ℕ) (x : List Float) (z : List ℤ) → HoldsLevel
 unfolding Runs
 step f l k b x z q d r = (approximations-exact f k b (first q) x z (omega (arith, d.0)) r, rw (length-approximations8 z) d.1)
 
-after-exact : (f : Format) (l k b : ℕ) (x : List Float) (z : List ℤ) → HoldsLevels f l k b → Runs 3 l (length z) → Are k b x z → Are (k + 3 * l) (b * 16 ^ l) (floatsAt f l x) (numbersAt l z)
-unfolding afterLevels
+after-exact : (f : Format) (l k b : ℕ) (x : List Float) (z : List ℤ) → HoldsLevels f l k b → Runs 3 l (length z) → Are k b x z → Are (k + 3 * l) (b * 16 ^ l) (floats_at f l x) (numbers_at l z)
+unfolding after_levels
 after-exact f zero k b x z q d r = moved (omega arith) (omega (arith, mul-one b)) r
 after-exact f (suc l) k b x z q d r =
     let s = step f l k b x z q d r in
     moved (omega arith) (omega (arith, ap (λ (x : ℕ). b * x) (pow-succ' 16 l)))
     (after-exact f l (k + 3) (16 * b) (approxs f Cdf53 x) (approximations8 z) (others q) s.1 s.0)
 
-floatsBack-exact : (f : Format) (l k b : ℕ) (x : List Float) (z : List ℤ) → HoldsLevels f l k b → Runs 3 l (length z) → Are k b x z → Are k b (floatsBack f l x) z
-unfolding thereAndBack Runs
-floatsBack-exact f zero k b x z q d r = r
-floatsBack-exact f (suc l) k b x z q d r =
+floats_back-exact : (f : Format) (l k b : ℕ) (x : List Float) (z : List ℤ) → HoldsLevels f l k b → Runs 3 l (length z) → Are k b x z → Are k b (floats_back f l x) z
+unfolding there_and_back Runs
+floats_back-exact f zero k b x z q d r = r
+floats_back-exact f (suc l) k b x z q d r =
     let s = step f l k b x z q d r in
     inverse-exact f k b (first q) _ (details f Cdf53 x) z (omega (arith, d.0)) (λ i h. (r.each i h).size)
-    (floatsBack-exact f l (k + 3) (16 * b) (approxs f Cdf53 x) (approximations8 z) (others q) s.1 s.0) (details-exact f k b (first q) x z r)
+    (floats_back-exact f l (k + 3) (16 * b) (approxs f Cdf53 x) (approximations8 z) (others q) s.1 s.0) (details-exact f k b (first q) x z r)
 
 -- ---- the exact case
 
@@ -105,13 +105,13 @@ exact f n h x z d r = record {
       let b = most f n * 16 ^ l in
       let q : HoldsLevels f (suc l) 0 (most f n) = holds-levels f n (suc l) h g in
       let w : 16 * b ≤ 2 ^ prec f = omega (arith, ap (λ (m : ℕ). most f n * m) (pow-succ' 16 l)) in
-      let a : Are (0 + 3 * l) b (floatsAt f l x) (numbersAt l z) = after-exact f l 0 (most f n) x z (holds-levels f n l h (omega arith)) (fewer n l (length z) (omega arith) d) r in
+      let a : Are (0 + 3 * l) b (floats_at f l x) (numbers_at l z) = after-exact f l 0 (most f n) x z (holds-levels f n l h (omega arith)) (fewer n l (length z) (omega arith) d) r in
       moved (omega arith) (omega arith)
-      (are-scaled (0 + 3 * l + 1) (4 * b) 2 (details f Cdf53 (floatsAt f l x)) (details2 (numbersAt l z))
-      (details-exact f (0 + 3 * l) b (record { fine = omega arith; wide = w }) (floatsAt f l x) (numbersAt l z) a));
+      (are-scaled (0 + 3 * l + 1) (4 * b) 2 (details f Cdf53 (floats_at f l x)) (details2 (numbers_at l z))
+      (details-exact f (0 + 3 * l) b (record { fine = omega arith; wide = w }) (floats_at f l x) (numbers_at l z) a));
   inputs-back = λ i l. is_eq _ _ (get_or z i (pos 0)) 0 (again.each i l).is (r.each i l).is;
   lengths-back = again.same ∙ sym r.same;
 }
   where
-    again : Are 0 (most f n) (floatsBack f n x) z
-    again = floatsBack-exact f n 0 (most f n) x z (holds-levels f n n h (le_refl n)) d r
+    again : Are 0 (most f n) (floats_back f n x) z
+    again = floats_back-exact f n 0 (most f n) x z (holds-levels f n n h (le_refl n)) d r

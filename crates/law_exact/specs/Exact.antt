@@ -3,7 +3,7 @@
 use Rattle.std.specs.Prelude.{Bool, true, false, List, ◌≡◌, ℕ, suc, ◌+◌, ◌*◌, ◌/◌, ◌%◌, ◌^◌, ◌≤◌, ◌<◌, Float, ℤ, pos, negsuc, neg_ℤ, nat_abs, ◌+ℤ◌, ◌-ℤ◌, ◌*ℤ◌, length, get_or}
 use Rattle.std.specs.Float.{nan, inf, fin, Format}
 use Rattle.std.specs.Float.Ieee.{prec, low, up, down}
-use Rattle.base_samples.specs.Halves.{evenOf, oddOf}
+use Rattle.base_samples.specs.Halves.{even_of, odd_of}
 use Rattle.filter_floats.specs.Steps.{odds, evens}
 
 -- ---- floats that are whole numbers over 2 ^ k
@@ -70,10 +70,10 @@ approx l r x = x *ℤ pos 8 +ℤ (l +ℤ r)
 
 -- twice the details of z, and eight times its approximations
 unfoldable pub details2 : List ℤ → List ℤ
-details2 z = odds detail (pos 0) (evenOf (pos 0) z) (oddOf (pos 0) z)
+details2 z = odds detail (pos 0) (even_of (pos 0) z) (odd_of (pos 0) z)
 
 unfoldable pub approximations8 : List ℤ → List ℤ
-approximations8 z = evens approx (pos 0) (evenOf (pos 0) z) (details2 z)
+approximations8 z = evens approx (pos 0) (even_of (pos 0) z) (details2 z)
 
 -- a level whose inputs are whole numbers over 2 ^ k of size at most b has room: its coefficients are over 2 ^ (k + 3) and of size at most 16 b, and the format
 -- has each such number

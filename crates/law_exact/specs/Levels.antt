@@ -7,15 +7,15 @@ use Rattle.base_answers.specs.declared.err.Answer.{Answer}
 use Rattle.base_answers.specs.declared.err.Refusal.TheVariants.{Done}
 use Rattle.base_answers.specs.Answers.{answer_of, done}
 use Rattle.base_lengths.specs.declared.Wavelet.TheVariants.{Cdf53}
-use Rattle.base_lengths.specs.Lengths.{detailsLength}
-use Rattle.base_lengths.specs.Levels.{afterLevels, thereAndBack, countAt, levelsOf}
+use Rattle.base_lengths.specs.Lengths.{details_length}
+use Rattle.base_lengths.specs.Levels.{after_levels, there_and_back, count_at, levels_of}
 use Rattle.base_samples.specs.Words.{tabulate}
-use Rattle.base_samples.specs.Floats.{decodeFloats}
+use Rattle.base_samples.specs.Floats.{decode_floats}
 use Rattle.filter_floats.specs.Bands.{approxs, details, restored}
 use Rattle.levels_filter.specs.declared.filter.Filter.{Filter}
 use Rattle.levels_filter.specs.declared.filter.Filter.TheVariants.{Cdf53F32, Cdf53F64}
 use Rattle.levels_filter.specs.Filters.{width_of}
-use Rattle.levels_filter.specs.Calls.{OneInverse, sayDwt, Dwt}
+use Rattle.levels_filter.specs.Calls.{OneInverse, say_dwt, Dwt}
 use Rattle.law_exact.specs.Exact.{Are, number, details2, approximations8}
 
 -- the 5/3 filter of the format
@@ -30,18 +30,18 @@ most f levels = 2 ^ (prec f - 4 * levels)
 -- ---- of floats
 
 -- the approximations after l levels: "the next level's input is this level's approximations"
-abbrev pub floatsAt : Format → ℕ → List Float → List Float
-floatsAt f = afterLevels (approxs f Cdf53)
+abbrev pub floats_at : Format → ℕ → List Float → List Float
+floats_at f = after_levels (approxs f Cdf53)
 
 -- l levels forward, and back again
-abbrev pub floatsBack : Format → ℕ → List Float → List Float
-floatsBack f = thereAndBack (approxs f Cdf53) (details f Cdf53) (restored f Cdf53)
+abbrev pub floats_back : Format → ℕ → List Float → List Float
+floats_back f = there_and_back (approxs f Cdf53) (details f Cdf53) (restored f Cdf53)
 
 -- ---- of whole numbers
 
 -- 8 ^ l times the approximations after l levels
-abbrev pub numbersAt : ℕ → List ℤ → List ℤ
-numbersAt = afterLevels approximations8
+abbrev pub numbers_at : ℕ → List ℤ → List ℤ
+numbers_at = after_levels approximations8
 
 -- c times each
 unfoldable pub times : ℕ → List ℤ → List ℤ
@@ -51,42 +51,42 @@ times c z = tabulate (length z) (λ i. get_or z i (pos 0) *ℤ pos c)
 
 pub record Exact (f : Format) (levels : ℕ) (x : List Float) (z : List ℤ) : Type 0 where
   -- each approximation of level l + 1, times 8 ^ (l + 1), is the whole number that the integer steps give
-  pub approximations-are : (l : ℕ) → l < levels → Are (3 * suc l) (2 ^ prec f) (floatsAt f (suc l) x) (numbersAt (suc l) z)
+  pub approximations-are : (l : ℕ) → l < levels → Are (3 * suc l) (2 ^ prec f) (floats_at f (suc l) x) (numbers_at (suc l) z)
   -- and so is each detail, as four times what is twice the detail of inputs that are times 8 ^ l
-  pub details-are : (l : ℕ) → l < levels → Are (3 * suc l) (2 ^ prec f) (details f Cdf53 (floatsAt f l x)) (times 4 (details2 (numbersAt l z)))
+  pub details-are : (l : ℕ) → l < levels → Are (3 * suc l) (2 ^ prec f) (details f Cdf53 (floats_at f l x)) (times 4 (details2 (numbers_at l z)))
   -- the inverse gives the inputs back, numerically
-  pub inputs-back : (i : ℕ) → i < length z → T (eq (get_or (floatsBack f levels x) i nan) (get_or x i nan))
-  pub lengths-back : length (floatsBack f levels x) ≡ length x
+  pub inputs-back : (i : ℕ) → i < length z → T (eq (get_or (floats_back f levels x) i nan) (get_or x i nan))
+  pub lengths-back : length (floats_back f levels x) ≡ length x
 
 -- ---- the same about the bytes of the calls, of samples x
 
 -- how many samples s holds
-abbrev pub sampleCount : Format → List ℕ → ℕ
-sampleCount f s = length s / width_of (filter53 f)
+abbrev pub sample_count : Format → List ℕ → ℕ
+sample_count f s = length s / width_of (filter53 f)
 
 -- which whole numbers they are
-abbrev pub numbersIn : Format → List ℕ → List ℤ
-numbersIn f s = map number (decodeFloats f s)
+abbrev pub numbers_in : Format → List ℕ → List ℤ
+numbers_in f s = map number (decode_floats f s)
 
 -- the deepest approximations in what `multi_dwt` gave, y, which come first, all details, and those of level i + 1
 abbrev pub deepest : Format → ℕ → List ℕ → List ℕ → List ℕ
-deepest f levels x y = take (width_of (filter53 f) * countAt levels (sampleCount f x)) y
+deepest f levels x y = take (width_of (filter53 f) * count_at levels (sample_count f x)) y
 
-abbrev pub allDetails : Format → ℕ → List ℕ → List ℕ → List ℕ
-allDetails f levels x y = drop (width_of (filter53 f) * countAt levels (sampleCount f x)) y
+abbrev pub all_details : Format → ℕ → List ℕ → List ℕ → List ℕ
+all_details f levels x y = drop (width_of (filter53 f) * count_at levels (sample_count f x)) y
 
-abbrev pub detailsOf : Format → ℕ → List ℕ → List ℕ → List ℕ
-detailsOf f i x y = take (width_of (filter53 f) * detailsLength (countAt i (sampleCount f x))) (drop (width_of (filter53 f) * countAt (suc i) (sampleCount f x)) y)
+abbrev pub details_of : Format → ℕ → List ℕ → List ℕ → List ℕ
+details_of f i x y = take (width_of (filter53 f) * details_length (count_at i (sample_count f x))) (drop (width_of (filter53 f) * count_at (suc i) (sample_count f x)) y)
 
 -- a and d are the approximations and the details of level l of the samples x, l being 1 or more: each, times 8 ^ l, is the whole number that the integer steps
 -- give, a detail as four times what is twice the detail of inputs that are times 8 ^ (l - 1)
 pub record ExactLevel (f : Format) (l : ℕ) (x a d : List ℕ) : Type 0 where
-  pub approximations-are : Are (3 * l) (2 ^ prec f) (decodeFloats f a) (numbersAt l (numbersIn f x))
-  pub details-are : Are (3 * l) (2 ^ prec f) (decodeFloats f d) (times 4 (details2 (numbersAt (l - 1) (numbersIn f x))))
+  pub approximations-are : Are (3 * l) (2 ^ prec f) (decode_floats f a) (numbers_at l (numbers_in f x))
+  pub details-are : Are (3 * l) (2 ^ prec f) (decode_floats f d) (times 4 (details2 (numbers_at (l - 1) (numbers_in f x))))
 
 -- p are the samples x, numerically
 pub record SameNumbers (f : Format) (x p : List ℕ) : Type 0 where
-  pub inputs-back : (i : ℕ) → i < sampleCount f x → T (eq (get_or (decodeFloats f p) i nan) (get_or (decodeFloats f x) i nan))
+  pub inputs-back : (i : ℕ) → i < sample_count f x → T (eq (get_or (decode_floats f p) i nan) (get_or (decode_floats f x) i nan))
   pub lengths-back : length p ≡ length x
 
 -- one level: a and d are what the forward call gave of x
@@ -98,11 +98,11 @@ pub record ExactOne (f : Format) (x a d : List ℕ) : Type 0 where
 -- many levels: y is what `multi_dwt` gave of x, and p what `multi_idwt` gave of y
 pub record ExactBytes (f : Format) (levels : ℕ) (x y p : List ℕ) : Type 0 where
   -- of each level `dwt` gives both bands; 0 levels are one
-  pub levels-are : (j : ℕ) → levelsOf j ≤ levels → {a d u v : List ℕ} {r : Answer} {a' d' u' v' : List ℕ} → Dwt (filter53 f) j x a d u v r a' d' u' v'
-      → done (sayDwt (filter53 f) j (length x) (length a) (length d) (length u) (length v)) ≡ true → ExactLevel f (levelsOf j) x a' d'
+  pub levels-are : (j : ℕ) → levels_of j ≤ levels → {a d u v : List ℕ} {r : Answer} {a' d' u' v' : List ℕ} → Dwt (filter53 f) j x a d u v r a' d' u' v'
+      → done (say_dwt (filter53 f) j (length x) (length a) (length d) (length u) (length v)) ≡ true → ExactLevel f (levels_of j) x a' d'
   -- the approximations of the last level stand in y
-  pub deepest-are : Are (3 * levels) (2 ^ prec f) (decodeFloats f (deepest f levels x y)) (numbersAt levels (numbersIn f x))
+  pub deepest-are : Are (3 * levels) (2 ^ prec f) (decode_floats f (deepest f levels x y)) (numbers_at levels (numbers_in f x))
   -- and the details of each
-  pub details-are : (i : ℕ) → i < levels → Are (3 * suc i) (2 ^ prec f) (decodeFloats f (detailsOf f i x y)) (times 4 (details2 (numbersAt i (numbersIn f x))))
+  pub details-are : (i : ℕ) → i < levels → Are (3 * suc i) (2 ^ prec f) (decode_floats f (details_of f i x y)) (times 4 (details2 (numbers_at i (numbers_in f x))))
   -- the inverse gives the inputs back
   pub back : SameNumbers f x p

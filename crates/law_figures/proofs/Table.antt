@@ -1,18 +1,18 @@
 -- The table holds: each figure is computed from the definitions.
-use Rattle.base_lengths.specs.Levels.{afterLevels}
+use Rattle.base_lengths.specs.Levels.{after_levels}
 use mathlib.Core.Path.{refl}
-use Rattle.base_samples.specs.Le.{leAt, le_bytes}
+use Rattle.base_samples.specs.Le.{le_at, le_bytes}
 use Rattle.base_samples.specs.Words.{tabulate, word_at, words_of, bytes_of}
 use Rattle.base_samples.specs.Integers.{val, residue, wrap, decode, encode}
 use Rattle.filter_cdf53i.specs.Lift.{detail, details, approx, approxs, even, odd, sample, restored}
 use Rattle.filter_cdf53i.specs.Bands.{low, high, back}
 use Rattle.filter_cdf53i.specs.T800 as t800
-use Rattle.levels_filter.specs.Pyramids.{pyramid, samplesOf}
+use Rattle.levels_filter.specs.Pyramids.{pyramid, samples_of}
 use Rattle.law_figures.specs.Worked.{Worked}
 use Rattle.law_figures.proofs.Files.{p6-to-p10, new-file, new-checks}
 
 pub worked : Worked
-unfolding leAt le_bytes tabulate word_at words_of bytes_of val residue wrap decode encode detail details approx approxs even odd sample restored low high back afterLevels pyramid samplesOf t800.pse t800.extended t800.high
+unfolding le_at le_bytes tabulate word_at words_of bytes_of val residue wrap decode encode detail details approx approxs even odd sample restored low high back after_levels pyramid samples_of t800.pse t800.extended t800.high
 worked =
     record {
       p1 = record { low = refl; high = refl; back = refl };

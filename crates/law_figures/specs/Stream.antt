@@ -3,9 +3,9 @@ use Rattle.std.specs.Prelude.{List, [], ◌∷◌, ◌≡◌, ℕ}
 use Rattle.base_answers.specs.declared.err.Answer.{Answer}
 use Rattle.base_answers.specs.declared.err.Refusal.TheVariants.{Done, MinFilterSize, TooLong, NoRoom, BadCount}
 use Rattle.base_answers.specs.Answers.{say}
-use Rattle.base_answers.specs.Checks.{inFront}
+use Rattle.base_answers.specs.Checks.{in_front}
 use Rattle.filter_cdf53i.specs.Bands.{low, high}
-use Rattle.stream_calls.specs.Calls.{sayPiece, Piece, fresh, sayFinish, Finish}
+use Rattle.stream_calls.specs.Calls.{say_piece, Piece, fresh, say_finish, Finish}
 use Rattle.law_figures.specs.Worked.{five}
 
 -- ---- a table of calls
@@ -16,11 +16,11 @@ nines = 9 ∷ 9 ∷ []
 
 -- the piece y at the state b is done: it leaves the state `new`, and `lows` and `highs` in front of the 9s
 pub record Takes (b y new lows highs : List ℕ) : Type 0 where
-  pub call : {r : Answer} {b' a' d' : List ℕ} → Piece 1 b y nines nines r b' a' d' → (r ≡ say 0 0 0) × (b' ≡ new) × (a' ≡ inFront lows nines) × (d' ≡ inFront highs nines)
+  pub call : {r : Answer} {b' a' d' : List ℕ} → Piece 1 b y nines nines r b' a' d' → (r ≡ say 0 0 0) × (b' ≡ new) × (a' ≡ in_front lows nines) × (d' ≡ in_front highs nines)
 
 -- and the end
 pub record Ends (b new lows highs : List ℕ) : Type 0 where
-  pub call : {r : Answer} {b' a' d' : List ℕ} → Finish 1 b nines nines r b' a' d' → (r ≡ say 0 0 0) × (b' ≡ new) × (a' ≡ inFront lows nines) × (d' ≡ inFront highs nines)
+  pub call : {r : Answer} {b' a' d' : List ℕ} → Finish 1 b nines nines r b' a' d' → (r ≡ say 0 0 0) × (b' ≡ new) × (a' ≡ in_front lows nines) × (d' ≡ in_front highs nines)
 
 -- a row: a piece, the state after it, the approximations and the details that it fixes
 abbrev pub Row : Type 0
@@ -80,8 +80,8 @@ wrapping =
 
 -- at k bytes a sample these are refused, 9 (0, 0), by either call
 pub record NoState (k : ℕ) (b : List ℕ) : Type 0 where
-  pub piece : sayPiece k b k k k ≡ BadCount 0 0
-  pub finish : sayFinish k b k k ≡ BadCount 0 0
+  pub piece : say_piece k b k k k ≡ BadCount 0 0
+  pub finish : say_finish k b k k ≡ BadCount 0 0
 
 -- two samples, of which the first is 256
 abbrev pub wide : List ℕ
@@ -100,11 +100,11 @@ pub record Damaged : Type 0 where
   pub even : NoState 1 (0 ∷ 0 ∷ 0 ∷ 0 ∷ 0x07 ∷ 0 ∷ 0 ∷ 0 ∷ 0 ∷ 0 ∷ 0 ∷ 0 ∷ 0 ∷ 0 ∷ 0 ∷ 0 ∷ [])
   -- the width is not stored: no state of 8-bit samples, and one of 16-bit samples
   pub narrow : NoState 1 wide
-  pub wider : sayPiece 2 wide 2 2 2 ≡ Done 0 0
+  pub wider : say_piece 2 wide 2 2 2 ≡ Done 0 0
   -- one sample over the limit; and at the limit an empty piece is taken, and one sample is 6
   pub over : NoState 1 (0x01 ∷ 0 ∷ 0 ∷ 0x01 ∷ 0 ∷ 0 ∷ 0 ∷ 0 ∷ 0 ∷ 0 ∷ 0 ∷ 0 ∷ 0 ∷ 0 ∷ 0 ∷ 0 ∷ [])
-  pub at-limit : sayPiece 1 full 0 0 0 ≡ Done 0 0
-  pub past-limit : sayPiece 1 full 1 1 1 ≡ TooLong
+  pub at-limit : say_piece 1 full 0 0 0 ≡ Done 0 0
+  pub past-limit : say_piece 1 full 1 1 1 ≡ TooLong
   -- a byte is missing
   pub byte-missing : NoState 1 (0 ∷ 0 ∷ 0 ∷ 0 ∷ 0 ∷ 0 ∷ 0 ∷ 0 ∷ 0 ∷ 0 ∷ 0 ∷ 0 ∷ 0 ∷ 0 ∷ 0 ∷ [])
 
@@ -119,6 +119,6 @@ pub record InPieces : Type 0 where
   pub wrapped : Table none wrapping
   pub wrapped-end : Ends loud none (64 ∷ []) []
   -- after two samples: no end yet; and the third needs room in both areas
-  pub early : sayFinish 1 two 2 2 ≡ MinFilterSize 2 3
-  pub no_room : sayPiece 1 two 1 1 0 ≡ NoRoom 0 1
+  pub early : say_finish 1 two 2 2 ≡ MinFilterSize 2 3
+  pub no_room : say_piece 1 two 1 1 0 ≡ NoRoom 0 1
   pub damaged : Damaged

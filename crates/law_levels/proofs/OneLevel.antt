@@ -11,8 +11,8 @@ use lib.ListN.{length}
 use Rattle.base_answers.specs.declared.err.Answer.{Answer}
 use Rattle.base_answers.specs.declared.err.Refusal.TheVariants.{Done}
 use Rattle.base_answers.specs.Answers.{answer_of, done}
-use Rattle.base_lengths.specs.Lengths.{approxLength, detailsLength}
-use Rattle.base_lengths.specs.Calls.{sayForward, sayInverse, Level}
+use Rattle.base_lengths.specs.Lengths.{approx_length, details_length}
+use Rattle.base_lengths.specs.Calls.{say_forward, say_inverse, Level}
 use Rattle.base_lengths.proofs.Depths.{two-below}
 use Rattle.base_lengths.proofs.OneLevel.{forward-ready, inverse-ready, forward-fits, inverse-fits, forward-ran, inverse-ran, count-is}
 use Rattle.base_samples.specs.Le.{Bytes}
@@ -25,7 +25,7 @@ use Rattle.filter_cdf53i.proofs.T800.{low-is, high_is, back_is}
 use Rattle.filter_cdf53i.proofs.Read.{low_read, back_read, low-own, high-own, back-own}
 use Rattle.levels_filter.proofs.Integers.{each_width}
 use Rattle.levels_filter.specs.declared.filter.Filter.{Filter}
-use Rattle.levels_filter.specs.Filters.{width_of, waveletOf, low_of, high_of, backOf, Integers}
+use Rattle.levels_filter.specs.Filters.{width_of, wavelet_of, low_of, high_of, back_of, Integers}
 use Rattle.levels_filter.specs.Calls.{LevelOf, OneForward, OneInverse}
 use Rattle.levels_filter.proofs.Cuts.{width-pos}
 use Rattle.law_levels.proofs.Lengths.{length-low, length_high, length_back}
@@ -35,16 +35,16 @@ use Rattle.law_levels.proofs.Undone.{undoes}
 pub record Kept (k : ℕ) (low high : List ℕ → List ℕ) (back : List ℕ → List ℕ → List ℕ) : Type 0 where
   pub low-kept : (x : List ℕ) → 2 ≤ length x / k → low x ≡ encode k (lows (wrap k) (decode k x))
   pub high-kept : (x : List ℕ) → 2 ≤ length x / k → high x ≡ encode k (highs (wrap k) (decode k x))
-  pub back-kept : (a d : List ℕ) (n : ℕ) → length a / k ≡ approxLength n → length d / k ≡ detailsLength n → 2 ≤ n → back a d ≡ encode k (backs (wrap k) (decode k a) (decode k d))
+  pub back-kept : (a d : List ℕ) (n : ℕ) → length a / k ≡ approx_length n → length d / k ≡ details_length n → 2 ≤ n → back a d ≡ encode k (backs (wrap k) (decode k a) (decode k d))
   pub low_held : (x : List ℕ) → 2 ≤ length x / k → decode k (low x) ≡ lows (wrap k) (decode k x)
-  pub back-held : (a d : List ℕ) (n : ℕ) → length a / k ≡ approxLength n → length d / k ≡ detailsLength n → 2 ≤ n → decode k (back a d) ≡ backs (wrap k) (decode k a) (decode k d)
+  pub back-held : (a d : List ℕ) (n : ℕ) → length a / k ≡ approx_length n → length d / k ≡ details_length n → 2 ≤ n → decode k (back a d) ≡ backs (wrap k) (decode k a) (decode k d)
   pub low-own : (x : List ℕ) → 2 ≤ length x / k → AllWithin k (highs (λ z. z) (decode k x)) → AllWithin k (lows (λ z. z) (decode k x)) → Holding k (lows (λ z. z) (decode k x)) (low x)
   pub high-own : (x : List ℕ) → 2 ≤ length x / k → AllWithin k (highs (λ z. z) (decode k x)) → Holding k (highs (λ z. z) (decode k x)) (high x)
-  pub back-own : (a d : List ℕ) (n : ℕ) → length a / k ≡ approxLength n → length d / k ≡ detailsLength n → 2 ≤ n
+  pub back-own : (a d : List ℕ) (n : ℕ) → length a / k ≡ approx_length n → length d / k ≡ details_length n → 2 ≤ n
       → AllWithin k (backs (λ z. z) (decode k a) (decode k d)) → Holding k (backs (λ z. z) (decode k a) (decode k d)) (back a d)
   pub same_bytes : (s : List ℕ) (n : ℕ) → Bytes s → length s ≡ k * n → encode k (decode k s) ≡ s
 
-pub kept : (f : Filter) → Integers f → Kept (width_of f) (low_of f) (high_of f) (backOf f)
+pub kept : (f : Filter) → Integers f → Kept (width_of f) (low_of f) (high_of f) (back_of f)
 kept =
     each_width Kept
     (λ k w. record {
@@ -62,15 +62,15 @@ kept =
 -- ---- the forward call is done with the samples x
 
 module _ (f : Filter) (i : Integers f) {x a d : List ℕ} {r : Answer} {a' d' : List ℕ} (call : OneForward f x a d r a' d')
-    (isDone : done (sayForward (waveletOf f) (width_of f) (length x) (length a) (length d)) ≡ true) where
+    (is_done : done (say_forward (wavelet_of f) (width_of f) (length x) (length a) (length d)) ≡ true) where
   level : LevelOf f (length x) (length a) (length d)
-  level = forward-ready (waveletOf f) (width_of f) (length x) (length a) (length d) isDone
+  level = forward-ready (wavelet_of f) (width_of f) (length x) (length a) (length d) is_done
 
   two : 2 ≤ length x / width_of f
-  two = omega (arith, level.long, two-below (waveletOf f))
+  two = omega (arith, level.long, two-below (wavelet_of f))
 
   given : (a' ≡ low_of f x) × (d' ≡ high_of f x)
-  given = forward-ran (waveletOf f) (width_of f) (low_of f) (high_of f) x a d (length x / width_of f) r a' d' (width-pos f) level call
+  given = forward-ran (wavelet_of f) (width_of f) (low_of f) (high_of f) x a d (length x / width_of f) r a' d' (width-pos f) level call
 
   -- it leaves T.800's low-pass and high-pass coefficients, as they are kept
   pub forward-t800 : (a' ≡ encode (width_of f) (lows (wrap (width_of f)) (decode (width_of f) x))) × (d' ≡ encode (width_of f) (highs (wrap (width_of f)) (decode (width_of f) x)))
@@ -84,7 +84,7 @@ module _ (f : Filter) (i : Integers f) {x a d : List ℕ} {r : Answer} {a' d' : 
   -- and the inverse on them, into an output as long as x, is done and gives the samples, of every value
   pub undone-one : {o : List ℕ} {q : Answer} {o' : List ℕ} → Bytes x → length o ≡ length x → OneInverse f a' d' o q o' → (q ≡ answer_of (Done 0 0)) × (o' ≡ x)
   undone-one {o} {q} {o'} b e back =
-      let w = waveletOf f in
+      let w = wavelet_of f in
       let k = width_of f in
       let n = length x / k in
       let fits : Level w k n (length o) (length a') (length d') = record {
@@ -95,56 +95,56 @@ module _ (f : Filter) (i : Integers f) {x a d : List ℕ} {r : Answer} {a' d' : 
         details = ap length given.1 ∙ length_high f x n level.samples;
       } in (
         back.answer ∙ ap answer_of (inverse-fits w k n (length o) (length a') (length d') (width-pos f) fits),
-        inverse-ran w k (backOf f) a' d' o n q o' (width-pos f) fits back ∙ ap₂ (backOf f) given.0 given.1 ∙ (undoes f i).there x n b level.samples two,
+        inverse-ran w k (back_of f) a' d' o n q o' (width-pos f) fits back ∙ ap₂ (back_of f) given.0 given.1 ∙ (undoes f i).there x n b level.samples two,
       )
 
 -- ---- the inverse call is done with the bands a and d
 
 module _ (f : Filter) (i : Integers f) {a d o : List ℕ} {r : Answer} {o' : List ℕ} (call : OneInverse f a d o r o')
-    (isDone : done (sayInverse (waveletOf f) (width_of f) (length a) (length d) (length o)) ≡ true) where
-  levelBack : LevelOf f (length o) (length a) (length d)
-  levelBack = inverse-ready (waveletOf f) (width_of f) (length a) (length d) (length o) isDone
+    (is_done : done (say_inverse (wavelet_of f) (width_of f) (length a) (length d) (length o)) ≡ true) where
+  level_back : LevelOf f (length o) (length a) (length d)
+  level_back = inverse-ready (wavelet_of f) (width_of f) (length a) (length d) (length o) is_done
 
-  twoBack : 2 ≤ length o / width_of f
-  twoBack = omega (arith, levelBack.long, two-below (waveletOf f))
+  two_back : 2 ≤ length o / width_of f
+  two_back = omega (arith, level_back.long, two-below (wavelet_of f))
 
-  givenBack : o' ≡ backOf f a d
-  givenBack = inverse-ran (waveletOf f) (width_of f) (backOf f) a d o (length o / width_of f) r o' (width-pos f) levelBack call
+  given_back : o' ≡ back_of f a d
+  given_back = inverse-ran (wavelet_of f) (width_of f) (back_of f) a d o (length o / width_of f) r o' (width-pos f) level_back call
 
-  approxs : length a / width_of f ≡ approxLength (length o / width_of f)
-  approxs = count-is (width_of f) (approxLength (length o / width_of f)) (length a) (width-pos f) levelBack.approx
+  approxs : length a / width_of f ≡ approx_length (length o / width_of f)
+  approxs = count-is (width_of f) (approx_length (length o / width_of f)) (length a) (width-pos f) level_back.approx
 
-  detailed : length d / width_of f ≡ detailsLength (length o / width_of f)
-  detailed = count-is (width_of f) (detailsLength (length o / width_of f)) (length d) (width-pos f) levelBack.details
+  detailed : length d / width_of f ≡ details_length (length o / width_of f)
+  detailed = count-is (width_of f) (details_length (length o / width_of f)) (length d) (width-pos f) level_back.details
 
   -- it leaves the samples of T.800's way back, as they are kept
   pub inverse-t800 : o' ≡ encode (width_of f) (backs (wrap (width_of f)) (decode (width_of f) a) (decode (width_of f) d))
-  inverse-t800 = givenBack ∙ (kept f i).back-kept a d (length o / width_of f) approxs detailed twoBack
+  inverse-t800 = given_back ∙ (kept f i).back-kept a d (length o / width_of f) approxs detailed two_back
 
   -- and T.800's own, where these are within the width
   pub inverse-unwrapped : AllWithin (width_of f) (backs (λ z. z) (decode (width_of f) a) (decode (width_of f) d))
       → Holding (width_of f) (backs (λ z. z) (decode (width_of f) a) (decode (width_of f) d)) o'
-  inverse-unwrapped bw = rw givenBack ((kept f i).back-own a d (length o / width_of f) approxs detailed twoBack bw)
+  inverse-unwrapped bw = rw given_back ((kept f i).back-own a d (length o / width_of f) approxs detailed two_back bw)
 
   -- and the forward on them, into bands as long as a and d, is done and gives the bands, of every value
   pub again-one : {a₂ d₂ : List ℕ} {q : Answer} {a₃ d₃ : List ℕ} → Bytes a → Bytes d → length a₂ ≡ length a → length d₂ ≡ length d → OneForward f o' a₂ d₂ q a₃ d₃
       → (q ≡ answer_of (Done 0 0)) × (a₃ ≡ a) × (d₃ ≡ d)
   again-one {a₂} {d₂} {q} {a₃} {d₃} ba bd ea ed forward =
-      let w = waveletOf f in
+      let w = wavelet_of f in
       let k = width_of f in
       let n = length o / k in
-      let la = levelBack.approx in
-      let ld = levelBack.details in
-      let all : approxLength n + detailsLength n ≡ n = omega arith in
+      let la = level_back.approx in
+      let ld = level_back.details in
+      let all : approx_length n + details_length n ≡ n = omega arith in
       let fits : Level w k n (length o') (length a₂) (length d₂) = record {
-        long = levelBack.long;
-        short = levelBack.short;
-        samples = ap length givenBack ∙ length_back f a d (approxLength n) (detailsLength n) la ld ∙ omega (arith, la, ld, mul-add k (approxLength n) (detailsLength n), ap (λ (m : ℕ). k * m) all);
+        long = level_back.long;
+        short = level_back.short;
+        samples = ap length given_back ∙ length_back f a d (approx_length n) (details_length n) la ld ∙ omega (arith, la, ld, mul-add k (approx_length n) (details_length n), ap (λ (m : ℕ). k * m) all);
         approx = ea ∙ la;
         details = ed ∙ ld;
       } in
       let ran = forward-ran w k (low_of f) (high_of f) o' a₂ d₂ n q a₃ d₃ (width-pos f) fits forward in (
         forward.answer ∙ ap answer_of (forward-fits w k n (length o') (length a₂) (length d₂) (width-pos f) fits),
-        ran.0 ∙ ap (low_of f) givenBack ∙ (undoes f i).again-low a d n ba bd la ld twoBack,
-        ran.1 ∙ ap (high_of f) givenBack ∙ (undoes f i).again-high a d n ba bd la ld twoBack,
+        ran.0 ∙ ap (low_of f) given_back ∙ (undoes f i).again-low a d n ba bd la ld two_back,
+        ran.1 ∙ ap (high_of f) given_back ∙ (undoes f i).again-high a d n ba bd la ld two_back,
       )

@@ -10,9 +10,9 @@ use lib.ListN.{length, take, drop, take-append-drop}
 use lib.Seq.{length-slice, length-take-le, take_all, take_at, take-take, drop_at}
 use Rattle.base_answers.specs.declared.err.Answer.{Answer}
 use Rattle.base_answers.specs.declared.err.Refusal.TheVariants.{Done}
-use Rattle.base_answers.specs.Checks.{inFront}
+use Rattle.base_answers.specs.Checks.{in_front}
 use Rattle.base_answers.proofs.Endings.{is-done}
-use Rattle.base_lengths.specs.Lengths.{mostSamples, approxLength, detailsLength}
+use Rattle.base_lengths.specs.Lengths.{most_samples, approx_length, details_length}
 use Rattle.base_samples.specs.Le.{Bytes}
 use Rattle.base_samples.specs.Words.{Holds}
 use Rattle.base_samples.specs.Integers.{Width}
@@ -20,20 +20,20 @@ use Rattle.base_samples.proofs.Words.{holds}
 use Rattle.filter_cdf53i.specs.Bands.{low, high, EnoughWords}
 use Rattle.filter_cdf53i.proofs.Lengths.{length-low, length_high, bytes-join}
 use Rattle.stream_pieces.specs.declared.recorder.Recorder.{Recorder}
-use Rattle.stream_pieces.specs.States.{fixed, state_of, Possible, standIn, between, fixedBy, rest_of}
+use Rattle.stream_pieces.specs.States.{fixed, state_of, Possible, stand_in, between, fixed_by, rest_of}
 use Rattle.stream_pieces.specs.Steps.{Taking}
 use Rattle.stream_pieces.proofs.Joins.{joined}
 use Rattle.stream_pieces.proofs.Stands.{length-stand, stands}
-use Rattle.stream_calls.specs.StateBytes.{stateSize, stateBytes, stateIn, couldBe}
-use Rattle.stream_calls.specs.Calls.{sayPiece, Piece, fresh, sayFinish, Finish}
+use Rattle.stream_calls.specs.StateBytes.{state_size, state_bytes, state_in, could_be}
+use Rattle.stream_calls.specs.Calls.{say_piece, Piece, fresh, say_finish, Finish}
 use Rattle.stream_calls.proofs.States.{length-state, possible-back, possible-could, left-possible, none-fresh}
 use Rattle.stream_calls.proofs.Ready.{piece-ready, piece-passes, finish-ready, finish-passes}
 use Rattle.stream_calls.proofs.Streams.{refused-stays, done-leaves}
-use Rattle.law_stream.specs.Feeds.{added, Fed, begun, taken, refused, unfinished, finished, After, allLows, allHighs}
+use Rattle.law_stream.specs.Feeds.{added, Fed, begun, taken, refused, unfinished, finished, After, all_lows, all_highs}
 use Rattle.law_stream.proofs.Onward.{low-stays, high-stays, state-onward, low-onward, high-onward}
 
 -- a call left coefficients i to j of the band s at the front of the area a
-module _ (k i j : ℕ) (s a : List ℕ) {new a' : List ℕ} (long : k * j ≤ length s) (en : new ≡ between k i j s) (ea : a' ≡ inFront new a) where
+module _ (k i j : ℕ) (s a : List ℕ) {new a' : List ℕ} (long : k * j ≤ length s) (en : new ≡ between k i j s) (ea : a' ≡ in_front new a) where
   length-new : length new ≡ k * (j - i)
   length-new = ap length en ∙ length-slice (k * i) (k * j) s long ∙ sym (mul-sub k j i)
 
@@ -54,25 +54,25 @@ module _ {k : ℕ} (w : Width k) {x lows highs b : List ℕ} (h : After k x lows
   -- ---- the state stands for a recording that leaves it, as x does
 
   abbrev z : List ℕ
-  z = standIn k (state_of k x)
+  z = stand_in k (state_of k x)
 
-  sixteen : length b ≡ stateSize
+  sixteen : length b ≡ state_size
   sixteen = ap length h.state ∙ length-state (state_of k x)
 
   possible : Possible k (state_of k x)
   possible = left-possible w x h.bytes h.whole h.few
 
-  read : stateIn b ≡ state_of k x
-  read = ap stateIn h.state ∙ possible-back w (state_of k x) possible
+  read : state_in b ≡ state_of k x
+  read = ap state_in h.state ∙ possible-back w (state_of k x) possible
 
-  standing : Possible k (stateIn b)
+  standing : Possible k (state_in b)
   standing = rw read possible
 
-  total : (stateIn b).total ≡ t
+  total : (state_in b).total ≡ t
   unfolding state_of
   total = ap (λ (s : Recorder). s.total) read
 
-  pub could : couldBe k b ≡ true
+  pub could : could_be k b ≡ true
   could = rw h.state (possible-could w (state_of k x) possible)
 
   size : length z ≡ k * t
@@ -88,42 +88,42 @@ module _ {k : ℕ} (w : Width k) {x lows highs b : List ℕ} (h : After k x lows
   onward y = t + length y / k
 
   module _ (y : List ℕ) (hy : length y ≡ k * (length y / k)) where
-    low_by : fixedBy low k (stateIn b) y ≡ between k (fixed t) (fixed (onward y)) (low k (x ++ y))
+    low_by : fixed_by low k (state_in b) y ≡ between k (fixed t) (fixed (onward y)) (low k (x ++ y))
     unfolding state_of
     low_by =
-        ap (λ (s : Recorder). fixedBy low k s y) read
+        ap (λ (s : Recorder). fixed_by low k s y) read
         ∙ low-onward w z x y t (length y / k) size h.whole hy same (fixed (onward y)) (omega arith) (omega arith) (λ g. omega arith)
 
-    high-by : fixedBy high k (stateIn b) y ≡ between k (fixed t) (fixed (onward y)) (high k (x ++ y))
+    high-by : fixed_by high k (state_in b) y ≡ between k (fixed t) (fixed (onward y)) (high k (x ++ y))
     unfolding state_of
     high-by =
-        ap (λ (s : Recorder). fixedBy high k s y) read
+        ap (λ (s : Recorder). fixed_by high k s y) read
         ∙ high-onward w z x y t (length y / k) size h.whole hy same (fixed (onward y)) (omega arith) (omega arith)
 
-    state-by : stateBytes (state_of k (standIn k (stateIn b) ++ y)) ≡ stateBytes (state_of k (x ++ y))
+    state-by : state_bytes (state_of k (stand_in k (state_in b) ++ y)) ≡ state_bytes (state_of k (x ++ y))
     state-by =
-        ap (λ (s : Recorder). stateBytes (state_of k (standIn k s ++ y))) read
-        ∙ ap stateBytes (state-onward w z x y t (length y / k) size h.whole hy same)
+        ap (λ (s : Recorder). state_bytes (state_of k (stand_in k s ++ y))) read
+        ∙ ap state_bytes (state-onward w z x y t (length y / k) size h.whole hy same)
 
   -- and the end leaves what x leaves
 
-  low-rest : 2 ≤ t → rest_of low approxLength k (stateIn b) ≡ between k (fixed t) (approxLength t) (low k x)
+  low-rest : 2 ≤ t → rest_of low approx_length k (state_in b) ≡ between k (fixed t) (approx_length t) (low k x)
   unfolding state_of
   low-rest two =
-      ap (rest_of low approxLength k) read
-      ∙ (rw (append-nil z, append-nil x) at (low-onward w z x [] t 0 size h.whole (sym (mul-zero k)) same (approxLength t) (omega arith) (omega arith) (λ g. omega arith)))
+      ap (rest_of low approx_length k) read
+      ∙ (rw (append-nil z, append-nil x) at (low-onward w z x [] t 0 size h.whole (sym (mul-zero k)) same (approx_length t) (omega arith) (omega arith) (λ g. omega arith)))
 
-  high-rest : rest_of high detailsLength k (stateIn b) ≡ between k (fixed t) (detailsLength t) (high k x)
+  high-rest : rest_of high details_length k (state_in b) ≡ between k (fixed t) (details_length t) (high k x)
   unfolding state_of
   high-rest =
-      ap (rest_of high detailsLength k) read
-      ∙ (rw (append-nil z, append-nil x) at (high-onward w z x [] t 0 size h.whole (sym (mul-zero k)) same (detailsLength t) (omega arith) (omega arith)))
+      ap (rest_of high details_length k) read
+      ∙ (rw (append-nil z, append-nil x) at (high-onward w z x [] t 0 size h.whole (sym (mul-zero k)) same (details_length t) (omega arith) (omega arith)))
 
   -- ---- a done piece
 
   module _ (y : List ℕ) {a d : List ℕ} {r : Answer} {b' a' d' : List ℕ} (p : Piece k b y a d r b' a' d') (done : r.number ≡ 0) where
-    ready : Taking k (stateIn b) y
-    ready = (piece-ready w b y a d (is-done (sayPiece k b (length y) (length a) (length d)) r p.answer done)).1
+    ready : Taking k (state_in b) y
+    ready = (piece-ready w b y a d (is-done (say_piece k b (length y) (length a) (length d)) r p.answer done)).1
 
     whole-y : length y ≡ k * (length y / k)
     whole-y = ready.piece.size
@@ -167,7 +167,7 @@ module _ {k : ℕ} (w : Width k) {x lows highs b : List ℕ} (h : After k x lows
 
   pub finish-long : {a d : List ℕ} {r : Answer} {b' a' d' : List ℕ} → Finish k b a d r b' a' d' → r.number ≡ 0 → 3 ≤ t
   finish-long {a} {d} {r} p done =
-      omega (arith, total, (finish-ready w b a d (is-done (sayFinish k b (length a) (length d)) r p.answer done)).2)
+      omega (arith, total, (finish-ready w b a d (is-done (say_finish k b (length a) (length d)) r p.answer done)).2)
 
 -- no samples yet
 begun-after : {k : ℕ} → Width k → After k [] [] [] fresh
@@ -194,7 +194,7 @@ module _ {k : ℕ} (w : Width k) where
 
   module _ {x lows highs b : List ℕ} (f : Fed k x lows highs b) where
     -- the state counts the samples
-    pub fed-samples : (stateIn b).total ≡ length x / k
+    pub fed-samples : (state_in b).total ≡ length x / k
     fed-samples = total w (fed f)
 
     -- "after t samples .. floor((t-1)/2) of each band have been written in total"
@@ -214,39 +214,39 @@ module _ {k : ℕ} (w : Width k) where
       long : 3 ≤ length x / k
       long = finish-long w (fed f) p done
 
-      pub finish-spares : let t = length x / k in (drop (k * (approxLength t - fixed t)) a' ≡ drop (k * (approxLength t - fixed t)) a)
-          × (drop (k * (detailsLength t - fixed t)) d' ≡ drop (k * (detailsLength t - fixed t)) d)
+      pub finish-spares : let t = length x / k in (drop (k * (approx_length t - fixed t)) a' ≡ drop (k * (approx_length t - fixed t)) a)
+          × (drop (k * (details_length t - fixed t)) d' ≡ drop (k * (details_length t - fixed t)) d)
       finish-spares =
           let t = length x / k in
           let h = fed f in
           let left = done-leaves p done in (
-            behind k (fixed t) (approxLength t) (low k x) a (omega (arith, length-low k x)) (low-rest w h (omega (arith, long))) left.1,
-            behind k (fixed t) (detailsLength t) (high k x) d (omega (arith, length_high k x)) (high-rest w h) left.2,
+            behind k (fixed t) (approx_length t) (low k x) a (omega (arith, length-low k x)) (low-rest w h (omega (arith, long))) left.1,
+            behind k (fixed t) (details_length t) (high k x) d (omega (arith, length_high k x)) (high-rest w h) left.2,
           )
 
       -- and finishing, where it is done, completes the bands of x, however it was cut, and leaves a fresh state
-      pub cut-anyhow : (allLows k x lows a' ≡ low k x) × (allHighs k x highs d' ≡ high k x) × (b' ≡ fresh)
+      pub cut-anyhow : (all_lows k x lows a' ≡ low k x) × (all_highs k x highs d' ≡ high k x) × (b' ≡ fresh)
       cut-anyhow =
           let t = length x / k in
           let h = fed f in
           let left = done-leaves p done in (
-            grown k (fixed t) (approxLength t) (low k x) a (omega (arith, length-low k x)) (low-rest w h (omega (arith, long))) left.1 (omega arith) h.approx
-                ∙ take_all (k * approxLength t) (low k x) (omega (arith, length-low k x)),
-            grown k (fixed t) (detailsLength t) (high k x) d (omega (arith, length_high k x)) (high-rest w h) left.2 (omega (arith, long)) h.details
-                ∙ take_all (k * detailsLength t) (high k x) (omega (arith, length_high k x)),
+            grown k (fixed t) (approx_length t) (low k x) a (omega (arith, length-low k x)) (low-rest w h (omega (arith, long))) left.1 (omega arith) h.approx
+                ∙ take_all (k * approx_length t) (low k x) (omega (arith, length-low k x)),
+            grown k (fixed t) (details_length t) (high k x) d (omega (arith, length_high k x)) (high-rest w h) left.2 (omega (arith, long)) h.details
+                ∙ take_all (k * details_length t) (high k x) (omega (arith, length_high k x)),
             left.0,
           )
 
     -- a call is done on whole samples within the limit, with room for what it writes
-    pub piece-fits : (y a d : List ℕ) → length y ≡ k * (length y / k) → let t = length x / k in let n = t + length y / k in n ≤ mostSamples
-        → EnoughWords k (fixed n - fixed t) a → EnoughWords k (fixed n - fixed t) d → sayPiece k b (length y) (length a) (length d) ≡ Done 0 0
+    pub piece-fits : (y a d : List ℕ) → length y ≡ k * (length y / k) → let t = length x / k in let n = t + length y / k in n ≤ most_samples
+        → EnoughWords k (fixed n - fixed t) a → EnoughWords k (fixed n - fixed t) d → say_piece k b (length y) (length a) (length d) ≡ Done 0 0
     piece-fits y a d e few ra rd =
         let h = fed f in
         let n = total w h in
         piece-passes w b y a d (sixteen w h) (record { width = w; state = standing w h; piece = holds w.some y (length y / k) e; few = rw n few }) (rw n ra) (rw n rd)
 
-    pub finish-fits : (a d : List ℕ) → let t = length x / k in 3 ≤ t → EnoughWords k (approxLength t - fixed t) a → EnoughWords k (detailsLength t - fixed t) d
-        → sayFinish k b (length a) (length d) ≡ Done 0 0
+    pub finish-fits : (a d : List ℕ) → let t = length x / k in 3 ≤ t → EnoughWords k (approx_length t - fixed t) a → EnoughWords k (details_length t - fixed t) d
+        → say_finish k b (length a) (length d) ≡ Done 0 0
     finish-fits a d long ra rd = let h = fed f in let n = total w h in finish-passes w b a d (sixteen w h) (standing w h) (rw n long) (rw n ra) (rw n rd)
 
 -- ---- the room that these ask
@@ -256,5 +256,5 @@ pub piece-room : (t n : ℕ) → fixed (t + n) - fixed t ≤ (n + 1) / 2
 piece-room t n = omega arith
 
 -- the end: one approximation, and one detail where t is even
-pub end-room : (t : ℕ) → 3 ≤ t → (approxLength t - fixed t ≡ 1) × (detailsLength t - fixed t ≡ (t + 1) % 2)
+pub end-room : (t : ℕ) → 3 ≤ t → (approx_length t - fixed t ≡ 1) × (details_length t - fixed t ≡ (t + 1) % 2)
 end-room t long = (omega arith, omega arith)

@@ -14,10 +14,10 @@ use Rattle.base_answers.proofs.Chain.{same}
 use Rattle.base_answers.proofs.Passed.{off, Passing, pass_on}
 use Rattle.base_samples.specs.Le.{Bytes}
 use Rattle.base_samples.specs.Integers.{Width}
-use Rattle.stream_pieces.specs.States.{state_of, standIn}
+use Rattle.stream_pieces.specs.States.{state_of, stand_in}
 use Rattle.stream_pieces.proofs.Stands.{length-stand, count-stand, bytes-stand, stands}
-use Rattle.stream_calls.specs.StateBytes.{stateBytes, stateIn, couldBe}
-use Rattle.stream_calls.specs.Calls.{stateCheck, lentChecks, pieceChecks, sayPiece, finishChecks, sayFinish}
+use Rattle.stream_calls.specs.StateBytes.{state_bytes, state_in, could_be}
+use Rattle.stream_calls.specs.Calls.{state_check, lent_checks, piece_checks, say_piece, finish_checks, say_finish}
 use Rattle.stream_calls.proofs.States.{state-again, could-be}
 use Rattle.law_stream.specs.Feeds.{LeftBy, Nine, EachWhole}
 use Rattle.law_stream.proofs.Fed.{fed, could}
@@ -50,20 +50,20 @@ whole-never k n g q =
 
 module _ {k : ℕ} (w : Width k) where
   -- a state that passes is left by one call: a piece, at a fresh state, that is the whole recording that the state stands for
-  could-left : (b : List ℕ) → Bytes b → couldBe k b ≡ true → LeftBy k b
+  could-left : (b : List ℕ) → Bytes b → could_be k b ≡ true → LeftBy k b
   unfolding EachWhole flatten
   could-left b bytes passes =
       let is = could-be b passes in
-      let x = standIn k (stateIn b) in
-      let n = count-stand w (stateIn b) is.1 in
-      let one = every-cut w (x ∷ []) (bytes-stand w (stateIn b) is.1, rw n (length-stand w (stateIn b) is.1), tt) (rw (append-nil x, n) is.1.few) in
+      let x = stand_in k (state_in b) in
+      let n = count-stand w (state_in b) is.1 in
+      let one = every-cut w (x ∷ []) (bytes-stand w (state_in b) is.1, rw n (length-stand w (state_in b) is.1), tt) (rw (append-nil x, n) is.1.few) in
       let same-b =
-      (fed w one.fed).state ∙ ap (λ (z : List ℕ). stateBytes (state_of k z)) (append-nil x)
-      ∙ ap stateBytes (stands w (stateIn b) is.1) ∙ state-again b bytes is.0 in
+      (fed w one.fed).state ∙ ap (λ (z : List ℕ). state_bytes (state_of k z)) (append-nil x)
+      ∙ ap state_bytes (stands w (state_in b) is.1) ∙ state-again b bytes is.0 in
       subst (LeftBy k) same-b (record { x = _; lows = _; highs = _; calls = one.fed })
 
   -- "a state no calls could have left": bytes, of any length, pass the check exactly where some calls leave them
-  pub left-by-calls : (b : List ℕ) → Bytes b → (couldBe k b ≡ true → LeftBy k b) × (LeftBy k b → couldBe k b ≡ true)
+  pub left-by-calls : (b : List ℕ) → Bytes b → (could_be k b ≡ true → LeftBy k b) × (LeftBy k b → could_be k b ≡ true)
   left-by-calls b bytes = (could-left b bytes, λ l. could w (fed w l.calls))
 
   -- ---- and a call tells them apart: it says 9 (0, 0) of no state that calls left, and of every other where the lengths are whole
@@ -71,31 +71,31 @@ module _ {k : ℕ} (w : Width k) where
   -- m are its own checks, behind those that both calls make
   module _ (b : List ℕ) (bytes : Bytes b) (y a d : ℕ) (m : List Check) (own : Never (BadCount 0 0) m) where
     abbrev tells : Refusal
-    tells = first_of (lentChecks k b y a d ++ m) (Done 0 0)
+    tells = first_of (lent_checks k b y a d ++ m) (Done 0 0)
 
     nine-only : LeftBy k b → tells ≡ BadCount 0 0 → ⊥
     nine-only l =
-        never (BadCount 0 0) (Done 0 0) (lentChecks k b y a d ++ m)
+        never (BadCount 0 0) (Done 0 0) (lent_checks k b y a d ++ m)
         (whole-never k y, (whole-never k a, (whole-never k d, ((λ g. off (ap not ((left-by-calls b bytes).1 l)) g), own))))
         (λ q. omega (arith, number q))
 
-    nine-every : (t : Bool) → couldBe k b ≡ t → Passing (ragged k y ∷ ragged k a ∷ ragged k d ∷ []) → (LeftBy k b → ⊥) → tells ≡ BadCount 0 0
+    nine-every : (t : Bool) → could_be k b ≡ t → Passing (ragged k y ∷ ragged k a ∷ ragged k d ∷ []) → (LeftBy k b → ⊥) → tells ≡ BadCount 0 0
     nine-every true e q none = absurd (none (could-left b bytes e))
     nine-every false e q none =
-        pass_on (ragged k y ∷ ragged k a ∷ ragged k d ∷ []) (stateCheck k b ∷ m) (Done 0 0) q
+        pass_on (ragged k y ∷ ragged k a ∷ ragged k d ∷ []) (state_check k b ∷ m) (Done 0 0) q
         ∙ ap (λ t. cond (not t) (BadCount 0 0) (first_of m (Done 0 0))) e
 
     nine : Nine k b y a d tells
-    nine = record { only = λ e l. nine-only l e; every = λ ey ea ed. nine-every (couldBe k b) refl (same _ _ ey, (same _ _ ea, (same _ _ ed, tt))) }
+    nine = record { only = λ e l. nine-only l e; every = λ ey ea ed. nine-every (could_be k b) refl (same _ _ ey, (same _ _ ea, (same _ _ ed, tt))) }
 
-  pub nine-piece : (b : List ℕ) → Bytes b → (y a d : ℕ) → Nine k b y a d (sayPiece k b y a d)
-  unfolding sayPiece
+  pub nine-piece : (b : List ℕ) → Bytes b → (y a d : ℕ) → Nine k b y a d (say_piece k b y a d)
+  unfolding say_piece
   nine-piece b bytes y a d =
-      nine b bytes y a d (pieceChecks k (stateIn b).total y a d)
+      nine b bytes y a d (piece_checks k (state_in b).total y a d)
       ((λ g q. omega (arith, number q)), ((λ g q. omega (arith, number q)), ((λ g q. omega (arith, number q)), tt)))
 
-  pub nine-finish : (b : List ℕ) → Bytes b → (a d : ℕ) → Nine k b 0 a d (sayFinish k b a d)
-  unfolding sayFinish
+  pub nine-finish : (b : List ℕ) → Bytes b → (a d : ℕ) → Nine k b 0 a d (say_finish k b a d)
+  unfolding say_finish
   nine-finish b bytes a d =
-      nine b bytes 0 a d (finishChecks k (stateIn b).total a d)
+      nine b bytes 0 a d (finish_checks k (state_in b).total a d)
       ((λ g q. omega (arith, number q)), ((λ g q. omega (arith, number q)), ((λ g q. omega (arith, number q)), tt)))

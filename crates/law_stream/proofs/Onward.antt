@@ -7,13 +7,13 @@ use native.Mathlib.Nat.{mul-zero}
 use native.Mathlib.Omega.{arith}
 use lib.ListN.{length, take}
 use Rattle.base_order.proofs.Order.{lt-or-le}
-use Rattle.base_lengths.specs.Lengths.{approxLength, detailsLength}
+use Rattle.base_lengths.specs.Lengths.{approx_length, details_length}
 use Rattle.base_samples.specs.Words.{word_at, bytes_of, Holds}
 use Rattle.base_samples.specs.Integers.{Width}
 use Rattle.base_samples.proofs.Words.{holds, tabulate-same, word-take}
-use Rattle.filter_cdf53i.specs.Bands.{low, high, detailWord, approxWord}
+use Rattle.filter_cdf53i.specs.Bands.{low, high, detail_word, approx_word}
 use Rattle.filter_cdf53i.proofs.Words.{low_word, high_word}
-use Rattle.filter_cdf53i.proofs.Near.{detailAfter, high-prefix, low-sides, high-near}
+use Rattle.filter_cdf53i.proofs.Near.{detail_after, high-prefix, low-sides, high-near}
 use Rattle.stream_pieces.specs.declared.recorder.Recorder.{Recorder}
 use Rattle.stream_pieces.specs.States.{fixed, state_of, between}
 use Rattle.stream_pieces.proofs.Joins.{joined, earlier, later}
@@ -23,21 +23,21 @@ module _ {k : ℕ} (w : Width k) where
   -- ---- parts of the bands of x and of y are equal when each word is
 
   module _ (x y : List ℕ) (i j : ℕ) (h : i ≤ j) where
-    same_low : j ≤ approxLength (length x / k) → j ≤ approxLength (length y / k) → ((p : ℕ) → i ≤ p → p < j → word_at k (low k x) p ≡ word_at k (low k y) p)
+    same_low : j ≤ approx_length (length x / k) → j ≤ approx_length (length y / k) → ((p : ℕ) → i ≤ p → p < j → word_at k (low k x) p ≡ word_at k (low k y) p)
         → between k i j (low k x) ≡ between k i j (low k y)
     same_low lx ly same =
         between-low k x i j h lx
         ∙ ap (bytes_of k)
-        (tabulate-same (j - i) (λ p. approxWord k x (i + p)) (λ p. approxWord k y (i + p))
+        (tabulate-same (j - i) (λ p. approx_word k x (i + p)) (λ p. approx_word k y (i + p))
         (λ p l. sym (low_word k x (i + p) (omega arith)) ∙ same (i + p) (omega arith) (omega arith) ∙ low_word k y (i + p) (omega arith)))
         ∙ sym (between-low k y i j h ly)
 
-    same-high : j ≤ detailsLength (length x / k) → j ≤ detailsLength (length y / k) → ((p : ℕ) → i ≤ p → p < j → word_at k (high k x) p ≡ word_at k (high k y) p)
+    same-high : j ≤ details_length (length x / k) → j ≤ details_length (length y / k) → ((p : ℕ) → i ≤ p → p < j → word_at k (high k x) p ≡ word_at k (high k y) p)
         → between k i j (high k x) ≡ between k i j (high k y)
     same-high lx ly same =
         between-high k x i j h lx
         ∙ ap (bytes_of k)
-        (tabulate-same (j - i) (λ p. detailWord k x (i + p)) (λ p. detailWord k y (i + p))
+        (tabulate-same (j - i) (λ p. detail_word k x (i + p)) (λ p. detail_word k y (i + p))
         (λ p l. sym (high_word k x (i + p) (omega arith)) ∙ same (i + p) (omega arith) (omega arith) ∙ high_word k y (i + p) (omega arith)))
         ∙ sym (between-high k y i j h ly)
 
@@ -56,8 +56,8 @@ module _ {k : ℕ} (w : Width k) where
     approx-stays i h =
         let n : length (x ++ y) / k ≡ t + u = (joined w x y t u hx hy).count in
         let c = count in
-        let e : detailAfter (t + u) i ≡ i = omega arith in
-        let e' : detailAfter t i ≡ i = omega arith in
+        let e : detail_after (t + u) i ≡ i = omega arith in
+        let e' : detail_after t i ≡ i = omega arith in
         low-sides w (x ++ y) x i (omega arith) (omega arith) (omega arith) (omega arith) (earlier w x y t u hx hy (2 * i) (omega arith)) (detail-stays (i - 1) (omega arith))
         (rw (n, c, e, e') (detail-stays i h))
 
@@ -103,7 +103,7 @@ module _ {k : ℕ} (w : Width k) where
         (lt-or-le j t)
 
     -- the details from the last fixed one on
-    details-on : (i : ℕ) → fixed t ≤ i + 1 → i < detailsLength (t + u) → word_at k (high k (x₁ ++ y)) i ≡ word_at k (high k (x₂ ++ y)) i
+    details-on : (i : ℕ) → fixed t ≤ i + 1 → i < details_length (t + u) → word_at k (high k (x₁ ++ y)) i ≡ word_at k (high k (x₂ ++ y)) i
     details-on i h l =
         ⊎_elim
         (λ g.
@@ -114,15 +114,15 @@ module _ {k : ℕ} (w : Width k) where
         (λ g. high-near w (x₁ ++ y) (x₂ ++ y) (t + u) all₁.size all₂.size (omega arith) i l (λ j a b c. words-on j (omega arith)))
         (lt-or-le i (fixed t))
 
-    approxs-on : (i : ℕ) → fixed t ≤ i → i < approxLength (t + u) → 2 ≤ t + u → word_at k (low k (x₁ ++ y)) i ≡ word_at k (low k (x₂ ++ y)) i
+    approxs-on : (i : ℕ) → fixed t ≤ i → i < approx_length (t + u) → 2 ≤ t + u → word_at k (low k (x₁ ++ y)) i ≡ word_at k (low k (x₂ ++ y)) i
     approxs-on i h l two =
         let n₁ = all₁.count in
         let n₂ = all₂.count in
         low-sides w (x₁ ++ y) (x₂ ++ y) i (rw n₁ two) (rw n₂ two) (rw n₁ l) (rw n₂ l) (words-on (2 * i) (omega arith))
-        (details-on (i - 1) (omega arith) (omega arith)) (rw (n₁, n₂) (details-on (detailAfter (t + u) i) (omega arith) (omega arith)))
+        (details-on (i - 1) (omega arith) (omega arith)) (rw (n₁, n₂) (details-on (detail_after (t + u) i) (omega arith) (omega arith)))
 
     -- the last of the first m details, where there is one
-    last_on : (m : ℕ) → fixed t ≤ m → m ≤ detailsLength (t + u)
+    last_on : (m : ℕ) → fixed t ≤ m → m ≤ details_length (t + u)
         → word_at k (take (k * m) (high k (x₁ ++ y))) (m - 1) ≡ word_at k (take (k * m) (high k (x₂ ++ y))) (m - 1)
     last_on m h l =
         ⊎_elim
@@ -141,10 +141,10 @@ module _ {k : ℕ} (w : Width k) where
         rw (all₁.count, all₂.count, words-on (2 * m) (omega arith), words-on (2 * m + 1) (omega arith), last_on m (omega arith) (omega arith))
 
     -- the approximations that are not written yet: one sample alone has none to ask for
-    pub low-onward : (j : ℕ) → fixed t ≤ j → j ≤ approxLength (t + u) → (0 < j → 2 ≤ t + u)
+    pub low-onward : (j : ℕ) → fixed t ≤ j → j ≤ approx_length (t + u) → (0 < j → 2 ≤ t + u)
         → between k (fixed t) j (low k (x₁ ++ y)) ≡ between k (fixed t) j (low k (x₂ ++ y))
     low-onward j h l two = same_low (x₁ ++ y) (x₂ ++ y) (fixed t) j h (rw all₁.count l) (rw all₂.count l) (λ p a b. approxs-on p a (omega arith) (two (omega arith)))
 
     -- and the details
-    pub high-onward : (j : ℕ) → fixed t ≤ j → j ≤ detailsLength (t + u) → between k (fixed t) j (high k (x₁ ++ y)) ≡ between k (fixed t) j (high k (x₂ ++ y))
+    pub high-onward : (j : ℕ) → fixed t ≤ j → j ≤ details_length (t + u) → between k (fixed t) j (high k (x₁ ++ y)) ≡ between k (fixed t) j (high k (x₂ ++ y))
     high-onward j h l = same-high (x₁ ++ y) (x₂ ++ y) (fixed t) j h (rw all₁.count l) (rw all₂.count l) (λ p a b. details-on p (omega arith) (omega arith))

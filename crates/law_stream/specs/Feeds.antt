@@ -5,11 +5,11 @@ use Rattle.base_answers.specs.declared.err.Answer.{Answer}
 use Rattle.base_answers.specs.declared.err.Refusal.{Refusal}
 use Rattle.base_answers.specs.declared.err.Refusal.TheVariants.{BadCount}
 use Rattle.base_answers.specs.Answers.{say}
-use Rattle.base_lengths.specs.Lengths.{mostSamples, approxLength, detailsLength}
+use Rattle.base_lengths.specs.Lengths.{most_samples, approx_length, details_length}
 use Rattle.base_samples.specs.Le.{Bytes}
 use Rattle.filter_cdf53i.specs.Bands.{low, high, EnoughWords}
 use Rattle.stream_pieces.specs.States.{fixed, state_of}
-use Rattle.stream_calls.specs.StateBytes.{stateBytes}
+use Rattle.stream_calls.specs.StateBytes.{state_bytes}
 use Rattle.stream_calls.specs.Calls.{Piece, fresh, Finish}
 
 -- how many bytes of each band the piece y adds, after the samples x
@@ -31,17 +31,17 @@ pub data Fed (k : ℕ) : List ℕ → List ℕ → List ℕ → List ℕ → Typ
 pub record After (k : ℕ) (x lows highs b : List ℕ) : Type 0 where
   pub bytes : Bytes x
   pub whole : length x ≡ k * (length x / k)
-  pub few : length x / k ≤ mostSamples
-  pub state : b ≡ stateBytes (state_of k x)
+  pub few : length x / k ≤ most_samples
+  pub state : b ≡ state_bytes (state_of k x)
   pub approx : lows ≡ take (k * fixed (length x / k)) (low k x)
   pub details : highs ≡ take (k * fixed (length x / k)) (high k x)
 
 -- the approximations that the pieces wrote, and after them those that the end left in the area a'; and the details
-abbrev pub allLows : ℕ → List ℕ → List ℕ → List ℕ → List ℕ
-allLows k x lows a' = let t = length x / k in lows ++ take (k * (approxLength t - fixed t)) a'
+abbrev pub all_lows : ℕ → List ℕ → List ℕ → List ℕ → List ℕ
+all_lows k x lows a' = let t = length x / k in lows ++ take (k * (approx_length t - fixed t)) a'
 
-abbrev pub allHighs : ℕ → List ℕ → List ℕ → List ℕ → List ℕ
-allHighs k x highs d' = let t = length x / k in highs ++ take (k * (detailsLength t - fixed t)) d'
+abbrev pub all_highs : ℕ → List ℕ → List ℕ → List ℕ → List ℕ
+all_highs k x highs d' = let t = length x / k in highs ++ take (k * (details_length t - fixed t)) d'
 
 -- ---- "a state no calls could have left"
 
@@ -79,4 +79,4 @@ pub record Served (k : ℕ) (ys : List (List ℕ)) : Type 0 where
   pub calls : AllDone k [] fresh ys lows highs state
   pub fed : Fed k (flatten ys) lows highs state
   pub ends : {a d : List ℕ} {r : Answer} {b' a' d' : List ℕ} → 3 ≤ length (flatten ys) / k → EnoughWords k 1 a → EnoughWords k 1 d → Finish k state a d r b' a' d'
-      → (r ≡ say 0 0 0) × (allLows k (flatten ys) lows a' ≡ low k (flatten ys)) × (allHighs k (flatten ys) highs d' ≡ high k (flatten ys)) × (b' ≡ fresh)
+      → (r ≡ say 0 0 0) × (all_lows k (flatten ys) lows a' ≡ low k (flatten ys)) × (all_highs k (flatten ys) highs d' ≡ high k (flatten ys)) × (b' ≡ fresh)

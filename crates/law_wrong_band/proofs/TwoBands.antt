@@ -31,37 +31,37 @@ differs x y h = eqb-false x y (not-true (eqb x y) h)
 pub quiet : {A : Type 0} (n : ℕ) (m : List Check) → Without n m → says n (Done 0 0) ≡ false → says n (first_of m (Done 0 0)) ≡ true → A
 quiet n m o z h = off z (passed-before n m [] (Done 0 0) o (ap (λ (l : List Check). says n (first_of l (Done 0 0))) (append-nil m) ∙ h)).1
 
--- a level has a approximations and d details where `rightA` and `rightD` are right
-abbrev pub bands : (a rightA d rightD : ℕ) (p q : ℕ × ℕ) → List Check
-bands a rightA d rightD p q = (not (eqb a rightA), ApproxSizeNotMatches p.0 p.1) ∷ (not (eqb d rightD), DetailsSizeNotMatches q.0 q.1) ∷ []
+-- a level has a approximations and d details where `right_a` and `right_d` are right
+abbrev pub bands : (a right_a d right_d : ℕ) (p q : ℕ × ℕ) → List Check
+bands a right_a d right_d p q = (not (eqb a right_a), ApproxSizeNotMatches p.0 p.1) ∷ (not (eqb d right_d), DetailsSizeNotMatches q.0 q.1) ∷ []
 
 -- l is what is looked at before them
-pub named : {Before : Type 0} (l m : List Check) (a rightA d rightD : ℕ) (p q : ℕ × ℕ) (r : Answer) → (Before → Passing l) → r ≡ answer_of (first_of (l ++ (bands a rightA d rightD p q ++ m)) (Done 0 0))
-    → Named Before a rightA d rightD p q r
-named l m a rightA d rightD p q r to e =
-    let rest = bands a rightA d rightD p q ++ m in
+pub named : {Before : Type 0} (l m : List Check) (a right_a d right_d : ℕ) (p q : ℕ × ℕ) (r : Answer) → (Before → Passing l) → r ≡ answer_of (first_of (l ++ (bands a right_a d right_d p q ++ m)) (Done 0 0))
+    → Named Before a right_a d right_d p q r
+named l m a right_a d right_d p q r to e =
+    let rest = bands a right_a d right_d p q ++ m in
     record {
-      approx-wrong = λ b h. e ∙ ap answer_of (pass_on l rest (Done 0 0) (to b) ∙ sym (stop _ (other a rightA h) refl));
-      details-wrong = λ b g h. e ∙ ap answer_of (pass_on l rest (Done 0 0) (to b) ∙ sym (by _ (same a rightA g) (stop _ (other d rightD h) refl)));
+      approx-wrong = λ b h. e ∙ ap answer_of (pass_on l rest (Done 0 0) (to b) ∙ sym (stop _ (other a right_a h) refl));
+      details-wrong = λ b g h. e ∙ ap answer_of (pass_on l rest (Done 0 0) (to b) ∙ sym (by _ (same a right_a g) (stop _ (other d right_d h) refl)));
     }
 
 -- and m after them; no check of either says 2 or 17
-pub names : {Before : Type 0} (l m : List Check) (a rightA d rightD : ℕ) (p q : ℕ × ℕ) (r : Answer) → (Before → Passing l) → (Passing l → Before) → Without 2 l → Without 17 l → Without 2 m → Without 17 m
-    → r ≡ answer_of (first_of (l ++ (bands a rightA d rightD p q ++ m)) (Done 0 0)) → Names Before a rightA d rightD p q r
-names l m a rightA d rightD p q r to from l2 l17 m2 m17 e =
-    let rest = bands a rightA d rightD p q ++ m in
+pub names : {Before : Type 0} (l m : List Check) (a right_a d right_d : ℕ) (p q : ℕ × ℕ) (r : Answer) → (Before → Passing l) → (Passing l → Before) → Without 2 l → Without 17 l → Without 2 m → Without 17 m
+    → r ≡ answer_of (first_of (l ++ (bands a right_a d right_d p q ++ m)) (Done 0 0)) → Names Before a right_a d right_d p q r
+names l m a right_a d right_d p q r to from l2 l17 m2 m17 e =
+    let rest = bands a right_a d right_d p q ++ m in
     let s = first_of (l ++ rest) (Done 0 0) in
     let two = ApproxSizeNotMatches p.0 p.1 in
     let seventeen = DetailsSizeNotMatches q.0 q.1 in
     record {
-      wrong = named l m a rightA d rightD p q r to e;
+      wrong = named l m a right_a d right_d p q r to e;
       says_two = λ h.
           let o = passed-before 2 l rest (Done 0 0) l2 (said-number 2 s r e h) in
-          (from o.0, ⊎_elim (λ t. differs a rightA t.0) (λ f. ⊎_elim (λ t. off refl t.2) (λ t. quiet 2 m m2 refl t.2) f) (either 2 (not (eqb a rightA)) (not (eqb d rightD)) two seventeen m (Done 0 0) o.1));
+          (from o.0, ⊎_elim (λ t. differs a right_a t.0) (λ f. ⊎_elim (λ t. off refl t.2) (λ t. quiet 2 m m2 refl t.2) f) (either 2 (not (eqb a right_a)) (not (eqb d right_d)) two seventeen m (Done 0 0) o.1));
       says-seventeen = λ h.
           let o = passed-before 17 l rest (Done 0 0) l17 (said-number 17 s r e h) in
-          let f : (a ≡ rightA) × (d ≡ rightD → ⊥) =
-          ⊎_elim (λ t. off refl t.1) (λ f. ⊎_elim (λ t. (right a rightA t.0, differs d rightD t.1)) (λ t. quiet 17 m m17 refl t.2) f)
-          (either 17 (not (eqb a rightA)) (not (eqb d rightD)) two seventeen m (Done 0 0) o.1) in
+          let f : (a ≡ right_a) × (d ≡ right_d → ⊥) =
+          ⊎_elim (λ t. off refl t.1) (λ f. ⊎_elim (λ t. (right a right_a t.0, differs d right_d t.1)) (λ t. quiet 17 m m17 refl t.2) f)
+          (either 17 (not (eqb a right_a)) (not (eqb d right_d)) two seventeen m (Done 0 0) o.1) in
           (from o.0, f.0, f.1);
     }

@@ -11,35 +11,35 @@ use Rattle.base_answers.specs.declared.err.Refusal.TheVariants.{Done}
 use Rattle.base_answers.specs.Answers.{done}
 use Rattle.base_answers.proofs.Passed.{Passing, passing, both-refuse, both-pass, whole, roomy, right}
 use Rattle.base_lengths.specs.declared.Wavelet.{Wavelet}
-use Rattle.base_lengths.specs.Lengths.{mostSamples, expectedApprox, expectedDetails}
+use Rattle.base_lengths.specs.Lengths.{most_samples, expected_approx, expected_details}
 use Rattle.base_lengths.proofs.OneLevel.{expected}
 use Rattle.base_samples.specs.Words.{words_of}
 use Rattle.base_samples.proofs.Words.{length-words}
 use Rattle.levels_filter.specs.declared.filter.Filter.{Filter}
-use Rattle.levels_filter.specs.Filters.{width_of, waveletOf}
-use Rattle.levels_filter.specs.Calls.{roomChecks}
-use Rattle.levels_filter.specs.Backward.{total, bandChecks, wholeChecks, backChecks, sayBack, Fits, Rising}
+use Rattle.levels_filter.specs.Filters.{width_of, wavelet_of}
+use Rattle.levels_filter.specs.Calls.{room_checks}
+use Rattle.levels_filter.specs.Backward.{total, band_checks, whole_checks, back_checks, say_back, Fits, Rising}
 use Rattle.levels_filter.proofs.LevelsBack.{bands-refuse}
 
 -- bands that pass the checks are those of levels
-pub bands-fit : (w : Wavelet) (a : ℕ) (ms : List ℕ) → Passing (bandChecks w a ms) → Fits w a ms
-unfolding bandChecks Fits
+pub bands-fit : (w : Wavelet) (a : ℕ) (ms : List ℕ) → Passing (band_checks w a ms) → Fits w a ms
+unfolding band_checks Fits
 bands-fit w a [] h = tt
 bands-fit w a (m ∷ ms) h =
-    let e = expected w a m (a + m) refl (right a (expectedApprox (a + m)) h.0) (right m (expectedDetails w (a + m)) h.1.0) in
+    let e = expected w a m (a + m) refl (right a (expected_approx (a + m)) h.0) (right m (expected_details w (a + m)) h.1.0) in
     (e.0, e.1, e.2, bands-fit w (a + m) ms h.1.1)
 
 -- what the checks leave: the levels rise, there is a level, and the output is as long as the bands
-pub back-ready : (f : Filter) (a d : ℕ) (ls : List ℕ) (o u v : ℕ) → done (sayBack f a d ls o u v) ≡ true
+pub back-ready : (f : Filter) (a d : ℕ) (ls : List ℕ) (o u v : ℕ) → done (say_back f a d ls o u v) ≡ true
     → Rising f (a / width_of f) (words_of 4 ls) d u v o × (0 < length ls / 4) × (a ≡ width_of f * (a / width_of f)) × (o ≡ a + d)
-unfolding sayBack
+unfolding say_back
 back-ready f a d ls o u v h =
     let k = width_of f in
     let ms = words_of 4 ls in
-    let bands = bandChecks (waveletOf f) (a / k) ms in
-    let room = roomChecks (a / k + d / k) (o / k) (u / k) (v / k) in
-    let p = passing (wholeChecks k a d (length ls) o u v ++ backChecks f (a / k) (d / k) ms (o / k) (u / k) (v / k)) (Done 0 0)
-    (refl, (refl, (refl, (refl, (refl, (refl, (refl, (refl, (refl, (refl, (refl, (refl, (refl, both-refuse bands room (bands-refuse (waveletOf f) (a / k) ms) (refl, (refl, (refl, tt)))))))))))))))) h in
+    let bands = band_checks (wavelet_of f) (a / k) ms in
+    let room = room_checks (a / k + d / k) (o / k) (u / k) (v / k) in
+    let p = passing (whole_checks k a d (length ls) o u v ++ back_checks f (a / k) (d / k) ms (o / k) (u / k) (v / k)) (Done 0 0)
+    (refl, (refl, (refl, (refl, (refl, (refl, (refl, (refl, (refl, (refl, (refl, (refl, (refl, both-refuse bands room (bands-refuse (wavelet_of f) (a / k) ms) (refl, (refl, (refl, tt)))))))))))))))) h in
     let q = p.1.1.1.1.1.1 in
     let b = both-pass bands room q.1.1.1.1.1.1.1 in
     let ea = whole k a p.0 in
@@ -54,8 +54,8 @@ back-ready f a d ls o u v h =
     let lv = mul-le-mul_left k (roomy (v / k) (a / k + d / k) b.1.1.1.0) in
     let none = eqb-false (length ms) 0 q.1.1.1.1.0 in (
       record {
-        fits = bands-fit (waveletOf f) (a / k) ms b.0;
-        short = omega (arith, all, en, roomy mostSamples (o / k) q.0);
+        fits = bands-fit (wavelet_of f) (a / k) ms b.0;
+        short = omega (arith, all, en, roomy most_samples (o / k) q.0);
         details = ed ∙ ap (λ n. k * n) (sym es);
         first = rw all (omega (arith, lu, eu));
         second = rw all (omega (arith, lv, ev));

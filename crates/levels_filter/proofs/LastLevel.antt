@@ -13,23 +13,23 @@ use Rattle.base_answers.specs.Answers.{answer_of, done}
 use Rattle.base_answers.specs.Checks.{ragged, Spared}
 use Rattle.base_answers.proofs.Passed.{passing, whole, roomy, right}
 use Rattle.base_answers.proofs.Endings.{left-done, left-refused, spared, untouched}
-use Rattle.base_lengths.specs.Lengths.{mostSamples, approxLength, detailsLength}
-use Rattle.base_lengths.specs.Levels.{afterLevels, countAt, depth_of, levelsOf}
+use Rattle.base_lengths.specs.Lengths.{most_samples, approx_length, details_length}
+use Rattle.base_lengths.specs.Levels.{after_levels, count_at, depth_of, levels_of}
 use Rattle.levels_filter.specs.declared.filter.Filter.{Filter}
-use Rattle.levels_filter.specs.Filters.{width_of, waveletOf, low_of, high_of}
-use Rattle.levels_filter.specs.Pyramids.{approxAt}
-use Rattle.levels_filter.specs.Calls.{BandsOf, Parted, dwtChecks, sayDwt, Dwt, Ready}
+use Rattle.levels_filter.specs.Filters.{width_of, wavelet_of, low_of, high_of}
+use Rattle.levels_filter.specs.Pyramids.{approx_at}
+use Rattle.levels_filter.specs.Calls.{BandsOf, Parted, dwt_checks, say_dwt, Dwt, Ready}
 use Rattle.levels_filter.proofs.Multi.{levels-pos}
 use Rattle.base_lengths.proofs.Counts.{after_last}
 
 -- what the checks leave: the levels run, and the bands have the lengths of the last level
-pub dwt-ready : (f : Filter) (l x a d u v : ℕ) → done (sayDwt f l x a d u v) ≡ true
-    → let m = countAt (levelsOf l - 1) (x / width_of f) in Ready f (levelsOf l) (x / width_of f) x u v × BandsOf f m a d
-unfolding sayDwt
+pub dwt-ready : (f : Filter) (l x a d u v : ℕ) → done (say_dwt f l x a d u v) ≡ true
+    → let m = count_at (levels_of l - 1) (x / width_of f) in Ready f (levels_of l) (x / width_of f) x u v × BandsOf f m a d
+unfolding say_dwt
 dwt-ready f l x a d u v h =
     let k = width_of f in
-    let m = countAt (levelsOf l - 1) (x / k) in
-    let p = passing (ragged k x ∷ ragged k a ∷ ragged k d ∷ ragged k u ∷ ragged k v ∷ dwtChecks f l (x / k) (a / k) (d / k) (u / k) (v / k)) (Done 0 0)
+    let m = count_at (levels_of l - 1) (x / k) in
+    let p = passing (ragged k x ∷ ragged k a ∷ ragged k d ∷ ragged k u ∷ ragged k v ∷ dwt_checks f l (x / k) (a / k) (d / k) (u / k) (v / k)) (Done 0 0)
     (refl, (refl, (refl, (refl, (refl, (refl, (refl, (refl, (refl, (refl, (refl, tt))))))))))) h in
     let q = p.1.1.1.1.1 in
     let eu = whole k u p.1.1.1.0 in
@@ -38,24 +38,24 @@ dwt-ready f l x a d u v h =
     let lv = mul-le-mul_left k (roomy (v / k) (x / k) q.1.1.1.1.1.0) in (
       record {
         some = levels-pos l;
-        deep = roomy (depth_of (waveletOf f) (x / k)) (levelsOf l) q.1.0;
-        short = roomy mostSamples (x / k) q.0;
+        deep = roomy (depth_of (wavelet_of f) (x / k)) (levels_of l) q.1.0;
+        short = roomy most_samples (x / k) q.0;
         whole = whole k x p.0;
         first = omega (arith, eu, lu);
         second = omega (arith, ev, lv);
       },
       (
-        whole k a p.1.0 ∙ ap (λ n. k * n) (right (a / k) (approxLength m) q.1.1.0),
-        whole k d p.1.1.0 ∙ ap (λ n. k * n) (right (d / k) (detailsLength m) q.1.1.1.0),
+        whole k a p.1.0 ∙ ap (λ n. k * n) (right (a / k) (approx_length m) q.1.1.0),
+        whole k d p.1.1.0 ∙ ap (λ n. k * n) (right (d / k) (details_length m) q.1.1.1.0),
       ),
     )
 
 module _ (f : Filter) (l : ℕ) (x a d u v : List ℕ) where
   abbrev said : Refusal
-  said = sayDwt f l (length x) (length a) (length d) (length u) (length v)
+  said = say_dwt f l (length x) (length a) (length d) (length u) (length v)
 
   abbrev input : List ℕ
-  input = approxAt f (levelsOf l - 1) x
+  input = approx_at f (levels_of l - 1) x
 
   -- s is what the checks said, r its numbers, and n the number of samples
   pub dwt-done : (s : Refusal) (r : Answer) (n : ℕ) {a' d' : List ℕ} (u' v' : List ℕ) → s ≡ said → r ≡ answer_of s → done s ≡ true → width_of f * n ≡ length x
@@ -88,18 +88,18 @@ module _ (f : Filter) (l : ℕ) (x a d u v : List ℕ) where
       (p.answer ∙ sym q.answer, p.approx ∙ sym q.approx, p.details ∙ sym q.details, p.first ∙ sym q.first, p.second ∙ sym q.second)
 
   -- a done call gives the approximations of level l, and the details that were parted from them
-  pub dwt-gives : {r : Answer} {a' d' u' v' : List ℕ} → Dwt f l x a d u v r a' d' u' v' → done said ≡ true → (a' ≡ approxAt f (levelsOf l) x) × (d' ≡ high_of f input)
+  pub dwt-gives : {r : Answer} {a' d' u' v' : List ℕ} → Dwt f l x a d u v r a' d' u' v' → done said ≡ true → (a' ≡ approx_at f (levels_of l) x) × (d' ≡ high_of f input)
   dwt-gives m z =
-      let e : suc (levelsOf l - 1) ≡ levelsOf l = omega (arith, levels-pos l) in (
-        m.approx ∙ left-done said (low_of f input) a z ∙ sym (after_last (low_of f) (levelsOf l - 1) x) ∙ ap (λ (i : ℕ). approxAt f i x) e,
+      let e : suc (levels_of l - 1) ≡ levels_of l = omega (arith, levels-pos l) in (
+        m.approx ∙ left-done said (low_of f input) a z ∙ sym (after_last (low_of f) (levels_of l - 1) x) ∙ ap (λ (i : ℕ). approx_at f i x) e,
         m.details ∙ left-done said (high_of f input) d z,
       )
 
 -- the bands of what no level leaves, and of what the levels below one leave
-pub parted-none : (f : Filter) {l : ℕ} (x : List ℕ) {a d : List ℕ} → l ≡ 0 → Parted f x a d → Parted f (approxAt f l x) a d
-unfolding afterLevels
+pub parted-none : (f : Filter) {l : ℕ} (x : List ℕ) {a d : List ℕ} → l ≡ 0 → Parted f x a d → Parted f (approx_at f l x) a d
+unfolding after_levels
 parted-none f x e p = rw e p
 
-pub parted-more : (f : Filter) {l m : ℕ} (x : List ℕ) {y a d : List ℕ} → l ≡ suc m → y ≡ low_of f x → Parted f (approxAt f m y) a d → Parted f (approxAt f l x) a d
-unfolding afterLevels
+pub parted-more : (f : Filter) {l m : ℕ} (x : List ℕ) {y a d : List ℕ} → l ≡ suc m → y ≡ low_of f x → Parted f (approx_at f m y) a d → Parted f (approx_at f l x) a d
+unfolding after_levels
 parted-more f x e h p = rw e (rw h at p)

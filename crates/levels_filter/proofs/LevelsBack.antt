@@ -15,10 +15,10 @@ use Rattle.base_answers.proofs.Passed.{Refusing, then-rest, say-stop}
 use Rattle.base_lengths.specs.declared.Wavelet.{Wavelet}
 use Rattle.base_lengths.specs.Calls.{Level}
 use Rattle.levels_filter.specs.declared.filter.Filter.{Filter}
-use Rattle.levels_filter.specs.Filters.{width_of, waveletOf, backOf}
-use Rattle.levels_filter.specs.Pyramids.{samplesOf}
-use Rattle.base_lengths.specs.Calls.{inverseBands}
-use Rattle.levels_filter.specs.Backward.{total, bandChecks, Fits, Rising}
+use Rattle.levels_filter.specs.Filters.{width_of, wavelet_of, back_of}
+use Rattle.levels_filter.specs.Pyramids.{samples_of}
+use Rattle.base_lengths.specs.Calls.{inverse_bands}
+use Rattle.levels_filter.specs.Backward.{total, band_checks, Fits, Rising}
 
 -- length i and those after it
 pub at_length : (ms : List ℕ) (i m : ℕ) → i < length ms → m ≡ get_or ms i 0 → drop i ms ≡ m ∷ drop (i + 1) ms
@@ -35,27 +35,27 @@ unfolding total
 total-end ms i h = ap total (drop_of_length-le ms h)
 
 -- r is what the checks of length i say: they pass, or they refuse
-pub bands-more : (w : Wavelet) (n : ℕ) (ms : List ℕ) (i m : ℕ) {r : Refusal} → i < length ms → m ≡ get_or ms i 0 → r ≡ first_of (inverseBands w (n + m) n m) (Done 0 0) → done r ≡ true
-    → first_of (bandChecks w n (drop i ms)) (Done 0 0) ≡ first_of (bandChecks w (n + m) (drop (i + 1) ms)) (Done 0 0)
-unfolding bandChecks
+pub bands-more : (w : Wavelet) (n : ℕ) (ms : List ℕ) (i m : ℕ) {r : Refusal} → i < length ms → m ≡ get_or ms i 0 → r ≡ first_of (inverse_bands w (n + m) n m) (Done 0 0) → done r ≡ true
+    → first_of (band_checks w n (drop i ms)) (Done 0 0) ≡ first_of (band_checks w (n + m) (drop (i + 1) ms)) (Done 0 0)
+unfolding band_checks
 bands-more w n ms i m h e q t =
-    ap (λ (l : List ℕ). first_of (bandChecks w n l) (Done 0 0)) (at_length ms i m h e)
-    ∙ then-rest (inverseBands w (n + m) n m) (bandChecks w (n + m) (drop (i + 1) ms)) (Done 0 0) (refl, (refl, tt)) (sym (ap done q) ∙ t)
+    ap (λ (l : List ℕ). first_of (band_checks w n l) (Done 0 0)) (at_length ms i m h e)
+    ∙ then-rest (inverse_bands w (n + m) n m) (band_checks w (n + m) (drop (i + 1) ms)) (Done 0 0) (refl, (refl, tt)) (sym (ap done q) ∙ t)
 
-pub bands-stop : (w : Wavelet) (n : ℕ) (ms : List ℕ) (i m : ℕ) {r : Refusal} → i < length ms → m ≡ get_or ms i 0 → r ≡ first_of (inverseBands w (n + m) n m) (Done 0 0) → done r ≡ false
-    → r ≡ first_of (bandChecks w n (drop i ms)) (Done 0 0)
-unfolding bandChecks
+pub bands-stop : (w : Wavelet) (n : ℕ) (ms : List ℕ) (i m : ℕ) {r : Refusal} → i < length ms → m ≡ get_or ms i 0 → r ≡ first_of (inverse_bands w (n + m) n m) (Done 0 0) → done r ≡ false
+    → r ≡ first_of (band_checks w n (drop i ms)) (Done 0 0)
+unfolding band_checks
 bands-stop w n ms i m h e q t =
-    say-stop (inverseBands w (n + m) n m) (bandChecks w (n + m) (drop (i + 1) ms)) (Done 0 0) q t
-    ∙ sym (ap (λ (l : List ℕ). first_of (bandChecks w n l) (Done 0 0)) (at_length ms i m h e))
+    say-stop (inverse_bands w (n + m) n m) (band_checks w (n + m) (drop (i + 1) ms)) (Done 0 0) q t
+    ∙ sym (ap (λ (l : List ℕ). first_of (band_checks w n l) (Done 0 0)) (at_length ms i m h e))
 
-pub bands-end : (w : Wavelet) (n : ℕ) (ms : List ℕ) (i : ℕ) → length ms ≤ i → first_of (bandChecks w n (drop i ms)) (Done 0 0) ≡ Done 0 0
-unfolding bandChecks
-bands-end w n ms i h = ap (λ (l : List ℕ). first_of (bandChecks w n l) (Done 0 0)) (drop_of_length-le ms h)
+pub bands-end : (w : Wavelet) (n : ℕ) (ms : List ℕ) (i : ℕ) → length ms ≤ i → first_of (band_checks w n (drop i ms)) (Done 0 0) ≡ Done 0 0
+unfolding band_checks
+bands-end w n ms i h = ap (λ (l : List ℕ). first_of (band_checks w n l) (Done 0 0)) (drop_of_length-le ms h)
 
 -- each of these checks refuses, where it does, with what no done call says
-pub bands-refuse : (w : Wavelet) (n : ℕ) (ms : List ℕ) → Refusing (bandChecks w n ms)
-unfolding bandChecks
+pub bands-refuse : (w : Wavelet) (n : ℕ) (ms : List ℕ) → Refusing (band_checks w n ms)
+unfolding band_checks
 bands-refuse w n [] = tt
 bands-refuse w n (m ∷ ms) = (refl, (refl, bands-refuse w (n + m) ms))
 
@@ -74,7 +74,7 @@ module _ {f : Filter} {a m : ℕ} {ms : List ℕ} {d u v o : ℕ} (r : Rising f 
   all = omega arith
 
   -- its lengths are those of a level
-  pub rise-level : Level (waveletOf f) (width_of f) (a + m) (width_of f * (a + m)) (width_of f * a) (width_of f * m)
+  pub rise-level : Level (wavelet_of f) (width_of f) (a + m) (width_of f * (a + m)) (width_of f * a) (width_of f * m)
   unfolding Fits
   rise-level =
       let p = r.fits in
@@ -113,13 +113,13 @@ module _ {f : Filter} {a m : ℕ} {ms : List ℕ} {d u v o : ℕ} (r : Rising f 
 
 -- the samples of lengths l, of which the first is m
 module _ (f : Filter) (a d l : List ℕ) (m : ℕ) (ms : List ℕ) (e : l ≡ m ∷ ms) where
-  pub samples-next : samplesOf f a d l ≡ samplesOf f (backOf f a (take (width_of f * m) d)) (drop (width_of f * m) d) ms
-  unfolding samplesOf
-  samples-next = ap (samplesOf f a d) e
+  pub samples-next : samples_of f a d l ≡ samples_of f (back_of f a (take (width_of f * m) d)) (drop (width_of f * m) d) ms
+  unfolding samples_of
+  samples-next = ap (samples_of f a d) e
 
-  pub samples-last : ms ≡ [] → length d ≡ width_of f * m → samplesOf f a d l ≡ backOf f a d
-  unfolding samplesOf
+  pub samples-last : ms ≡ [] → length d ≡ width_of f * m → samples_of f a d l ≡ back_of f a d
+  unfolding samples_of
   samples-last z h =
       samples-next
-      ∙ ap (samplesOf f (backOf f a (take (width_of f * m) d)) (drop (width_of f * m) d)) z
-      ∙ ap (backOf f a) (take_all (width_of f * m) d (omega arith))
+      ∙ ap (samples_of f (back_of f a (take (width_of f * m) d)) (drop (width_of f * m) d)) z
+      ∙ ap (back_of f a) (take_all (width_of f * m) d (omega arith))

@@ -8,21 +8,21 @@ use native.Mathlib.Omega.{arith}
 use lib.Dec.{leb, eqb, eqb-suc-zero}
 use Rattle.base_answers.specs.declared.err.Refusal.TheVariants.{Done, BufferWasTooSmallForLevel}
 use Rattle.base_answers.specs.Answers.{says, done}
-use Rattle.base_answers.specs.Checks.{ragged, twoAreas}
+use Rattle.base_answers.specs.Checks.{ragged, two_areas}
 use Rattle.base_answers.proofs.Passed.{Refusing, Passing, passing, whole, roomy, right}
-use Rattle.base_lengths.specs.Lengths.{mostSamples}
-use Rattle.base_lengths.specs.Levels.{depth_of, levelsOf}
+use Rattle.base_lengths.specs.Lengths.{most_samples}
+use Rattle.base_lengths.specs.Levels.{depth_of, levels_of}
 use Rattle.levels_filter.specs.declared.filter.Filter.{Filter}
 use Rattle.levels_filter.specs.declared.filter.Filter.TheVariants.{Cdf53I8, Cdf53I16, Cdf53I32, Cdf53F32, Cdf53F64, Cdf97F32, Cdf97F64}
-use Rattle.levels_filter.specs.Filters.{width_of, waveletOf}
-use Rattle.levels_filter.specs.Calls.{tooShort, depthChecks, multiChecks, sayMulti, Ready}
+use Rattle.levels_filter.specs.Filters.{width_of, wavelet_of}
+use Rattle.levels_filter.specs.Calls.{too_short, depth_checks, multi_checks, say_multi, Ready}
 
-pub levels-pos : (l : ℕ) → 0 < levelsOf l
+pub levels-pos : (l : ℕ) → 0 < levels_of l
 levels-pos zero = omega arith
 levels-pos (suc l) = simp (eqb-suc-zero l) (omega arith)
 
 -- a depth below the levels is refused with 1 or 4, so with no number i that is neither
-short-says : (i : ℕ) → eqb 1 i ≡ false → eqb 4 i ≡ false → (f : Filter) (n : ℕ) → says i (tooShort f n) ≡ false
+short-says : (i : ℕ) → eqb 1 i ≡ false → eqb 4 i ≡ false → (f : Filter) (n : ℕ) → says i (too_short f n) ≡ false
 short-says i p q Cdf53I8 n = p
 short-says i p q Cdf53I16 n = p
 short-says i p q Cdf53I32 n = p
@@ -31,20 +31,20 @@ short-says i p q Cdf53F64 n = q
 short-says i p q Cdf97F32 n = q
 short-says i p q Cdf97F64 n = q
 
-pub shallow-says : (i : ℕ) → eqb 1 i ≡ false → eqb 4 i ≡ false → (f : Filter) (n : ℕ) (t : Bool) → says i (cond t (tooShort f n) BufferWasTooSmallForLevel) ≡ false
+pub shallow-says : (i : ℕ) → eqb 1 i ≡ false → eqb 4 i ≡ false → (f : Filter) (n : ℕ) (t : Bool) → says i (cond t (too_short f n) BufferWasTooSmallForLevel) ≡ false
 shallow-says i p q f n true = short-says i p q f n
 shallow-says i p q f n false = q
 
-pub shallow-refused : (f : Filter) (n : ℕ) (t : Bool) → done (cond t (tooShort f n) BufferWasTooSmallForLevel) ≡ false
+pub shallow-refused : (f : Filter) (n : ℕ) (t : Bool) → done (cond t (too_short f n) BufferWasTooSmallForLevel) ≡ false
 shallow-refused f n t = shallow-says 0 refl refl f n t
 
 -- the checks of the levels refuse with what no done call says
-pub depth-refuse : (f : Filter) (l n : ℕ) → Refusing (depthChecks f l n)
+pub depth-refuse : (f : Filter) (l n : ℕ) → Refusing (depth_checks f l n)
 depth-refuse f l n = (refl, (shallow-refused f n (leb l 1), tt))
 
 -- what checks that pass leave: x, u and v bytes are whole samples, the levels run, and two areas have room
-pub checked-ready : (f : Filter) (l x u v : ℕ) → let k = width_of f in Passing (ragged k x ∷ ragged k u ∷ ragged k v ∷ []) → Passing (depthChecks f l (x / k)) → Passing (twoAreas (u / k) (v / k) (x / k))
-    → Ready f (levelsOf l) (x / k) x u v
+pub checked-ready : (f : Filter) (l x u v : ℕ) → let k = width_of f in Passing (ragged k x ∷ ragged k u ∷ ragged k v ∷ []) → Passing (depth_checks f l (x / k)) → Passing (two_areas (u / k) (v / k) (x / k))
+    → Ready f (levels_of l) (x / k) x u v
 checked-ready f l x u v p q r =
     let k = width_of f in
     let eu = whole k u p.1.0 in
@@ -53,19 +53,19 @@ checked-ready f l x u v p q r =
     let lv = mul-le-mul_left k (roomy (v / k) (x / k) r.1.0) in
     record {
       some = levels-pos l;
-      deep = roomy (depth_of (waveletOf f) (x / k)) (levelsOf l) q.1.0;
-      short = roomy mostSamples (x / k) q.0;
+      deep = roomy (depth_of (wavelet_of f) (x / k)) (levels_of l) q.1.0;
+      short = roomy most_samples (x / k) q.0;
       whole = whole k x p.0;
       first = omega arith;
       second = omega arith;
     }
 
 -- of `multi_dwt`, whose output has its length too
-pub multi-ready : (f : Filter) (l x o u v : ℕ) → done (sayMulti f l x o u v) ≡ true → Ready f (levelsOf l) (x / width_of f) x u v × (o ≡ width_of f * (x / width_of f))
-unfolding sayMulti
+pub multi-ready : (f : Filter) (l x o u v : ℕ) → done (say_multi f l x o u v) ≡ true → Ready f (levels_of l) (x / width_of f) x u v × (o ≡ width_of f * (x / width_of f))
+unfolding say_multi
 multi-ready f l x o u v h =
     let k = width_of f in
-    let p = passing (ragged k x ∷ ragged k o ∷ ragged k u ∷ ragged k v ∷ multiChecks f l (x / k) (o / k) (u / k) (v / k)) (Done 0 0)
+    let p = passing (ragged k x ∷ ragged k o ∷ ragged k u ∷ ragged k v ∷ multi_checks f l (x / k) (o / k) (u / k) (v / k)) (Done 0 0)
     (refl, (refl, (refl, (refl, (refl, (shallow-refused f (x / k) (leb l 1), (refl, (refl, (refl, tt))))))))) h in
     let q = p.1.1.1.1 in (
       checked-ready f l x u v (p.0, (p.1.1.0, (p.1.1.1.0, tt))) (q.0, (q.1.0, tt)) q.1.1.1,

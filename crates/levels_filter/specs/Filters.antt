@@ -19,14 +19,14 @@ width_of Cdf97F32 = 4
 width_of Cdf97F64 = 8
 
 -- its length rules
-abbrev pub waveletOf : Filter → Wavelet
-waveletOf Cdf53I8 = Cdf53
-waveletOf Cdf53I16 = Cdf53
-waveletOf Cdf53I32 = Cdf53
-waveletOf Cdf53F32 = Cdf53
-waveletOf Cdf53F64 = Cdf53
-waveletOf Cdf97F32 = Cdf97
-waveletOf Cdf97F64 = Cdf97
+abbrev pub wavelet_of : Filter → Wavelet
+wavelet_of Cdf53I8 = Cdf53
+wavelet_of Cdf53I16 = Cdf53
+wavelet_of Cdf53I32 = Cdf53
+wavelet_of Cdf53F32 = Cdf53
+wavelet_of Cdf53F64 = Cdf53
+wavelet_of Cdf97F32 = Cdf97
+wavelet_of Cdf97F64 = Cdf97
 
 -- the approximations and the details of one level, and the samples of two bands
 abbrev pub low_of : Filter → List ℕ → List ℕ
@@ -47,14 +47,14 @@ high_of Cdf53F64 = float.high binary64 Cdf53
 high_of Cdf97F32 = float.high binary32 Cdf97
 high_of Cdf97F64 = float.high binary64 Cdf97
 
-abbrev pub backOf : Filter → List ℕ → List ℕ → List ℕ
-backOf Cdf53I8 = integer.back 1
-backOf Cdf53I16 = integer.back 2
-backOf Cdf53I32 = integer.back 4
-backOf Cdf53F32 = float.back binary32 Cdf53
-backOf Cdf53F64 = float.back binary64 Cdf53
-backOf Cdf97F32 = float.back binary32 Cdf97
-backOf Cdf97F64 = float.back binary64 Cdf97
+abbrev pub back_of : Filter → List ℕ → List ℕ → List ℕ
+back_of Cdf53I8 = integer.back 1
+back_of Cdf53I16 = integer.back 2
+back_of Cdf53I32 = integer.back 4
+back_of Cdf53F32 = float.back binary32 Cdf53
+back_of Cdf53F64 = float.back binary64 Cdf53
+back_of Cdf97F32 = float.back binary32 Cdf97
+back_of Cdf97F64 = float.back binary64 Cdf97
 
 -- f is a filter of integers
 abbrev pub Integers : Filter → Type 0

@@ -1,6 +1,6 @@
 // One level of any of the seven filters: the one place where a driver chooses among them.
 ghost use Rattle.std.specs.Prelude.{◌≡◌, ◌*◌, ◌<◌, ◌^◌, length};
-ghost use Rattle.levels_filter.specs.Filters.{width_of, waveletOf, low_of, backOf};
+ghost use Rattle.levels_filter.specs.Filters.{width_of, wavelet_of, low_of, back_of};
 ghost use Rattle.levels_filter.specs.Calls.{LevelOf, LowOf, Parted, OneForward, OneInverse};
 
 use base_answers::err::{Answer, is_done, numbers};
@@ -46,7 +46,7 @@ pub fn bytes_of(f: Filter, n: usize) -> usize
 
 // Its length rules.
 pub fn wavelet(f: Filter) -> Wavelet
-    ensures { result ≡ waveletOf f }
+    ensures { result ≡ wavelet_of f }
 {
     match f {
         Filter::Cdf97F32 => Wavelet::Cdf97,
@@ -112,7 +112,7 @@ pub fn approximate(f: Filter, x: &[u8], a: &mut [u8])
 // One level back of any filter, of bands that fit. The signs of the four lifting factors are changed here.
 fn inverse(f: Filter, approx: &[u8], details: &[u8], output: &mut [u8])
     requires { LevelOf f (length output.old) (length approx.now) (length details.now) }
-    ensures { output.new ≡ backOf f approx.now details.now }
+    ensures { output.new ≡ back_of f approx.now details.now }
 {
     match f {
         Filter::Cdf53I8 => integer::inverse(1, approx, details, output),

@@ -1,10 +1,10 @@
 // What the drivers share: the levels and the room that are asked for, and where bands stand and how many bytes they are.
 ghost use Rattle.std.specs.Prelude.{◌≡◌, ◌*◌, ◌<◌, ◌≤◌, ◌^◌};
 ghost use Rattle.base_answers.specs.Checks.{first_of};
-ghost use Rattle.base_lengths.specs.Lengths.{mostSamples};
+ghost use Rattle.base_lengths.specs.Lengths.{most_samples};
 ghost use Rattle.levels_filter.specs.Filters.{width_of};
-ghost use Rattle.levels_filter.specs.Pyramids.{countSize, laidSize};
-ghost use Rattle.levels_filter.specs.Calls.{tooShort, depthChecks, roomChecks, Cut};
+ghost use Rattle.levels_filter.specs.Pyramids.{count_size, laid_size};
+ghost use Rattle.levels_filter.specs.Calls.{too_short, depth_checks, room_checks, Cut};
 
 use crate::filter::{Filter, bytes_of, wavelet, width};
 use base_answers::err::Refusal;
@@ -21,7 +21,7 @@ pub fn cut_of(f: Filter, n: usize) -> usize
 
 // The bytes of a count: four, or none where bands stand without counts.
 fn count_size(counted: bool) -> usize
-    ensures { result ≡ countSize counted }
+    ensures { result ≡ count_size counted }
 {
     if counted {
         return 4;
@@ -31,15 +31,15 @@ fn count_size(counted: bool) -> usize
 
 // The bytes of all bands of n samples and so many levels, with their counts or without.
 pub fn laid_size(f: Filter, counted: bool, levels: usize, n: usize) -> usize
-    requires { (levels < 256) × (n ≤ mostSamples) }
-    ensures { result ≡ laidSize (countSize counted) (width_of f) levels n }
+    requires { (levels < 256) × (n ≤ most_samples) }
+    ensures { result ≡ laid_size (count_size counted) (width_of f) levels n }
 {
     count_size(counted) * (levels + 1) + bytes_of(f, n)
 }
 
 // An input too short for one level: the integer filters say 1, the float filters 4, as in the Rust.
 fn too_short(f: Filter, n: usize) -> Refusal
-    ensures { result ≡ tooShort f n }
+    ensures { result ≡ too_short f n }
 {
     match f {
         Filter::Cdf53I8 => Refusal::MinFilterSize(n, 3),
@@ -54,7 +54,7 @@ fn too_short(f: Filter, n: usize) -> Refusal
 
 // The levels asked for of n samples.
 pub fn check_depth(f: Filter, levels: usize, n: usize) -> Refusal
-    ensures { result ≡ first_of (depthChecks f levels n) (Refusal.Done 0 0) }
+    ensures { result ≡ first_of (depth_checks f levels n) (Refusal.Done 0 0) }
 {
     if MOST_SAMPLES < n {
         return Refusal::TooLong;
@@ -70,7 +70,7 @@ pub fn check_depth(f: Filter, levels: usize, n: usize) -> Refusal
 
 // Room for n samples: m of the output, u and v of the work areas.
 pub fn check_room(n: usize, m: usize, u: usize, v: usize) -> Refusal
-    ensures { result ≡ first_of (roomChecks n m u v) (Refusal.Done 0 0) }
+    ensures { result ≡ first_of (room_checks n m u v) (Refusal.Done 0 0) }
 {
     if m != n {
         return Refusal::OutputSizeIsNotValid(m, n);

@@ -7,20 +7,20 @@ use native.Mathlib.Omega.{arith}
 use lib.ListN.{length, take, drop, length-append}
 use lib.Seq.{take_at, drop_at, length-take-le}
 use Rattle.base_samples.specs.Le.{le_bytes, stored}
-use Rattle.base_samples.proofs.LeLaws.{length-leBytes, length-stored, stored_is}
-use Rattle.base_lengths.specs.Lengths.{approxLength, detailsLength}
+use Rattle.base_samples.proofs.LeLaws.{length-le_bytes, length-stored, stored_is}
+use Rattle.base_lengths.specs.Lengths.{approx_length, details_length}
 use Rattle.levels_filter.specs.declared.filter.Filter.{Filter}
 use Rattle.levels_filter.specs.Filters.{width_of, low_of, high_of}
-use Rattle.levels_filter.specs.Pyramids.{pyramid, countSize, laidOut, laidSize}
+use Rattle.levels_filter.specs.Pyramids.{pyramid, count_size, laid_out, laid_size}
 use Rattle.levels_filter.proofs.Cuts.{split-width, half-within}
 use Rattle.levels_filter.proofs.Lists.{put-end, later}
 use Rattle.levels_forward.specs.Levels.{LevelLaid}
 
 -- without counts the bands are the pyramid
-pub no-counts : (f : Filter) (l n : ℕ) (x : List ℕ) → laidOut f 0 l n x ≡ pyramid f l x
-unfolding laidOut pyramid le_bytes
+pub no-counts : (f : Filter) (l n : ℕ) (x : List ℕ) → laid_out f 0 l n x ≡ pyramid f l x
+unfolding laid_out pyramid le_bytes
 no-counts f zero n x = refl
-no-counts f (suc l) n x = ap (λ (r : List ℕ). r ++ high_of f x) (no-counts f l (approxLength n) (low_of f x))
+no-counts f (suc l) n x = ap (λ (r : List ℕ). r ++ high_of f x) (no-counts f l (approx_length n) (low_of f x))
 
 -- no count stored
 pub stored-none : (o : List ℕ) (p n : ℕ) → stored 0 o p n ≡ o
@@ -33,30 +33,30 @@ pub count-laid : (c : ℕ) (o o₁ y : List ℕ) (p n r : ℕ) → r ≡ p + c �
 count-laid c o o₁ y p n r e h q =
     let long : length o₁ ≡ length o = ap length q ∙ length-stored c o p n in
     let a = take p o ++ le_bytes c n in
-    let la : length a ≡ r = length-append (take p o) (le_bytes c n) ∙ omega (arith, length-take-le p o (omega arith), length-leBytes c n) in
+    let la : length a ≡ r = length-append (take p o) (le_bytes c n) ∙ omega (arith, length-take-le p o (omega arith), length-le_bytes c n) in
     let front : take r o₁ ≡ a = ap (take r) (q ∙ stored_is c o p n h ∙ sym (append_assoc (take p o) (le_bytes c n) (drop (p + c) o))) ∙ take_at a (drop (p + c) o) r la in
     put-end r o₁ y (omega arith) ∙ rw front (append_assoc (take p o) (le_bytes c n) y)
 
 -- the bytes of no level, and of a level more
-pub size_none : (b : Bool) (k l n : ℕ) → l ≡ 0 → laidSize (countSize b) k l n ≡ countSize b + k * n
+pub size_none : (b : Bool) (k l n : ℕ) → l ≡ 0 → laid_size (count_size b) k l n ≡ count_size b + k * n
 size_none true k l n e = omega arith
 size_none false k l n e = omega arith
 
-pub size-more : (b : Bool) (k l n : ℕ) → 0 < l → laidSize (countSize b) k l n ≡ laidSize (countSize b) k (l - 1) (approxLength n) + countSize b + k * detailsLength n
+pub size-more : (b : Bool) (k l n : ℕ) → 0 < l → laid_size (count_size b) k l n ≡ laid_size (count_size b) k (l - 1) (approx_length n) + count_size b + k * details_length n
 size-more true k l n z = omega (arith, split-width k n)
 size-more false k l n z = omega (arith, split-width k n)
 
 -- the bands of no level
-pub laid_none : (f : Filter) (c l n : ℕ) (x : List ℕ) → l ≡ 0 → laidOut f c l n x ≡ le_bytes c n ++ x
-unfolding laidOut
-laid_none f c l n x e = ap (λ (i : ℕ). laidOut f c i n x) e
+pub laid_none : (f : Filter) (c l n : ℕ) (x : List ℕ) → l ≡ 0 → laid_out f c l n x ≡ le_bytes c n ++ x
+unfolding laid_out
+laid_none f c l n x e = ap (λ (i : ℕ). laid_out f c i n x) e
 
 -- of a level that leaves t' and o': what the levels below it are lent, and what is there when they have put y over the front of o'
-module _ (b : Bool) {f : Filter} {l n : ℕ} {x t o : List ℕ} {r : ℕ} {t' o' : List ℕ} (h : LevelLaid f (countSize b) l n x t o r t' o') (p : 0 < l)
-    (s : length o ≡ laidSize (countSize b) (width_of f) l n) where
+module _ (b : Bool) {f : Filter} {l n : ℕ} {x t o : List ℕ} {r : ℕ} {t' o' : List ℕ} (h : LevelLaid f (count_size b) l n x t o r t' o') (p : 0 < l)
+    (s : length o ≡ laid_size (count_size b) (width_of f) l n) where
   -- the bytes of its approximations
   abbrev low_bytes : ℕ
-  low_bytes = width_of f * approxLength n
+  low_bytes = width_of f * approx_length n
 
   inside : r ≤ length o
   inside = omega (arith, h.place, s, size-more b (width_of f) l n p)
@@ -64,18 +64,18 @@ module _ (b : Bool) {f : Filter} {l n : ℕ} {x t o : List ℕ} {r : ℕ} {t' o'
   pub fits_below : length o' ≡ length o → r ≤ length o'
   fits_below e = omega (arith, inside)
 
-  pub size_below : length o' ≡ length o → length (take r o') ≡ laidSize (countSize b) (width_of f) (l - 1) (approxLength n)
+  pub size_below : length o' ≡ length o → length (take r o') ≡ laid_size (count_size b) (width_of f) (l - 1) (approx_length n)
   size_below e = length-take-le r o' (fits_below e) ∙ h.place
 
-  pub laid_more : (y : List ℕ) → y ≡ laidOut f (countSize b) (l - 1) (approxLength n) (take low_bytes t') → y ++ drop r o' ≡ laidOut f (countSize b) l n x
-  unfolding laidOut
+  pub laid_more : (y : List ℕ) → y ≡ laid_out f (count_size b) (l - 1) (approx_length n) (take low_bytes t') → y ++ drop r o' ≡ laid_out f (count_size b) l n x
+  unfolding laid_out
   laid_more y q =
-      let below = laidOut f (countSize b) (l - 1) (approxLength n) in
-      let own = le_bytes (countSize b) (detailsLength n) ++ high_of f x in
+      let below = laid_out f (count_size b) (l - 1) (approx_length n) in
+      let own = le_bytes (count_size b) (details_length n) ++ high_of f x in
       let m : suc (l - 1) ≡ l = omega arith in
       ap (λ (j : List ℕ). y ++ j) (ap (drop r) h.details ∙ drop_at (take r o) own r (length-take-le r o inside))
       ∙ ap (λ (j : List ℕ). j ++ own) (q ∙ ap below (ap (take low_bytes) h.approx ∙ take_at (low_of f x) (drop low_bytes t) low_bytes h.long))
-      ∙ ap (λ (j : ℕ). laidOut f (countSize b) j n x) m
+      ∙ ap (λ (j : ℕ). laid_out f (count_size b) j n x) m
 
   -- behind the n samples the area that it wrote to is as it was
   pub area-kept : (a : List ℕ) → drop low_bytes a ≡ drop low_bytes t' → drop (width_of f * n) a ≡ drop (width_of f * n) t

@@ -1,9 +1,9 @@
 // The bands of many levels, each level's details straight to their place: after a count each, as in a file, or without counts, as in `multi_dwt`'s output.
 ghost use Rattle.std.specs.Prelude.{◌++◌, ◌≡◌, ◌+◌, ◌*◌, ◌≤◌, length, take, drop};
 ghost use Rattle.base_samples.specs.Le.{le_bytes, stored};
-ghost use Rattle.base_lengths.specs.Lengths.{mostSamples};
+ghost use Rattle.base_lengths.specs.Lengths.{most_samples};
 ghost use Rattle.levels_filter.specs.Filters.{width_of};
-ghost use Rattle.levels_filter.specs.Pyramids.{countSize, laidOut, laidSize};
+ghost use Rattle.levels_filter.specs.Pyramids.{count_size, laid_out, laid_size};
 ghost use Rattle.levels_filter.specs.Calls.{Room, Ready};
 ghost use Rattle.levels_forward.specs.Levels.{LevelLaid};
 
@@ -14,8 +14,8 @@ use levels_filter::levels::{cut_of, laid_size};
 
 // A count of n at a place, where there are counts; the result is the place after it.
 fn put_count(counted: bool, n: usize, at: usize, out: &mut [u8]) -> usize
-    requires { (n ≤ mostSamples) × (at + countSize counted ≤ length out.old) }
-    ensures { (result ≡ at + countSize counted) × (out.new ≡ stored (countSize counted) out.old at n) }
+    requires { (n ≤ most_samples) × (at + count_size counted ≤ length out.old) }
+    ensures { (result ≡ at + count_size counted) × (out.new ≡ stored (count_size counted) out.old at n) }
 {
     if counted {
         write_u32(out, at, n as u32);
@@ -26,8 +26,8 @@ fn put_count(counted: bool, n: usize, at: usize, out: &mut [u8]) -> usize
 
 // The deepest approximations, after their count.
 fn lay_deepest(counted: bool, n: usize, x: &[u8], out: &mut [u8])
-    requires { (n ≤ mostSamples) × (length out.old ≡ countSize counted + length x.now) }
-    ensures { out.new ≡ le_bytes (countSize counted) n ++ x.now }
+    requires { (n ≤ most_samples) × (length out.old ≡ count_size counted + length x.now) }
+    ensures { out.new ≡ le_bytes (count_size counted) n ++ x.now }
 {
     let start = put_count(counted, n, 0, out);
     bytes::copy(x, &mut out[start..]);
@@ -44,8 +44,8 @@ fn lay_level(
     out: &mut [u8],
 ) -> usize
     requires ready { Ready f levels n (length x.now) (length to.old) (length to.old) }
-    requires out_len { length out.old ≡ laidSize (countSize counted) (width_of f) levels n }
-    ensures { LevelLaid f (countSize counted) levels n x.now to.old out.old result to.new out.new }
+    requires out_len { length out.old ≡ laid_size (count_size counted) (width_of f) levels n }
+    ensures { LevelLaid f (count_size counted) levels n x.now to.old out.old result to.new out.new }
 {
     let at = laid_size(f, counted, levels - 1, approx_length(n));
     let start = put_count(counted, details_length(n), at, out);
@@ -65,8 +65,8 @@ fn lay(
     out: &mut [u8],
 )
     requires room { Room f levels n (length from.old) (length to.old) }
-    requires out_len { length out.old ≡ laidSize (countSize counted) (width_of f) levels n }
-    ensures out_after { out.new ≡ laidOut f (countSize counted) levels n (take (width_of f * n) from.old) }
+    requires out_len { length out.old ≡ laid_size (count_size counted) (width_of f) levels n }
+    ensures out_after { out.new ≡ laid_out f (count_size counted) levels n (take (width_of f * n) from.old) }
     ensures from_unchanged { drop (width_of f * n) from.new ≡ drop (width_of f * n) from.old }
     ensures to_unchanged { drop (width_of f * n) to.new ≡ drop (width_of f * n) to.old }
 {
@@ -92,8 +92,8 @@ pub fn lay_bands(
     two: &mut [u8],
 )
     requires ready { Ready f levels n (length signal.now) (length one.old) (length two.old) }
-    requires out_len { length out.old ≡ laidSize (countSize counted) (width_of f) levels n }
-    ensures out_after { out.new ≡ laidOut f (countSize counted) levels n signal.now }
+    requires out_len { length out.old ≡ laid_size (count_size counted) (width_of f) levels n }
+    ensures out_after { out.new ≡ laid_out f (count_size counted) levels n signal.now }
     ensures one_unchanged { drop (width_of f * n) one.new ≡ drop (width_of f * n) one.old }
     ensures two_unchanged { drop (width_of f * n) two.new ≡ drop (width_of f * n) two.old }
 {

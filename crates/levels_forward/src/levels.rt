@@ -1,7 +1,7 @@
 // `multi_dwt`: the checks, and then the bands without counts.
 ghost use Rattle.std.specs.Prelude.{◌≡◌};
 ghost use Rattle.base_answers.specs.Checks.{first_of};
-ghost use Rattle.levels_filter.specs.Calls.{multiChecks, sayMulti, Multi};
+ghost use Rattle.levels_filter.specs.Calls.{multi_checks, say_multi, Multi};
 
 use crate::bands::lay_bands;
 use base_answers::err::{Answer, Refusal, is_done, numbers};
@@ -12,7 +12,7 @@ use levels_filter::levels::{check_depth, check_room};
 
 // By samples: n of the signal, m of the output, u and v of the work areas.
 fn multi_lengths(f: Filter, levels: usize, n: usize, m: usize, u: usize, v: usize) -> Refusal
-    ensures { result ≡ first_of (multiChecks f levels n m u v) (Refusal.Done 0 0) }
+    ensures { result ≡ first_of (multi_checks f levels n m u v) (Refusal.Done 0 0) }
 {
     let said = check_depth(f, levels, n);
     if is_done(said) {
@@ -30,7 +30,7 @@ fn check_multi(
     one: usize,
     two: usize,
 ) -> Refusal
-    ensures { result ≡ sayMulti f levels signal out one two }
+    ensures { result ≡ say_multi f levels signal out one two }
 {
     let k = width(f);
     let said = check_whole(k, signal, out, one);

@@ -3,9 +3,9 @@ ghost use Rattle.std.specs.Prelude.{[], ◌∷◌, ◌++◌, ◌≡◌, ◌+◌,
 ghost use Rattle.base_answers.specs.Checks.{first_of, ragged};
 ghost use Rattle.base_lengths.specs.Calls.{Level};
 ghost use Rattle.base_samples.specs.Words.{words_of};
-ghost use Rattle.levels_filter.specs.Filters.{width_of, waveletOf, backOf};
-ghost use Rattle.levels_filter.specs.Pyramids.{samplesOf};
-ghost use Rattle.levels_filter.specs.Backward.{mostLevels, total, sizeChecks, bandChecks, backChecks, sayBack, MultiBack, Rising};
+ghost use Rattle.levels_filter.specs.Filters.{width_of, wavelet_of, back_of};
+ghost use Rattle.levels_filter.specs.Pyramids.{samples_of};
+ghost use Rattle.levels_filter.specs.Backward.{most_levels, total, size_checks, band_checks, back_checks, say_back, MultiBack, Rising};
 
 use base_answers::err::{Answer, Refusal, is_done, numbers};
 use base_lengths::checks::{check_whole, inverse_bands};
@@ -27,7 +27,7 @@ fn length_at(lengths: &[u8], i: usize) -> usize
 
 // What the lengths add up to.
 fn total_of(lengths: &[u8]) -> usize
-    requires { length lengths.now / 4 ≤ mostLevels }
+    requires { length lengths.now / 4 ≤ most_levels }
     ensures { result ≡ total (words_of 4 lengths.now) }
 {
     let count = lengths.len() / 4;
@@ -42,7 +42,7 @@ fn total_of(lengths: &[u8]) -> usize
 
 // The limits, and that there are approximations and lengths: a and d of the bands, count lengths, n of the output.
 fn back_sizes(a: usize, d: usize, count: usize, n: usize) -> Refusal
-    ensures { result ≡ first_of (sizeChecks a d count n) (Refusal.Done 0 0) }
+    ensures { result ≡ first_of (size_checks a d count n) (Refusal.Done 0 0) }
 {
     if MOST_SAMPLES < n {
         return Refusal::TooLong;
@@ -68,7 +68,7 @@ fn back_sizes(a: usize, d: usize, count: usize, n: usize) -> Refusal
 // All levels, from the deepest: what one restores is the next one's approximations.
 fn band_lengths(w: Wavelet, a: usize, lengths: &[u8]) -> Refusal
     requires { a + total (words_of 4 lengths.now) < 2 ^ 63 }
-    ensures { result ≡ first_of (bandChecks w a (words_of 4 lengths.now)) (Refusal.Done 0 0) }
+    ensures { result ≡ first_of (band_checks w a (words_of 4 lengths.now)) (Refusal.Done 0 0) }
 {
     let count = lengths.len() / 4;
     let mut n = a;
@@ -96,7 +96,7 @@ fn back_lengths(
     u: usize,
     v: usize,
 ) -> Refusal
-    ensures { result ≡ first_of (backChecks f a d (words_of 4 lengths.now) n u v) (Refusal.Done 0 0) }
+    ensures { result ≡ first_of (back_checks f a d (words_of 4 lengths.now) n u v) (Refusal.Done 0 0) }
 {
     let said = back_sizes(a, d, lengths.len() / 4, n);
     if !is_done(said) {
@@ -140,7 +140,7 @@ fn check_back(
     one: usize,
     two: usize,
 ) -> Refusal
-    ensures { result ≡ sayBack f a d lengths.now out one two }
+    ensures { result ≡ say_back f a d lengths.now out one two }
 {
     let k = width(f);
     let read = whole_bands(k, a, d, lengths.len());
@@ -156,18 +156,18 @@ fn check_back(
 
 // One level back to n samples, into the whole of `to`. It cannot refuse: these lengths are a level's.
 pub fn restore(f: Filter, n: usize, a: &[u8], d: &[u8], to: &mut [u8])
-    requires { Level (waveletOf f) (width_of f) n (length to.old) (length a.now) (length d.now) }
-    ensures { to.new ≡ backOf f a.now d.now }
+    requires { Level (wavelet_of f) (width_of f) n (length to.old) (length a.now) (length d.now) }
+    ensures { to.new ≡ back_of f a.now d.now }
 {
     execute_inverse(f, a, d, to);
 }
 
 // One level back: of the n approximations in front of `from` and the m details in front of `details`, to the front of `to`.
 fn level_back(f: Filter, n: usize, m: usize, from: &[u8], details: &[u8], to: &mut [u8])
-    requires level { Level (waveletOf f) (width_of f) (n + m) (width_of f * (n + m)) (width_of f * n) (width_of f * m) }
+    requires level { Level (wavelet_of f) (width_of f) (n + m) (width_of f * (n + m)) (width_of f * n) (width_of f * m) }
     requires n_in_bounds { (width_of f * n ≤ length from.now) × (width_of f * m ≤ length details.now) × (width_of f * (n + m) ≤ length to.old) }
-    ensures to_after { to.new ≡ backOf f (take (width_of f * n) from.now) (take (width_of f * m) details.now) ++ drop (width_of f * (n + m)) to.old }
-    ensures details_len { length (backOf f (take (width_of f * n) from.now) (take (width_of f * m) details.now)) ≡ width_of f * (n + m) }
+    ensures to_after { to.new ≡ back_of f (take (width_of f * n) from.now) (take (width_of f * m) details.now) ++ drop (width_of f * (n + m)) to.old }
+    ensures details_len { length (back_of f (take (width_of f * n) from.now) (take (width_of f * m) details.now)) ≡ width_of f * (n + m) }
 {
     let here = bytes_of(f, n);
     let seam = bytes_of(f, m);
@@ -188,7 +188,7 @@ fn up(
 )
     requires i_in_bounds { i < length lengths.now / 4 }
     requires rising { Rising f n (drop i (words_of 4 lengths.now)) (length details.now) (length from.old) (length to.old) (length out.old) }
-    ensures out_after { out.new ≡ samplesOf f (take (width_of f * n) from.old) details.now (drop i (words_of 4 lengths.now)) }
+    ensures out_after { out.new ≡ samples_of f (take (width_of f * n) from.old) details.now (drop i (words_of 4 lengths.now)) }
     ensures from_unchanged { drop (length out.old) from.new ≡ drop (length out.old) from.old }
     ensures to_unchanged { drop (length out.old) to.new ≡ drop (length out.old) to.old }
 {

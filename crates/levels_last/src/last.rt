@@ -1,11 +1,11 @@
 // `dwt`: the last level's two bands. The levels above it make approximations alone, from one work area to the other.
 ghost use Rattle.std.specs.Prelude.{◌≡◌, ◌+◌, ◌-◌, ◌*◌, length, take, drop};
 ghost use Rattle.base_answers.specs.Checks.{first_of};
-ghost use Rattle.base_lengths.specs.Lengths.{approxLength};
-ghost use Rattle.base_lengths.specs.Levels.{countAt};
+ghost use Rattle.base_lengths.specs.Lengths.{approx_length};
+ghost use Rattle.base_lengths.specs.Levels.{count_at};
 ghost use Rattle.levels_filter.specs.Filters.{width_of, low_of};
-ghost use Rattle.levels_filter.specs.Pyramids.{approxAt};
-ghost use Rattle.levels_filter.specs.Calls.{BandsOf, Parted, Room, Ready, dwtChecks, sayDwt, Dwt};
+ghost use Rattle.levels_filter.specs.Pyramids.{approx_at};
+ghost use Rattle.levels_filter.specs.Calls.{BandsOf, Parted, Room, Ready, dwt_checks, say_dwt, Dwt};
 
 use base_answers::err::{Answer, Refusal, is_done, numbers};
 use base_lengths::checks::{check_whole, forward_bands, two_areas};
@@ -16,7 +16,7 @@ use levels_filter::levels::cut_of;
 // The approximations of the n samples in front of `from`, to the front of `to`.
 fn level_above(f: Filter, n: usize, from: &[u8], to: &mut [u8])
     requires { Room f 1 n (length from.now) (length to.old) }
-    ensures to_after { take (width_of f * approxLength n) to.new ≡ low_of f (take (width_of f * n) from.now) }
+    ensures to_after { take (width_of f * approx_length n) to.new ≡ low_of f (take (width_of f * n) from.now) }
     ensures to_unchanged { drop (width_of f * n) to.new ≡ drop (width_of f * n) to.old }
 {
     let all = bytes_of(f, n);
@@ -35,8 +35,8 @@ fn sink(
     details: &mut [u8],
 )
     requires room { Room f (levels + 1) n (length from.old) (length to.old) }
-    requires bands_of { BandsOf f (countAt levels n) (length approx.old) (length details.old) }
-    ensures parted { Parted f (approxAt f levels (take (width_of f * n) from.old)) approx.new details.new }
+    requires bands_of { BandsOf f (count_at levels n) (length approx.old) (length details.old) }
+    ensures parted { Parted f (approx_at f levels (take (width_of f * n) from.old)) approx.new details.new }
     ensures from_unchanged { drop (width_of f * n) from.new ≡ drop (width_of f * n) from.old }
     ensures to_unchanged { drop (width_of f * n) to.new ≡ drop (width_of f * n) to.old }
 {
@@ -62,8 +62,8 @@ fn run_last(
     two: &mut [u8],
 )
     requires ready { Ready f levels n (length signal.now) (length one.old) (length two.old) }
-    requires bands_of { BandsOf f (countAt (levels - 1) n) (length approx.old) (length details.old) }
-    ensures parted { Parted f (approxAt f (levels - 1) signal.now) approx.new details.new }
+    requires bands_of { BandsOf f (count_at (levels - 1) n) (length approx.old) (length details.old) }
+    ensures parted { Parted f (approx_at f (levels - 1) signal.now) approx.new details.new }
     ensures one_unchanged { drop (width_of f * n) one.new ≡ drop (width_of f * n) one.old }
     ensures two_unchanged { drop (width_of f * n) two.new ≡ drop (width_of f * n) two.old }
 {
@@ -86,7 +86,7 @@ fn dwt_lengths(
     u: usize,
     v: usize,
 ) -> Refusal
-    ensures { result ≡ first_of (dwtChecks f levels n a d u v) (Refusal.Done 0 0) }
+    ensures { result ≡ first_of (dwt_checks f levels n a d u v) (Refusal.Done 0 0) }
 {
     if MOST_SAMPLES < n {
         return Refusal::TooLong;
@@ -113,7 +113,7 @@ fn check_dwt(
     one: usize,
     two: usize,
 ) -> Refusal
-    ensures { result ≡ sayDwt f levels signal approx details one two }
+    ensures { result ≡ say_dwt f levels signal approx details one two }
 {
     let k = width(f);
     let said = check_whole(k, signal, approx, details);

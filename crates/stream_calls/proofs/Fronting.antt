@@ -6,7 +6,7 @@ use native.Mathlib.Nat.{mul-le-mul_left}
 use native.Mathlib.Omega.{arith}
 use lib.ListN.{length, take, drop}
 use lib.Seq.{length-take-le}
-use Rattle.base_answers.specs.Checks.{inFront}
+use Rattle.base_answers.specs.Checks.{in_front}
 use Rattle.base_samples.specs.Words.{Holds}
 use Rattle.base_samples.specs.Integers.{Width}
 use Rattle.base_samples.proofs.Words.{holds}
@@ -25,5 +25,5 @@ lends {k} {n} {e} {a} w r c =
     record { within = h; long = l; words = holds w.some (take e a) n (l ∙ c) }
 
 -- they come back as `new`, as long as they were
-pub lent_back : {k n e : ℕ} {a part new : List ℕ} → Lends k n e a → length part ≡ length (take e a) → part ≡ new → part ++ drop e a ≡ inFront new a
+pub lent_back : {k n e : ℕ} {a part new : List ℕ} → Lends k n e a → length part ≡ length (take e a) → part ≡ new → part ++ drop e a ≡ in_front new a
 lent_back {a = a} l kept same = ap₂ ◌++◌ same (ap (λ (j : ℕ). drop j a) (sym (kept ∙ l.long) ∙ ap length same))

@@ -12,7 +12,7 @@ use Rattle.base_answers.specs.declared.err.Refusal.TheVariants.{Done}
 use Rattle.base_answers.specs.Answers.{done}
 use Rattle.base_answers.specs.Checks.{Check, first_of}
 use Rattle.base_answers.proofs.Passed.{Refusing, Passing, passing, both-pass, through, say-rest, say-stop, whole, roomy}
-use Rattle.base_lengths.specs.Lengths.{mostSamples, approxLength, detailsLength}
+use Rattle.base_lengths.specs.Lengths.{most_samples, approx_length, details_length}
 use Rattle.base_lengths.proofs.OneLevel.{whole-passes}
 use Rattle.base_samples.specs.Integers.{Width}
 use Rattle.base_samples.proofs.Words.{holds}
@@ -20,8 +20,8 @@ use Rattle.filter_cdf53i.specs.Bands.{EnoughWords}
 use Rattle.filter_cdf53i.proofs.WordTurns.{room_of}
 use Rattle.stream_pieces.specs.States.{fixed, Possible}
 use Rattle.stream_pieces.specs.Steps.{newly, Taking}
-use Rattle.stream_calls.specs.StateBytes.{stateSize, stateIn, couldBe}
-use Rattle.stream_calls.specs.Calls.{lentChecks, pieceChecks, sayPiece, finishChecks, sayFinish}
+use Rattle.stream_calls.specs.StateBytes.{state_size, state_in, could_be}
+use Rattle.stream_calls.specs.Calls.{lent_checks, piece_checks, say_piece, finish_checks, say_finish}
 use Rattle.stream_calls.proofs.States.{could-be, passes}
 
 -- ---- the checks l, and those of m where they pass
@@ -44,19 +44,19 @@ split l m {t = t} x e told =
 
 -- whole lengths in bytes and a possible state: y of the piece, a and d of the areas
 pub record Lent (k : ℕ) (b : List ℕ) (y a d : ℕ) : Type 0 where
-  pub long : length b ≡ stateSize
-  pub state : Possible k (stateIn b)
+  pub long : length b ≡ state_size
+  pub state : Possible k (state_in b)
   pub piece : y ≡ k * (y / k)
   pub approx : a ≡ k * (a / k)
   pub details : d ≡ k * (d / k)
 
 module _ (k : ℕ) (b : List ℕ) (y a d : ℕ) where
   abbrev l : List Check
-  l = lentChecks k b y a d
+  l = lent_checks k b y a d
 
   pub lent_of : Passing l → Lent k b y a d
   lent_of q =
-      let s = could-be b (not-false (couldBe k b) q.1.1.1.0) in
+      let s = could-be b (not-false (could_be k b) q.1.1.1.0) in
       record { long = s.0; state = s.1; piece = whole k y q.0; approx = whole k a q.1.0; details = whole k d q.1.1.0 }
 
   -- a call with its own checks m behind those: from "done" to the facts, and back
@@ -72,43 +72,43 @@ module _ (k : ℕ) (b : List ℕ) (y a d : ℕ) where
 -- ---- a piece
 
 -- what a call that passes its checks may build on
-pub piece-ready : {k : ℕ} → Width k → (b y a d : List ℕ) → done (sayPiece k b (length y) (length a) (length d)) ≡ true
-    → (length b ≡ stateSize) × Taking k (stateIn b) y × EnoughWords k (newly k (stateIn b) y) a × EnoughWords k (newly k (stateIn b) y) d
-unfolding sayPiece
+pub piece-ready : {k : ℕ} → Width k → (b y a d : List ℕ) → done (say_piece k b (length y) (length a) (length d)) ≡ true
+    → (length b ≡ state_size) × Taking k (state_in b) y × EnoughWords k (newly k (state_in b) y) a × EnoughWords k (newly k (state_in b) y) d
+unfolding say_piece
 piece-ready {k} w b y a d h =
-    let q = ready k b (length y) (length a) (length d) (pieceChecks k (stateIn b).total (length y) (length a) (length d)) (refl, (refl, (refl, tt))) h in
+    let q = ready k b (length y) (length a) (length d) (piece_checks k (state_in b).total (length y) (length a) (length d)) (refl, (refl, (refl, tt))) h in
     let l = q.0 in (
       l.long,
-      record { width = w; state = l.state; piece = holds w.some y (length y / k) l.piece; few = roomy mostSamples _ q.1.0 },
+      record { width = w; state = l.state; piece = holds w.some y (length y / k) l.piece; few = roomy most_samples _ q.1.0 },
       room_of w.some a _ _ l.approx (roomy _ _ q.1.1.0),
       room_of w.some d _ _ l.details (roomy _ _ q.1.1.1.0),
     )
 
 -- and a call that has this passes
-pub piece-passes : {k : ℕ} → Width k → (b y a d : List ℕ) → length b ≡ stateSize → Taking k (stateIn b) y → EnoughWords k (newly k (stateIn b) y) a → EnoughWords k (newly k (stateIn b) y) d
-    → sayPiece k b (length y) (length a) (length d) ≡ Done 0 0
-unfolding sayPiece
+pub piece-passes : {k : ℕ} → Width k → (b y a d : List ℕ) → length b ≡ state_size → Taking k (state_in b) y → EnoughWords k (newly k (state_in b) y) a → EnoughWords k (newly k (state_in b) y) d
+    → say_piece k b (length y) (length a) (length d) ≡ Done 0 0
+unfolding say_piece
 piece-passes {k} w b y a d e g ra rd =
-    says-done k b (length y) (length a) (length d) (pieceChecks k (stateIn b).total (length y) (length a) (length d))
+    says-done k b (length y) (length a) (length d) (piece_checks k (state_in b).total (length y) (length a) (length d))
     (record { long = e; state = g.state; piece = g.piece.size; approx = ra.holds.size; details = rd.holds.size })
     (le-ltb _ _ g.few, (le-ltb _ _ ra.most, (le-ltb _ _ rd.most, tt)))
 
 -- ---- the end
 
-pub finish-ready : {k : ℕ} → Width k → (b a d : List ℕ) → done (sayFinish k b (length a) (length d)) ≡ true
-    → (length b ≡ stateSize) × Possible k (stateIn b) × (3 ≤ (stateIn b).total)
-    × EnoughWords k (approxLength (stateIn b).total - fixed (stateIn b).total) a × EnoughWords k (detailsLength (stateIn b).total - fixed (stateIn b).total) d
-unfolding sayFinish
+pub finish-ready : {k : ℕ} → Width k → (b a d : List ℕ) → done (say_finish k b (length a) (length d)) ≡ true
+    → (length b ≡ state_size) × Possible k (state_in b) × (3 ≤ (state_in b).total)
+    × EnoughWords k (approx_length (state_in b).total - fixed (state_in b).total) a × EnoughWords k (details_length (state_in b).total - fixed (state_in b).total) d
+unfolding say_finish
 finish-ready {k} w b a d h =
-    let q = ready k b 0 (length a) (length d) (finishChecks k (stateIn b).total (length a) (length d)) (refl, (refl, (refl, tt))) h in
+    let q = ready k b 0 (length a) (length d) (finish_checks k (state_in b).total (length a) (length d)) (refl, (refl, (refl, tt))) h in
     let l = q.0 in
     (l.long, l.state, roomy _ _ q.1.0, room_of w.some a _ _ l.approx (roomy _ _ q.1.1.0), room_of w.some d _ _ l.details (roomy _ _ q.1.1.1.0))
 
-pub finish-passes : {k : ℕ} → Width k → (b a d : List ℕ) → length b ≡ stateSize → Possible k (stateIn b) → 3 ≤ (stateIn b).total
-    → EnoughWords k (approxLength (stateIn b).total - fixed (stateIn b).total) a → EnoughWords k (detailsLength (stateIn b).total - fixed (stateIn b).total) d
-    → sayFinish k b (length a) (length d) ≡ Done 0 0
-unfolding sayFinish
+pub finish-passes : {k : ℕ} → Width k → (b a d : List ℕ) → length b ≡ state_size → Possible k (state_in b) → 3 ≤ (state_in b).total
+    → EnoughWords k (approx_length (state_in b).total - fixed (state_in b).total) a → EnoughWords k (details_length (state_in b).total - fixed (state_in b).total) d
+    → say_finish k b (length a) (length d) ≡ Done 0 0
+unfolding say_finish
 finish-passes {k} w b a d e p t ra rd =
-    says-done k b 0 (length a) (length d) (finishChecks k (stateIn b).total (length a) (length d))
+    says-done k b 0 (length a) (length d) (finish_checks k (state_in b).total (length a) (length d))
     (record { long = e; state = p; piece = omega (arith, div-add-mod 0 k); approx = ra.holds.size; details = rd.holds.size })
     (le-ltb _ _ t, (le-ltb _ _ ra.most, (le-ltb _ _ rd.most, tt)))

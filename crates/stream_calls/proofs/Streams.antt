@@ -6,20 +6,20 @@ use Prim.Native.Nat.{ℕ}
 use Rattle.base_answers.specs.declared.err.Answer.{Answer}
 use Rattle.base_answers.specs.declared.err.Refusal.{Refusal}
 use Rattle.base_answers.specs.Answers.{answer_of, done}
-use Rattle.base_answers.specs.Checks.{left, inFront}
+use Rattle.base_answers.specs.Checks.{left, in_front}
 use Rattle.base_answers.proofs.Endings.{is-done, not_done, left-done, left-refused}
 use Rattle.stream_calls.specs.Calls.{Streams}
 
 -- t is what the checks said
 module _ {s t : Refusal} {new lows highs b a d : List ℕ} {r : Answer} (es : t ≡ s) (er : r ≡ answer_of t) where
-  pub streams-done : {b' a' d' : List ℕ} → done t ≡ true → (b' ≡ new) × ((a' ≡ inFront lows a) × (d' ≡ inFront highs d)) → Streams s new lows highs b a d r b' a' d'
+  pub streams-done : {b' a' d' : List ℕ} → done t ≡ true → (b' ≡ new) × ((a' ≡ in_front lows a) × (d' ≡ in_front highs d)) → Streams s new lows highs b a d r b' a' d'
   streams-done z e =
       let h : done s ≡ true = sym (ap done es) ∙ z in
       record {
         answer = er ∙ ap answer_of es;
         state = e.0 ∙ sym (left-done s new b h);
-        approx = e.1.0 ∙ sym (left-done s (inFront lows a) a h);
-        details = e.1.1 ∙ sym (left-done s (inFront highs d) d h);
+        approx = e.1.0 ∙ sym (left-done s (in_front lows a) a h);
+        details = e.1.1 ∙ sym (left-done s (in_front highs d) d h);
       }
 
   pub streams-refused : done t ≡ false → Streams s new lows highs b a d r b a d
@@ -28,8 +28,8 @@ module _ {s t : Refusal} {new lows highs b a d : List ℕ} {r : Answer} (es : t 
       record {
         answer = er ∙ ap answer_of es;
         state = sym (left-refused s new b h);
-        approx = sym (left-refused s (inFront lows a) a h);
-        details = sym (left-refused s (inFront highs d) d h);
+        approx = sym (left-refused s (in_front lows a) a h);
+        details = sym (left-refused s (in_front highs d) d h);
       }
 
 -- ---- from the number to what it leaves
@@ -39,18 +39,18 @@ module _ {s : Refusal} {new lows highs b a d : List ℕ} {r : Answer} {b' a' d' 
   pub refused-stays : (r.number ≡ 0 → ⊥) → (b' ≡ b) × (a' ≡ a) × (d' ≡ d)
   refused-stays n =
       let z = not_done s r call.answer n in
-      (call.state ∙ left-refused s new b z, call.approx ∙ left-refused s (inFront lows a) a z, call.details ∙ left-refused s (inFront highs d) d z)
+      (call.state ∙ left-refused s new b z, call.approx ∙ left-refused s (in_front lows a) a z, call.details ∙ left-refused s (in_front highs d) d z)
 
-  pub done-leaves : r.number ≡ 0 → (b' ≡ new) × (a' ≡ inFront lows a) × (d' ≡ inFront highs d)
+  pub done-leaves : r.number ≡ 0 → (b' ≡ new) × (a' ≡ in_front lows a) × (d' ≡ in_front highs d)
   done-leaves n =
       let z = is-done s r call.answer n in
-      (call.state ∙ left-done s new b z, call.approx ∙ left-done s (inFront lows a) a z, call.details ∙ left-done s (inFront highs d) d z)
+      (call.state ∙ left-done s new b z, call.approx ∙ left-done s (in_front lows a) a z, call.details ∙ left-done s (in_front highs d) d z)
 
 -- ---- one result and no other
 
 -- for every input the promise allows a result
 pub streams-some : (s : Refusal) (new lows highs b a d : List ℕ)
-    → Streams s new lows highs b a d (answer_of s) (left s new b) (left s (inFront lows a) a) (left s (inFront highs d) d)
+    → Streams s new lows highs b a d (answer_of s) (left s new b) (left s (in_front lows a) a) (left s (in_front highs d) d)
 streams-some s new lows highs b a d = record { answer = refl; state = refl; approx = refl; details = refl }
 
 -- and two that it allows are equal

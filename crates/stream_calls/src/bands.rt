@@ -1,10 +1,10 @@
 // All the coefficients that a piece fixes, and the state after it. Once over the width.
 ghost use Rattle.std.specs.Prelude.{◌++◌, ◌≡◌, ◌-◌, ◌/◌, ◌<◌, length, take};
 ghost use Rattle.base_samples.specs.Words.{tabulate, bytes_of, Holds, Front};
-ghost use Rattle.filter_cdf53i.specs.Bands.{low, high, detailWord};
-ghost use Rattle.stream_pieces.specs.States.{state_of, standIn, fixedBy};
+ghost use Rattle.filter_cdf53i.specs.Bands.{low, high, detail_word};
+ghost use Rattle.stream_pieces.specs.States.{state_of, stand_in, fixed_by};
 ghost use Rattle.stream_pieces.specs.Steps.{newly, Taking};
-ghost use Rattle.stream_calls.specs.Loops.{Inner, approxAmong, Others};
+ghost use Rattle.stream_calls.specs.Loops.{Inner, approx_among, Others};
 
 use base_samples::integers::{get, put};
 use filter_cdf53i::steps::{approx_of, detail_at};
@@ -14,7 +14,7 @@ use stream_pieces::recorder::{Recorder, waiting};
 // The first details of the samples in z, as many as d holds: no neighbour is mirrored.
 fn details_on(k: usize, z: &[u8], d: &mut [u8])
     requires { Inner k z.now d.old }
-    ensures { Front k (length d.old / k) (length d.old / k) (detailWord k z.now) d.new }
+    ensures { Front k (length d.old / k) (length d.old / k) (detail_word k z.now) d.new }
 {
     let n = d.len() / k;
     let mut j = 0;
@@ -27,7 +27,7 @@ fn details_on(k: usize, z: &[u8], d: &mut [u8])
 // The approximations of the even samples in z, as many as a holds, each between two of the details in d.
 fn approxs_on(k: usize, z: &[u8], a: &mut [u8], d: &[u8])
     requires { Inner k z.now a.old × (length a.old / k < length d.now / k) }
-    ensures { Front k (length a.old / k) (length a.old / k) (approxAmong k z.now d.now) a.new }
+    ensures { Front k (length a.old / k) (length a.old / k) (approx_among k z.now d.now) a.new }
 {
     let n = a.len() / k;
     let mut j = 0;
@@ -45,8 +45,8 @@ fn approxs_on(k: usize, z: &[u8], a: &mut [u8], d: &[u8])
 // The coefficients of each band after the first: they read the samples in z alone.
 fn others(k: usize, z: &[u8], a: &mut [u8], d: &mut [u8])
     requires { Others k (length d.old / k) z.now a.old d.old }
-    ensures d_after { d.new ≡ take k d.old ++ bytes_of k (tabulate (length d.old / k - 1) (detailWord k z.now)) }
-    ensures a_after { a.new ≡ take k a.old ++ bytes_of k (tabulate (length d.old / k - 1) (approxAmong k z.now d.new)) }
+    ensures d_after { d.new ≡ take k d.old ++ bytes_of k (tabulate (length d.old / k - 1) (detail_word k z.now)) }
+    ensures a_after { a.new ≡ take k a.old ++ bytes_of k (tabulate (length d.old / k - 1) (approx_among k z.now d.new)) }
 {
     details_on(k, z, &mut d[k..]);
     approxs_on(k, z, &mut a[k..], d);
@@ -56,8 +56,8 @@ fn others(k: usize, z: &[u8], a: &mut [u8], d: &mut [u8])
 fn fix(k: usize, s: Recorder, y: &[u8], a: &mut [u8], d: &mut [u8])
     requires taking { Taking k s y.now }
     requires holds { Holds k (newly k s y.now) a.old × Holds k (newly k s y.now) d.old }
-    ensures a_after { a.new ≡ fixedBy low k s y.now }
-    ensures d_after { d.new ≡ fixedBy high k s y.now }
+    ensures a_after { a.new ≡ fixed_by low k s y.now }
+    ensures d_after { d.new ≡ fixed_by high k s y.now }
 {
     if d.len() == 0 {
         return;
@@ -71,8 +71,8 @@ fn fix(k: usize, s: Recorder, y: &[u8], a: &mut [u8], d: &mut [u8])
 // The state after a piece, whose details are in d.
 fn next(k: usize, s: Recorder, y: &[u8], d: &[u8]) -> Recorder
     requires taking { Taking k s y.now }
-    requires d_value { d.now ≡ fixedBy high k s y.now }
-    ensures { result ≡ state_of k (standIn k s ++ y.now) }
+    requires d_value { d.now ≡ fixed_by high k s y.now }
+    ensures { result ≡ state_of k (stand_in k s ++ y.now) }
 {
     let n = d.len() / k;
     Recorder {
@@ -87,9 +87,9 @@ fn next(k: usize, s: Recorder, y: &[u8], d: &[u8]) -> Recorder
 pub fn advance(k: usize, s: Recorder, y: &[u8], a: &mut [u8], d: &mut [u8]) -> Recorder
     requires taking { Taking k s y.now }
     requires holds { Holds k (newly k s y.now) a.old × Holds k (newly k s y.now) d.old }
-    ensures value { result ≡ state_of k (standIn k s ++ y.now) }
-    ensures a_after { a.new ≡ fixedBy low k s y.now }
-    ensures d_after { d.new ≡ fixedBy high k s y.now }
+    ensures value { result ≡ state_of k (stand_in k s ++ y.now) }
+    ensures a_after { a.new ≡ fixed_by low k s y.now }
+    ensures d_after { d.new ≡ fixed_by high k s y.now }
 {
     fix(k, s, y, a, d);
     next(k, s, y, d)

@@ -1,12 +1,12 @@
 // The two calls: a piece, and the end.
 ghost use Rattle.std.specs.Prelude.{true, ◌++◌, ◌≡◌, ◌-◌, ◌≤◌, length};
-ghost use Rattle.base_answers.specs.Checks.{inFront};
-ghost use Rattle.base_lengths.specs.Lengths.{approxLength, detailsLength};
-ghost use Rattle.base_samples.specs.Integers.{Width, isWidth};
+ghost use Rattle.base_answers.specs.Checks.{in_front};
+ghost use Rattle.base_lengths.specs.Lengths.{approx_length, details_length};
+ghost use Rattle.base_samples.specs.Integers.{Width, is_width};
 ghost use Rattle.filter_cdf53i.specs.Bands.{low, high, EnoughWords};
-ghost use Rattle.stream_pieces.specs.States.{fixed, state_of, Possible, standIn, fixedBy, rest_of};
+ghost use Rattle.stream_pieces.specs.States.{fixed, state_of, Possible, stand_in, fixed_by, rest_of};
 ghost use Rattle.stream_pieces.specs.Steps.{newly, Taking};
-ghost use Rattle.stream_calls.specs.StateBytes.{stateSize, stateBytes, stateIn};
+ghost use Rattle.stream_calls.specs.StateBytes.{state_size, state_bytes, state_in};
 ghost use Rattle.stream_calls.specs.Calls.{Piece, fresh, Finish};
 
 use crate::bands::advance;
@@ -19,11 +19,11 @@ use stream_pieces::recorder::{Recorder, fixed};
 
 // The piece's new coefficients to the front of the areas, and the state after it.
 fn take_piece(k: usize, state: &mut [u8], y: &[u8], a: &mut [u8], d: &mut [u8])
-    requires state_len { (length state.old ≡ stateSize) × Taking k (stateIn state.old) y.now }
-    requires enough_words { EnoughWords k (newly k (stateIn state.old) y.now) a.old × EnoughWords k (newly k (stateIn state.old) y.now) d.old }
-    ensures state_after { state.new ≡ stateBytes (state_of k (standIn k (stateIn state.old) ++ y.now)) }
-    ensures a_after { a.new ≡ inFront (fixedBy low k (stateIn state.old) y.now) a.old }
-    ensures d_after { d.new ≡ inFront (fixedBy high k (stateIn state.old) y.now) d.old }
+    requires state_len { (length state.old ≡ state_size) × Taking k (state_in state.old) y.now }
+    requires enough_words { EnoughWords k (newly k (state_in state.old) y.now) a.old × EnoughWords k (newly k (state_in state.old) y.now) d.old }
+    ensures state_after { state.new ≡ state_bytes (state_of k (stand_in k (state_in state.old) ++ y.now)) }
+    ensures a_after { a.new ≡ in_front (fixed_by low k (state_in state.old) y.now) a.old }
+    ensures d_after { d.new ≡ in_front (fixed_by high k (state_in state.old) y.now) d.old }
 {
     let s = read(state);
     let t = s.total as usize;
@@ -34,7 +34,7 @@ fn take_piece(k: usize, state: &mut [u8], y: &[u8], a: &mut [u8], d: &mut [u8])
 
 // A piece of a recording of samples of k bytes.
 pub fn piece(k: usize, state: &mut [u8], y: &[u8], a: &mut [u8], d: &mut [u8]) -> Answer
-    requires { isWidth k ≡ true }
+    requires { is_width k ≡ true }
     ensures { Piece k state.old y.now a.old d.old result state.new a.new d.new }
 {
     let said = check_piece(k, state, y.len(), a.len(), d.len());
@@ -47,11 +47,11 @@ pub fn piece(k: usize, state: &mut [u8], y: &[u8], a: &mut [u8], d: &mut [u8]) -
 
 // What is left of both bands to the front of the areas, and a fresh state.
 fn take_end(k: usize, state: &mut [u8], a: &mut [u8], d: &mut [u8])
-    requires state_len { (length state.old ≡ stateSize) × Width k × Possible k (stateIn state.old) × (3 ≤ (stateIn state.old).total) }
-    requires enough_words { EnoughWords k (approxLength (stateIn state.old).total - fixed (stateIn state.old).total) a.old × EnoughWords k (detailsLength (stateIn state.old).total - fixed (stateIn state.old).total) d.old }
+    requires state_len { (length state.old ≡ state_size) × Width k × Possible k (state_in state.old) × (3 ≤ (state_in state.old).total) }
+    requires enough_words { EnoughWords k (approx_length (state_in state.old).total - fixed (state_in state.old).total) a.old × EnoughWords k (details_length (state_in state.old).total - fixed (state_in state.old).total) d.old }
     ensures state_after { state.new ≡ fresh }
-    ensures a_after { a.new ≡ inFront (rest_of low approxLength k (stateIn state.old)) a.old }
-    ensures d_after { d.new ≡ inFront (rest_of high detailsLength k (stateIn state.old)) d.old }
+    ensures a_after { a.new ≡ in_front (rest_of low approx_length k (state_in state.old)) a.old }
+    ensures d_after { d.new ≡ in_front (rest_of high details_length k (state_in state.old)) d.old }
 {
     let s = read(state);
     let t = s.total as usize;
@@ -72,7 +72,7 @@ fn take_end(k: usize, state: &mut [u8], a: &mut [u8], d: &mut [u8])
 
 // The end of a recording.
 pub fn finish(k: usize, state: &mut [u8], a: &mut [u8], d: &mut [u8]) -> Answer
-    requires { isWidth k ≡ true }
+    requires { is_width k ≡ true }
     ensures { Finish k state.old a.old d.old result state.new a.new d.new }
 {
     let said = check_finish(k, state, a.len(), d.len());

@@ -1,7 +1,7 @@
 // What is kept of a recording between two pieces, as 16 bytes, and whether calls can have left these.
 ghost use Rattle.std.specs.Prelude.{◌≡◌, length};
 ghost use Rattle.base_samples.specs.Integers.{Width};
-ghost use Rattle.stream_calls.specs.StateBytes.{stateSize, stateBytes, stateIn, isKept, couldBe};
+ghost use Rattle.stream_calls.specs.StateBytes.{state_size, state_bytes, state_in, is_kept, could_be};
 
 use base_lengths::MOST_SAMPLES;
 use base_samples::le::{read_u32, write_u32};
@@ -12,8 +12,8 @@ const STATE_SIZE: usize = 16;
 
 // The state in 16 bytes.
 pub fn read(b: &[u8]) -> Recorder
-    requires { length b.now ≡ stateSize }
-    ensures { result ≡ stateIn b.now }
+    requires { length b.now ≡ state_size }
+    ensures { result ≡ state_in b.now }
 {
     Recorder {
         total: read_u32(b, 0),
@@ -25,8 +25,8 @@ pub fn read(b: &[u8]) -> Recorder
 
 // The state as 16 bytes.
 pub fn write(b: &mut [u8], s: Recorder)
-    requires { length b.old ≡ stateSize }
-    ensures { b.new ≡ stateBytes s }
+    requires { length b.old ≡ state_size }
+    ensures { b.new ≡ state_bytes s }
 {
     write_u32(b, 0, s.total);
     write_u32(b, 4, s.even);
@@ -37,7 +37,7 @@ pub fn write(b: &mut [u8], s: Recorder)
 // Whether u is a word of k bytes where one is kept, and 0 where none is.
 fn is_kept(k: usize, kept: bool, u: u32) -> bool
     requires { Width k }
-    ensures { result ≡ isKept k kept u }
+    ensures { result ≡ is_kept k kept u }
 {
     if !kept {
         return u == 0;
@@ -55,7 +55,7 @@ fn is_kept(k: usize, kept: bool, u: u32) -> bool
 // Whether calls on samples of k bytes can have left the state.
 pub fn could_be(k: usize, b: &[u8]) -> bool
     requires { Width k }
-    ensures { result ≡ couldBe k b.now }
+    ensures { result ≡ could_be k b.now }
 {
     if b.len() != STATE_SIZE {
         return false;

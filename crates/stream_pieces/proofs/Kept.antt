@@ -9,13 +9,13 @@ use native.Mathlib.Omega.{arith}
 use borrow.Author.Tests.{ltb-true, ltb-false}
 use lib.Dec.{ltb}
 use lib.ListN.{length, take, get_or-eq_default}
-use Rattle.base_samples.specs.Le.{leAt}
+use Rattle.base_samples.specs.Le.{le_at}
 use Rattle.base_samples.specs.Words.{word_at}
 use Rattle.stream_pieces.specs.States.{bound}
 
 -- past its end a list reads as 0
-le-past : (k : ℕ) (s : List ℕ) (p : ℕ) → length s ≤ p → leAt k s p ≡ 0
-unfolding leAt
+le-past : (k : ℕ) (s : List ℕ) (p : ℕ) → length s ≤ p → le_at k s p ≡ 0
+unfolding le_at
 le-past zero s p h = refl
 le-past (suc k) s p h = rw (get_or-eq_default s 0 h, le-past k s (p + 1) (omega arith))
 

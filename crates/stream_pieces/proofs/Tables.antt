@@ -8,14 +8,14 @@ use native.Mathlib.Omega.{arith}
 use lib.ListN.{length, take, drop, length-drop}
 use lib.Seq.{ext_get_or, get_or-drop, get_or-take, length-take-le}
 use Rattle.base_order.proofs.Order.{lt-or-le}
-use Rattle.base_lengths.specs.Lengths.{approxLength, detailsLength}
+use Rattle.base_lengths.specs.Lengths.{approx_length, details_length}
 use Rattle.base_samples.specs.Words.{tabulate, bytes_of, Holds, Front}
 use Rattle.base_samples.specs.Integers.{wrap, decode}
-use Rattle.base_samples.proofs.Words.{length-tabulate, get_d_tabulate, bytes_take, bytes_drop}
+use Rattle.base_samples.proofs.Words.{length-tabulate, get_or-tabulate, bytes_take, bytes_drop}
 use Rattle.base_samples.proofs.Fronts.{front-all}
 use Rattle.base_samples.proofs.IntegerLaws.{length-decode, encode-tabulate}
 use Rattle.filter_cdf53i.specs.Lift.{detail, details, approx, approxs}
-use Rattle.filter_cdf53i.specs.Bands.{low, high, detailWord, approxWord}
+use Rattle.filter_cdf53i.specs.Bands.{low, high, detail_word, approx_word}
 use Rattle.stream_pieces.specs.States.{between}
 
 -- an area that is not empty holds a word
@@ -31,29 +31,29 @@ part i j n g h l =
     (λ p q.
     get_or-drop i (take j (tabulate n g)) p 0
     ∙ get_or-take j (tabulate n g) (i + p) 0 (omega (arith, len))
-    ∙ get_d_tabulate n g (i + p) 0 (omega (arith, len))
-    ∙ sym (get_d_tabulate (j - i) (λ p. g (i + p)) p 0 (omega (arith, len))))
+    ∙ get_or-tabulate n g (i + p) 0 (omega (arith, len))
+    ∙ sym (get_or-tabulate (j - i) (λ p. g (i + p)) p 0 (omega (arith, len))))
 
 module _ (k : ℕ) where
   between-table : (i j n : ℕ) (g : ℕ → ℕ) → i ≤ j → j ≤ n → between k i j (bytes_of k (tabulate n g)) ≡ bytes_of k (tabulate (j - i) (λ p. g (i + p)))
   between-table i j n g h l = rw (bytes_take k (tabulate n g) j, bytes_drop k (take j (tabulate n g)) i, part i j n g h l)
 
   -- coefficients i to j of each band, by their words
-  pub between-low : (x : List ℕ) (i j : ℕ) → i ≤ j → j ≤ approxLength (length x / k) → between k i j (low k x) ≡ bytes_of k (tabulate (j - i) (λ p. approxWord k x (i + p)))
-  unfolding low approxs approxWord
+  pub between-low : (x : List ℕ) (i j : ℕ) → i ≤ j → j ≤ approx_length (length x / k) → between k i j (low k x) ≡ bytes_of k (tabulate (j - i) (λ p. approx_word k x (i + p)))
+  unfolding low approxs approx_word
   between-low x i j h l =
-      rw (length-decode k x, encode-tabulate k (approxLength (length x / k)) (approx (wrap k) (decode k x) (details (wrap k) (decode k x))))
-      (between-table i j (approxLength (length x / k)) (approxWord k x) h l)
+      rw (length-decode k x, encode-tabulate k (approx_length (length x / k)) (approx (wrap k) (decode k x) (details (wrap k) (decode k x))))
+      (between-table i j (approx_length (length x / k)) (approx_word k x) h l)
 
-  pub between-high : (x : List ℕ) (i j : ℕ) → i ≤ j → j ≤ detailsLength (length x / k) → between k i j (high k x) ≡ bytes_of k (tabulate (j - i) (λ p. detailWord k x (i + p)))
-  unfolding high details detailWord
+  pub between-high : (x : List ℕ) (i j : ℕ) → i ≤ j → j ≤ details_length (length x / k) → between k i j (high k x) ≡ bytes_of k (tabulate (j - i) (λ p. detail_word k x (i + p)))
+  unfolding high details detail_word
   between-high x i j h l =
-      rw (length-decode k x, encode-tabulate k (detailsLength (length x / k)) (detail (wrap k) (decode k x)))
-      (between-table i j (detailsLength (length x / k)) (detailWord k x) h l)
+      rw (length-decode k x, encode-tabulate k (details_length (length x / k)) (detail (wrap k) (decode k x)))
+      (between-table i j (details_length (length x / k)) (detail_word k x) h l)
 
   -- an area that holds these words is that part of the band
-  pub lows-are : (x : List ℕ) (i j : ℕ) {a : List ℕ} → i ≤ j → j ≤ approxLength (length x / k) → Front k (j - i) (j - i) (λ p. approxWord k x (i + p)) a → a ≡ between k i j (low k x)
+  pub lows-are : (x : List ℕ) (i j : ℕ) {a : List ℕ} → i ≤ j → j ≤ approx_length (length x / k) → Front k (j - i) (j - i) (λ p. approx_word k x (i + p)) a → a ≡ between k i j (low k x)
   lows-are x i j h l f = front-all _ f refl refl ∙ sym (between-low x i j h l)
 
-  pub highs-are : (x : List ℕ) (i j : ℕ) {d : List ℕ} → i ≤ j → j ≤ detailsLength (length x / k) → Front k (j - i) (j - i) (λ p. detailWord k x (i + p)) d → d ≡ between k i j (high k x)
+  pub highs-are : (x : List ℕ) (i j : ℕ) {d : List ℕ} → i ≤ j → j ≤ details_length (length x / k) → Front k (j - i) (j - i) (λ p. detail_word k x (i + p)) d → d ≡ between k i j (high k x)
   highs-are x i j h l f = front-all _ f refl refl ∙ sym (between-high x i j h l)

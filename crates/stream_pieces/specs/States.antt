@@ -1,10 +1,10 @@
 -- The state between two pieces of a recording, from C-15: what is kept of the samples so far, which states are possible, what a state stands for, and the coefficients that a piece then fixes and the end writes. Over k bytes a sample.
 use Rattle.std.specs.Prelude.{Bool, cond, List, ◌++◌, ℕ, ◌+◌, ◌-◌, ◌*◌, ◌/◌, ◌^◌, ◌≤◌, ◌<◌, ltb, eqb, ◌+ℤ◌, length, take}
 use Rattle.std.proofs.Math.Seq.{slice}
-use Rattle.base_lengths.specs.Lengths.{mostSamples}
+use Rattle.base_lengths.specs.Lengths.{most_samples}
 use Rattle.base_samples.specs.Words.{tabulate, word_at, bytes_of}
 use Rattle.base_samples.specs.Integers.{val, residue}
-use Rattle.filter_cdf53i.specs.Lift.{floorDiv}
+use Rattle.filter_cdf53i.specs.Lift.{floor_div}
 use Rattle.filter_cdf53i.specs.Bands.{high}
 use Rattle.stream_pieces.specs.declared.recorder.Recorder.{Recorder}
 
@@ -34,9 +34,9 @@ state_of k x =
 abbrev pub bound : ℕ → Bool → ℕ
 bound k kept = cond kept (256 ^ k) 1
 
--- a state whose numbers fit the samples that it counts: what `couldBe` tests of the 16 bytes, crate stream_calls, StateBytes.antt
+-- a state whose numbers fit the samples that it counts: what `could_be` tests of the 16 bytes, crate stream_calls, StateBytes.antt
 pub record Possible (k : ℕ) (s : Recorder) : Type 0 where
-  pub few : s.total ≤ mostSamples
+  pub few : s.total ≤ most_samples
   pub even : s.even < bound k (ltb 0 (waiting s.total))
   pub odd : s.odd < bound k (ltb 1 (waiting s.total))
   pub detail : s.detail < bound k (ltb 0 (fixed s.total))
@@ -44,15 +44,15 @@ pub record Possible (k : ℕ) (s : Recorder) : Type 0 where
 -- ---- what a state stands for
 
 -- sample j of a recording that leaves the state s, where s is possible: zeros, then the odd sample that has the kept detail between a 0 and the even one that waits, then what waits
-unfoldable pub standWord : ℕ → Recorder → ℕ → ℕ
-standWord k s j =
+unfoldable pub stand_word : ℕ → Recorder → ℕ → ℕ
+stand_word k s j =
     let m = fixed s.total in
-    let q = residue (256 ^ k) (val (256 ^ k) s.detail +ℤ floorDiv (val (256 ^ k) 0 +ℤ val (256 ^ k) s.even) 2) in
+    let q = residue (256 ^ k) (val (256 ^ k) s.detail +ℤ floor_div (val (256 ^ k) 0 +ℤ val (256 ^ k) s.even) 2) in
     cond (eqb (j + 1) (2 * m)) q (cond (eqb j (2 * m)) s.even (cond (eqb j (2 * m + 1)) s.odd 0))
 
 -- that recording. Whichever one was sent, the coefficients from here on are the same: crate law_stream, Onward.antt
-unfoldable pub standIn : ℕ → Recorder → List ℕ
-standIn k s = bytes_of k (tabulate s.total (standWord k s))
+unfoldable pub stand_in : ℕ → Recorder → List ℕ
+stand_in k s = bytes_of k (tabulate s.total (stand_word k s))
 
 -- ---- the coefficients that come
 
@@ -61,9 +61,9 @@ abbrev pub between : ℕ → ℕ → ℕ → List ℕ → List ℕ
 between k i j band = slice (k * i) (k * j) band
 
 -- the coefficients of a band that the piece y fixes: `band` is low or high
-abbrev pub fixedBy : (ℕ → List ℕ → List ℕ) → ℕ → Recorder → List ℕ → List ℕ
-fixedBy band k s y = between k (fixed s.total) (fixed (s.total + length y / k)) (band k (standIn k s ++ y))
+abbrev pub fixed_by : (ℕ → List ℕ → List ℕ) → ℕ → Recorder → List ℕ → List ℕ
+fixed_by band k s y = between k (fixed s.total) (fixed (s.total + length y / k)) (band k (stand_in k s ++ y))
 
 -- what the end writes of a band: its coefficients that are not written yet
 abbrev pub rest_of : (ℕ → List ℕ → List ℕ) → (ℕ → ℕ) → ℕ → Recorder → List ℕ
-rest_of band count k s = between k (fixed s.total) (count s.total) (band k (standIn k s))
+rest_of band count k s = between k (fixed s.total) (count s.total) (band k (stand_in k s))

@@ -18,45 +18,45 @@ use Rattle.base_answers.proofs.Passed.{Passing, passing, both-pass, pass-both, t
 use Rattle.base_answers.proofs.Chain.{by, stop}
 use Rattle.base_answers.proofs.Endings.{is-done}
 use Rattle.base_lengths.specs.declared.Wavelet.TheVariants.{Cdf53}
-use Rattle.base_lengths.specs.Lengths.{mostSamples}
-use Rattle.base_lengths.specs.Levels.{countAt, depth_of}
+use Rattle.base_lengths.specs.Lengths.{most_samples}
+use Rattle.base_lengths.specs.Levels.{count_at, depth_of}
 use Rattle.base_lengths.proofs.Depths.{long-enough}
 use Rattle.view_spans.specs.declared.Band.{Band}
 use Rattle.view_spans.specs.declared.Band.TheVariants.{Approx}
-use Rattle.view_spans.specs.Spans.{reachOf, span_of, bandCount}
-use Rattle.view_notes.specs.Notes.{columnOf, levelChecks, placeChecks, noteChecks, sayColumn, saySpan, Drawn}
+use Rattle.view_spans.specs.Spans.{reach_of, span_of, band_count}
+use Rattle.view_notes.specs.Notes.{column_of, level_checks, place_checks, note_checks, say_column, say_span, Drawn}
 use Rattle.view_notes.proofs.Spans.{reach-is, starts, band-below, holds, column-below, first-starts, next-reaches, last-ends}
 
 -- a level within the depth: fewer than n samples show at one of its approximations
 pub within-depth : (n l : ℕ) → 1 ≤ l → l ≤ depth_of Cdf53 n → 2 ^ l < n
 within-depth n zero p h = absurd (omega arith)
 within-depth n (suc l) p h =
-    let two : 3 ≤ countAt l n = long-enough 3 (omega arith) (suc l) l n h (omega arith) in
+    let two : 3 ≤ count_at l n = long-enough 3 (omega arith) (suc l) l n h (omega arith) in
     omega (arith, starts n l 2 two, pow-succ' 2 l)
 
 -- what the checks of a level leave
-pub passes : (n l : ℕ) → Passing (levelChecks n l) → Drawn n l
+pub passes : (n l : ℕ) → Passing (level_checks n l) → Drawn n l
 passes n l q =
     let some : 1 ≤ l = omega (arith, eqb-false l 0 q.1.0) in
-    record { some = some; few = ltb-false mostSamples n q.0; wide = within-depth n l some (ltb-false (depth_of Cdf53 n) l q.1.1.0) }
+    record { some = some; few = ltb-false most_samples n q.0; wide = within-depth n l some (ltb-false (depth_of Cdf53 n) l q.1.1.0) }
 
 -- a call that asks for its level first: r is what the level's checks said, and b whether they passed
-module _ (n l : ℕ) {r : Refusal} {b : Bool} (e : r ≡ first_of (levelChecks n l) (Done 0 0)) (d : b ≡ done r) where
+module _ (n l : ℕ) {r : Refusal} {b : Bool} (e : r ≡ first_of (level_checks n l) (Done 0 0)) (d : b ≡ done r) where
   pub drawn : not b ≡ false → Drawn n l
-  drawn h = passes n l (passing (levelChecks n l) (Done 0 0) (refl, (refl, (refl, tt))) (sym (ap done e) ∙ sym d ∙ not-false b h))
+  drawn h = passes n l (passing (level_checks n l) (Done 0 0) (refl, (refl, (refl, tt))) (sym (ap done e) ∙ sym d ∙ not-false b h))
 
   -- where it ends: at the level, at the place, or with what it has to say
   module _ (place limit : ℕ) (z : Refusal) where
-    past : {t : Refusal} → not b ≡ false → t ≡ first_of (placeChecks place limit) z → t ≡ first_of (noteChecks n l place limit) z
-    past h g = say-rest (levelChecks n l) (placeChecks place limit) z (refl, (refl, (refl, tt))) e (sym d ∙ not-false b h) g
+    past : {t : Refusal} → not b ≡ false → t ≡ first_of (place_checks place limit) z → t ≡ first_of (note_checks n l place limit) z
+    past h g = say-rest (level_checks n l) (place_checks place limit) z (refl, (refl, (refl, tt))) e (sym d ∙ not-false b h) g
 
-    pub level-stops : not b ≡ true → r ≡ first_of (noteChecks n l place limit) z
-    level-stops h = say-stop (levelChecks n l) (placeChecks place limit) z e (sym d ∙ not-true b h)
+    pub level-stops : not b ≡ true → r ≡ first_of (note_checks n l place limit) z
+    level-stops h = say-stop (level_checks n l) (place_checks place limit) z e (sym d ∙ not-true b h)
 
-    pub place-stops : (m : ℕ) → m ≡ limit → not b ≡ false → m ≤ place → NoSuchPlace place m ≡ first_of (noteChecks n l place limit) z
+    pub place-stops : (m : ℕ) → m ≡ limit → not b ≡ false → m ≤ place → NoSuchPlace place m ≡ first_of (note_checks n l place limit) z
     place-stops m q h g = past h (stop z (ap not (le-ltb place limit (omega arith))) (ap (NoSuchPlace place) q))
 
-    pub place-passes : {t : Refusal} → not b ≡ false → place < limit → t ≡ z → t ≡ first_of (noteChecks n l place limit) z
+    pub place-passes : {t : Refusal} → not b ≡ false → place < limit → t ≡ z → t ≡ first_of (note_checks n l place limit) z
     place-passes h g q = past h (by (NoSuchPlace place limit) (ap not (lt-ltb place limit g)) q)
 
 -- two to the level fits, and to one level more
@@ -64,67 +64,67 @@ pub fits : (n l : ℕ) → Drawn n l → l < 63
 fits n l d = ⊎_elim (λ h. omega arith) (λ h. absurd (omega (arith, pow_mono h, d.few, d.wide))) (lt-or-le l 24)
 
 -- a reach r of the level or of one before it is shorter than two recordings
-pub reach-short : {n l r : ℕ} (m : ℕ) → Drawn n l → r ≡ reachOf m → m ≤ l → r < 2 * n
+pub reach-short : {n l r : ℕ} (m : ℕ) → Drawn n l → r ≡ reach_of m → m ≤ l → r < 2 * n
 reach-short m d e h = omega (arith, reach-is m, pow_mono h, d.wide)
 
 -- what is left for the numbers of a span: place p of w samples each
 pub record Placed (n p w : ℕ) : Type 0 where
   pub wide : w < n
-  pub few : n ≤ mostSamples
+  pub few : n ≤ most_samples
   pub first : p * w < n
 
-pub placed : (b : Band) (n l p w : ℕ) → w ≡ 2 ^ l → Drawn n l → p < bandCount b l n → Placed n p w
+pub placed : (b : Band) (n l p w : ℕ) → w ≡ 2 ^ l → Drawn n l → p < band_count b l n → Placed n p w
 placed b n l p w e d h = rw e (record { wide = d.wide; few = d.few; first = starts n l p (band-below b n l p d.some h) })
 
 -- ---- about the calls: what they say of a level and a place that are there, and that a done call was asked for such
 
 -- a level that is there
-level-passes : (n l : ℕ) → n ≤ mostSamples → 1 ≤ l → l ≤ depth_of Cdf53 n → Passing (levelChecks n l)
-level-passes n l few some deep = (le-ltb mostSamples n few, (ne_eqb l 0 (λ z. omega arith), (le-ltb (depth_of Cdf53 n) l deep, tt)))
+level-passes : (n l : ℕ) → n ≤ most_samples → 1 ≤ l → l ≤ depth_of Cdf53 n → Passing (level_checks n l)
+level-passes n l few some deep = (le-ltb most_samples n few, (ne_eqb l 0 (λ z. omega arith), (le-ltb (depth_of Cdf53 n) l deep, tt)))
 
 module _ (n l place limit : ℕ) (z : Refusal) where
   -- and a place below the limit
-  note-says : Passing (levelChecks n l) → place < limit → first_of (noteChecks n l place limit) z ≡ z
-  note-says h g = through (noteChecks n l place limit) z (pass-both (levelChecks n l) (placeChecks place limit) h (ap not (lt-ltb place limit g), tt))
+  note-says : Passing (level_checks n l) → place < limit → first_of (note_checks n l place limit) z ≡ z
+  note-says h g = through (note_checks n l place limit) z (pass-both (level_checks n l) (place_checks place limit) h (ap not (lt-ltb place limit g), tt))
 
   -- what a done call has passed, and its answer q
-  note-told : (q : Answer) → q ≡ answer_of (first_of (noteChecks n l place limit) z) → q.number ≡ 0 → Passing (levelChecks n l) × (place < limit) × (q ≡ answer_of z)
+  note-told : (q : Answer) → q ≡ answer_of (first_of (note_checks n l place limit) z) → q.number ≡ 0 → Passing (level_checks n l) × (place < limit) × (q ≡ answer_of z)
   note-told q e t =
-      let v = passing (noteChecks n l place limit) z (refl, (refl, (refl, (refl, tt)))) (is-done (first_of (noteChecks n l place limit) z) q e t) in
-      let b = both-pass (levelChecks n l) (placeChecks place limit) v in
-      (b.0, ltb-true place limit (not-false _ b.1.0), e ∙ ap answer_of (through (noteChecks n l place limit) z v))
+      let v = passing (note_checks n l place limit) z (refl, (refl, (refl, (refl, tt)))) (is-done (first_of (note_checks n l place limit) z) q e t) in
+      let b = both-pass (level_checks n l) (place_checks place limit) v in
+      (b.0, ltb-true place limit (not-false _ b.1.0), e ∙ ap answer_of (through (note_checks n l place limit) z v))
 
 module _ (n l : ℕ) where
   -- `note_span` is done with each coefficient of each level
-  pub span-done : (b : Band) → n ≤ 16777216 → 1 ≤ l → l ≤ depth_of Cdf53 n → (p : ℕ) → p < bandCount b l n → saySpan b n l p ≡ Done (span_of b n l p).0 (span_of b n l p).1
-  unfolding saySpan
-  span-done b few some deep p h = note-says n l p (bandCount b l n) (Done (span_of b n l p).0 (span_of b n l p).1) (level-passes n l few some deep) h
+  pub span-done : (b : Band) → n ≤ 16777216 → 1 ≤ l → l ≤ depth_of Cdf53 n → (p : ℕ) → p < band_count b l n → say_span b n l p ≡ Done (span_of b n l p).0 (span_of b n l p).1
+  unfolding say_span
+  span-done b few some deep p h = note-says n l p (band_count b l n) (Done (span_of b n l p).0 (span_of b n l p).1) (level-passes n l few some deep) h
 
   -- `note_column` with each sample
-  pub column-done : n ≤ 16777216 → 1 ≤ l → l ≤ depth_of Cdf53 n → (s : ℕ) → s < n → sayColumn n l s ≡ Done (columnOf l s) 0
-  unfolding sayColumn
-  column-done few some deep s h = note-says n l s n (Done (columnOf l s) 0) (level-passes n l few some deep) h
+  pub column-done : n ≤ 16777216 → 1 ≤ l → l ≤ depth_of Cdf53 n → (s : ℕ) → s < n → say_column n l s ≡ Done (column_of l s) 0
+  unfolding say_column
+  column-done few some deep s h = note-says n l s n (Done (column_of l s) 0) (level-passes n l few some deep) h
 
   -- q is a done answer of `note_column` for sample s
-  column-told : (s : ℕ) (q : Answer) → q ≡ answer_of (sayColumn n l s) → q.number ≡ 0 → Passing (levelChecks n l) × (s < n) × (q ≡ answer_of (Done (columnOf l s) 0))
-  unfolding sayColumn
-  column-told s q = note-told n l s n (Done (columnOf l s) 0) q
+  column-told : (s : ℕ) (q : Answer) → q ≡ answer_of (say_column n l s) → q.number ≡ 0 → Passing (level_checks n l) × (s < n) × (q ≡ answer_of (Done (column_of l s) 0))
+  unfolding say_column
+  column-told s q = note-told n l s n (Done (column_of l s) 0) q
 
   -- the column of a note is one of the places
-  pub column-in : (s : ℕ) (q : Answer) → q ≡ answer_of (sayColumn n l s) → q.number ≡ 0 → q.first < countAt l n
+  pub column-in : (s : ℕ) (q : Answer) → q ≡ answer_of (say_column n l s) → q.number ≡ 0 → q.first < count_at l n
   column-in s q e z =
       let (level, below, c) = column-told s q e z in
       omega (arith, ap (λ (x : Answer). x.first) c, column-below n l s below)
 
   -- asked back: r is what `note_span` answers for the column in q, and the span holds the note
-  pub asked-back : (s : ℕ) (q r : Answer) → q ≡ answer_of (sayColumn n l s) → q.number ≡ 0 → r ≡ answer_of (saySpan Approx n l q.first) → (r.number ≡ 0) × (r.first ≤ s) × (s ≤ r.second)
-  unfolding saySpan
+  pub asked-back : (s : ℕ) (q r : Answer) → q ≡ answer_of (say_column n l s) → q.number ≡ 0 → r ≡ answer_of (say_span Approx n l q.first) → (r.number ≡ 0) × (r.first ≤ s) × (s ≤ r.second)
+  unfolding say_span
   asked-back s q r e z f =
       let (level, below, c) = column-told s q e z in
-      let p = columnOf l s in
+      let p = column_of l s in
       let span = Done (span_of Approx n l p).0 (span_of Approx n l p).1 in
-      let t : saySpan Approx n l p ≡ span = note-says n l p (countAt l n) span level (column-below n l s below) in
-      let a : r ≡ answer_of span = f ∙ ap (λ (x : Answer). answer_of (saySpan Approx n l x.first)) c ∙ ap answer_of t in
+      let t : say_span Approx n l p ≡ span = note-says n l p (count_at l n) span level (column-below n l s below) in
+      let a : r ≡ answer_of span = f ∙ ap (λ (x : Answer). answer_of (say_span Approx n l x.first)) c ∙ ap answer_of t in
       let w = holds n l s below in
       (ap (λ (x : Answer). x.number) a, omega (arith, ap (λ (x : Answer). x.first) a), omega (arith, ap (λ (x : Answer). x.second) a))
 
@@ -133,14 +133,14 @@ module _ (n l : ℕ) where
 pub record Spanned (b : Band) (n l p : ℕ) (q : Answer) : Type 0 where
   pub some : 1 ≤ l
   pub deep : l ≤ depth_of Cdf53 n
-  pub place : p < bandCount b l n
+  pub place : p < band_count b l n
   pub first : q.first ≡ (span_of b n l p).0
   pub last : q.second ≡ (span_of b n l p).1
 
-pub span-told : (b : Band) (n l p : ℕ) (q : Answer) → q ≡ answer_of (saySpan b n l p) → q.number ≡ 0 → Spanned b n l p q
-unfolding saySpan
+pub span-told : (b : Band) (n l p : ℕ) (q : Answer) → q ≡ answer_of (say_span b n l p) → q.number ≡ 0 → Spanned b n l p q
+unfolding say_span
 span-told b n l p q e z =
-    let (level, place, a) = note-told n l p (bandCount b l n) (Done (span_of b n l p).0 (span_of b n l p).1) q e z in
+    let (level, place, a) = note-told n l p (band_count b l n) (Done (span_of b n l p).0 (span_of b n l p).1) q e z in
     record {
       some = (passes n l level).some;
       deep = ltb-false (depth_of Cdf53 n) l level.1.1.0;
@@ -152,16 +152,16 @@ span-told b n l p q e z =
 -- the spans that it answers cover the samples
 module _ (b : Band) (n l : ℕ) where
   -- the first starts at sample 0
-  pub first-answer : (q : Answer) → q ≡ answer_of (saySpan b n l 0) → q.number ≡ 0 → q.first ≡ 0
+  pub first-answer : (q : Answer) → q ≡ answer_of (say_span b n l 0) → q.number ≡ 0 → q.first ≡ 0
   first-answer q e z = let t = span-told b n l 0 q e z in t.first ∙ first-starts n l t.some b
 
   -- each next one starts where the one before ends, or before
-  pub next-answer : (p : ℕ) (q r : Answer) → q ≡ answer_of (saySpan b n l p) → q.number ≡ 0 → r ≡ answer_of (saySpan b n l (p + 1)) → r.number ≡ 0 → r.first ≤ q.second
+  pub next-answer : (p : ℕ) (q r : Answer) → q ≡ answer_of (say_span b n l p) → q.number ≡ 0 → r ≡ answer_of (say_span b n l (p + 1)) → r.number ≡ 0 → r.first ≤ q.second
   next-answer p q r e z f y =
       let t = span-told b n l p q e z in
       let u = span-told b n l (p + 1) r f y in
       omega (arith, t.last, u.first, next-reaches n l t.some b p u.place)
 
   -- and the last ends at the last sample
-  pub last-answer : (q : Answer) → q ≡ answer_of (saySpan b n l (bandCount b l n - 1)) → q.number ≡ 0 → q.second ≡ n - 1
-  last-answer q e z = let t = span-told b n l (bandCount b l n - 1) q e z in t.last ∙ last-ends b n l t.some (omega (arith, t.place))
+  pub last-answer : (q : Answer) → q ≡ answer_of (say_span b n l (band_count b l n - 1)) → q.number ≡ 0 → q.second ≡ n - 1
+  last-answer q e z = let t = span-told b n l (band_count b l n - 1) q e z in t.last ∙ last-ends b n l t.some (omega (arith, t.place))

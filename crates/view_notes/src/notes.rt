@@ -2,8 +2,8 @@
 ghost use Rattle.std.specs.Prelude.{◌≡◌, ◌+◌, ◌-◌, ◌^◌, ◌<◌};
 ghost use Rattle.base_answers.specs.Answers.{answer_of};
 ghost use Rattle.base_answers.specs.Checks.{first_of};
-ghost use Rattle.view_spans.specs.Spans.{reachOf, clippedEnds, span_of, bandCount};
-ghost use Rattle.view_notes.specs.Notes.{columnOf, levelChecks, sayColumn, saySpan, Drawn};
+ghost use Rattle.view_spans.specs.Spans.{reach_of, clipped_ends, span_of, band_count};
+ghost use Rattle.view_notes.specs.Notes.{column_of, level_checks, say_column, say_span, Drawn};
 
 use base_answers::err::{Answer, Refusal, is_done, numbers};
 use base_lengths::{MOST_SAMPLES, Wavelet, count_at, depth, details_length, lesser};
@@ -41,7 +41,7 @@ fn saturating_sub(a: usize, b: usize) -> usize
 // The approximation at which a sample shows.
 pub fn column(level: usize, s: SampleNumber) -> CoefficientNumber
     requires { level < 64 }
-    ensures { result.0 ≡ columnOf level s.0 }
+    ensures { result.0 ≡ column_of level s.0 }
 {
     CoefficientNumber(s.0 >> level)
 }
@@ -49,7 +49,7 @@ pub fn column(level: usize, s: SampleNumber) -> CoefficientNumber
 // How far an approximation of a level reads on either side of where it stands.
 fn reach(level: usize) -> usize
     requires { level < 63 }
-    ensures { result ≡ reachOf level }
+    ensures { result ≡ reach_of level }
 {
     saturating_sub(samples_each(level + 1), 2)
 }
@@ -58,7 +58,7 @@ fn reach(level: usize) -> usize
 fn clipped(n: usize, from: usize, to: usize, far: usize) -> SpanEnds
     requires n_nonzero { 0 < n }
     requires far_bound { to + far < 2 ^ 64 }
-    ensures { (result.first.0 ≡ (clippedEnds n from to far).0) × (result.last.0 ≡ (clippedEnds n from to far).1) }
+    ensures { (result.first.0 ≡ (clipped_ends n from to far).0) × (result.last.0 ≡ (clipped_ends n from to far).1) }
 {
     SpanEnds {
         first: SampleNumber(saturating_sub(from, far)),
@@ -69,7 +69,7 @@ fn clipped(n: usize, from: usize, to: usize, far: usize) -> SpanEnds
 // The samples that a coefficient spans: no other sample can change it.
 pub fn span(b: Band, n: usize, level: usize, p: CoefficientNumber) -> SpanEnds
     requires drawn { Drawn n level }
-    requires p_bound { p.0 < bandCount b level n }
+    requires p_bound { p.0 < band_count b level n }
     ensures { (result.first.0 ≡ (span_of b n level p.0).0) × (result.last.0 ≡ (span_of b n level p.0).1) }
 {
     let each = samples_each(level);
@@ -83,7 +83,7 @@ pub fn span(b: Band, n: usize, level: usize, p: CoefficientNumber) -> SpanEnds
 // How many coefficients a band of a level has.
 fn band_count(b: Band, level: usize, n: usize) -> usize
     requires { 0 < level }
-    ensures { result ≡ bandCount b level n }
+    ensures { result ≡ band_count b level n }
 {
     match b {
         Band::Approx => count_at(level, n),
@@ -93,7 +93,7 @@ fn band_count(b: Band, level: usize, n: usize) -> usize
 
 // A level of a recording, from 1 to its depth.
 fn check_level(n: usize, level: usize) -> Refusal
-    ensures { result ≡ first_of (levelChecks n level) (Refusal.Done 0 0) }
+    ensures { result ≡ first_of (level_checks n level) (Refusal.Done 0 0) }
 {
     if MOST_SAMPLES < n {
         return Refusal::TooLong;
@@ -110,7 +110,7 @@ fn check_level(n: usize, level: usize) -> Refusal
 
 // What is said of a sample: the level first, then the sample.
 fn say_column(n: usize, level: usize, s: SampleNumber) -> Refusal
-    ensures { result ≡ sayColumn n level s.0 }
+    ensures { result ≡ say_column n level s.0 }
 {
     let said = check_level(n, level);
     if !is_done(said) {
@@ -126,7 +126,7 @@ fn say_column(n: usize, level: usize, s: SampleNumber) -> Refusal
 
 // What is said of a coefficient; its band is counted only at a level that is there, so that the count is short.
 fn say_span(b: Band, n: usize, level: usize, p: CoefficientNumber) -> Refusal
-    ensures { result ≡ saySpan b n level p.0 }
+    ensures { result ≡ say_span b n level p.0 }
 {
     let said = check_level(n, level);
     if !is_done(said) {
@@ -143,14 +143,14 @@ fn say_span(b: Band, n: usize, level: usize, p: CoefficientNumber) -> Refusal
 
 // The column of a sample, as the desk asks for it.
 pub fn note_column(n: usize, level: usize, s: SampleNumber) -> Answer
-    ensures { result ≡ answer_of (sayColumn n level s.0) }
+    ensures { result ≡ answer_of (say_column n level s.0) }
 {
     numbers(say_column(n, level, s))
 }
 
 // The span of a coefficient, as the desk asks for it.
 pub fn note_span(b: Band, n: usize, level: usize, p: CoefficientNumber) -> Answer
-    ensures { result ≡ answer_of (saySpan b n level p.0) }
+    ensures { result ≡ answer_of (say_span b n level p.0) }
 {
     numbers(say_span(b, n, level, p))
 }

@@ -2,23 +2,23 @@
 use mathlib.Core.List.{[], ◌∷◌}
 use mathlib.Core.Path.{◌≡◌, refl}
 use Rattle.base_answers.specs.declared.err.Refusal.TheVariants.{Done, BadCount, NoSuchPlace}
-use Rattle.view_windows.specs.Windows.{sayWindow, windowIn}
+use Rattle.view_windows.specs.Windows.{say_window, window_in}
 
 -- of 5 approximations and 3 details, two bytes each
 pub record Windows : Type 0 where
-  pub low : sayWindow 2 10 6 0 1 2 ≡ Done 2 4
-  pub high : sayWindow 2 10 6 1 1 2 ≡ Done 2 4
-  pub any-other : sayWindow 2 10 6 7 0 3 ≡ Done 0 6
-  pub none : sayWindow 2 10 6 0 1 0 ≡ NoSuchPlace 1 5
-  pub past_end : sayWindow 2 10 6 1 1 3 ≡ NoSuchPlace 1 3
-  pub far : sayWindow 2 10 6 0 18446744073709551615 18446744073709551615 ≡ NoSuchPlace 18446744073709551615 5
-  pub approx-first : sayWindow 2 11 7 1 0 0 ≡ BadCount 0 11
-  pub then-details : sayWindow 2 10 7 0 0 1 ≡ BadCount 0 7
-  pub part : windowIn 2 (1 ∷ 2 ∷ []) (3 ∷ 4 ∷ 5 ∷ 6 ∷ []) 1 1 1 ≡ 5 ∷ 6 ∷ []
-  pub empty : windowIn 2 (1 ∷ 2 ∷ []) (3 ∷ 4 ∷ 5 ∷ 6 ∷ []) 0 1 1 ≡ []
+  pub low : say_window 2 10 6 0 1 2 ≡ Done 2 4
+  pub high : say_window 2 10 6 1 1 2 ≡ Done 2 4
+  pub any-other : say_window 2 10 6 7 0 3 ≡ Done 0 6
+  pub none : say_window 2 10 6 0 1 0 ≡ NoSuchPlace 1 5
+  pub past_end : say_window 2 10 6 1 1 3 ≡ NoSuchPlace 1 3
+  pub far : say_window 2 10 6 0 18446744073709551615 18446744073709551615 ≡ NoSuchPlace 18446744073709551615 5
+  pub approx-first : say_window 2 11 7 1 0 0 ≡ BadCount 0 11
+  pub then-details : say_window 2 10 7 0 0 1 ≡ BadCount 0 7
+  pub part : window_in 2 (1 ∷ 2 ∷ []) (3 ∷ 4 ∷ 5 ∷ 6 ∷ []) 1 1 1 ≡ 5 ∷ 6 ∷ []
+  pub empty : window_in 2 (1 ∷ 2 ∷ []) (3 ∷ 4 ∷ 5 ∷ 6 ∷ []) 0 1 1 ≡ []
 
 pub windows : Windows
-unfolding sayWindow windowIn
+unfolding say_window window_in
 windows =
     record {
       low = refl;

@@ -10,32 +10,32 @@ use Rattle.view_windows.specs.declared.window.SampleWidth.{SampleWidth}
 use Rattle.view_windows.specs.declared.window.SampleWidth.TheVariants.{One, Two, Four, Eight}
 
 -- how many bytes a sample has: integers of 8, 16 and 32 bits, floats of 32 and 64
-abbrev pub bytesEach : SampleWidth → ℕ
-bytesEach One = 1
-bytesEach Two = 2
-bytesEach Four = 4
-bytesEach Eight = 8
+abbrev pub bytes_each : SampleWidth → ℕ
+bytes_each One = 1
+bytes_each Two = 2
+bytes_each Four = 4
+bytes_each Eight = 8
 
 -- "whichever band was asked for": 0 is the approximations, any other number the details
-abbrev pub bandOf : {A : Type 0} → ℕ → A → A → A
-bandOf band a d = cond (eqb band 0) a d
+abbrev pub band_of : {A : Type 0} → ℕ → A → A → A
+band_of band a d = cond (eqb band 0) a d
 
 -- "a count of 0, or one that runs past the end, is 13 (start, band length)", of m samples
-abbrev pub stretchChecks : ℕ → ℕ → ℕ → List Check
-stretchChecks m start count = (eqb count 0, NoSuchPlace start m) ∷ (ltb m (start + count), NoSuchPlace start m) ∷ []
+abbrev pub stretch_checks : ℕ → ℕ → ℕ → List Check
+stretch_checks m start count = (eqb count 0, NoSuchPlace start m) ∷ (ltb m (start + count), NoSuchPlace start m) ∷ []
 
 -- the same by byte lengths, after "this 9 comes before all else (.. approximations before details ..)"; done: place and length, in bytes
-unfoldable pub sayWindow : ℕ → ℕ → ℕ → ℕ → ℕ → ℕ → Refusal
-sayWindow k a d band start count =
-    first_of (ragged k a ∷ ragged k d ∷ stretchChecks (bandOf band a d / k) start count) (Done (k * start) (k * count))
+unfoldable pub say_window : ℕ → ℕ → ℕ → ℕ → ℕ → ℕ → Refusal
+say_window k a d band start count =
+    first_of (ragged k a ∷ ragged k d ∷ stretch_checks (band_of band a d / k) start count) (Done (k * start) (k * count))
 
 -- the stretch of the band; "when refused, .. an empty stretch"
-unfoldable pub windowIn : ℕ → List ℕ → List ℕ → ℕ → ℕ → ℕ → List ℕ
-windowIn k a d band start count =
-    cond (done (sayWindow k (length a) (length d) band start count)) (take (k * count) (drop (k * start) (bandOf band a d))) []
+unfoldable pub window_in : ℕ → List ℕ → List ℕ → ℕ → ℕ → ℕ → List ℕ
+window_in k a d band start count =
+    cond (done (say_window k (length a) (length d) band start count)) (take (k * count) (drop (k * start) (band_of band a d))) []
 
 -- "a stretch of the approximations or of the details" themselves: the block and the offset where it lies are those of the band's own bytes, k * start on. An empty one lies at the band's start
-unfoldable pub windowAt : ℕ → Bor (List ℕ) → Bor (List ℕ) → ℕ → ℕ → ℕ → ℕ × ℕ
-windowAt k a d band start count =
-    let s = bandOf band a d in
-    (s.ptr.0, s.ptr.1 + cond (done (sayWindow k (length a.now) (length d.now) band start count)) (k * start) 0)
+unfoldable pub window_at : ℕ → Bor (List ℕ) → Bor (List ℕ) → ℕ → ℕ → ℕ → ℕ × ℕ
+window_at k a d band start count =
+    let s = band_of band a d in
+    (s.ptr.0, s.ptr.1 + cond (done (say_window k (length a.now) (length d.now) band start count)) (k * start) 0)

@@ -2,7 +2,7 @@
 ghost use Rattle.std.specs.Prelude.{◌≡◌, ◌*◌, ◌^◌, ◌<◌, length};
 ghost use Rattle.base_answers.specs.Answers.{answer_of};
 ghost use Rattle.base_answers.specs.Checks.{first_of};
-ghost use Rattle.view_windows.specs.Windows.{bytesEach, bandOf, stretchChecks, sayWindow, windowIn, windowAt};
+ghost use Rattle.view_windows.specs.Windows.{bytes_each, band_of, stretch_checks, say_window, window_in, window_at};
 
 use base_answers::err::{Answer, Refusal, numbers};
 
@@ -16,7 +16,7 @@ pub enum SampleWidth {
 }
 
 fn bytes_each(w: SampleWidth) -> usize
-    ensures { (result ≡ bytesEach w) × (0 < result) }
+    ensures { (result ≡ bytes_each w) × (0 < result) }
 {
     match w {
         SampleWidth::One => 1,
@@ -28,13 +28,13 @@ fn bytes_each(w: SampleWidth) -> usize
 
 // Of two lengths, that of the band which was asked for; of two bands, the band.
 fn asked_length(band: u32, a: usize, d: usize) -> usize
-    ensures { result ≡ bandOf band a d }
+    ensures { result ≡ band_of band a d }
 {
     if band == 0 { a } else { d }
 }
 
 fn asked<'a>(band: u32, approx: &'a [u8], details: &'a [u8]) -> &'a [u8]
-    ensures { result ≡ bandOf band approx.entry details.entry }
+    ensures { result ≡ band_of band approx.entry details.entry }
 {
     if band == 0 { approx } else { details }
 }
@@ -42,7 +42,7 @@ fn asked<'a>(band: u32, approx: &'a [u8], details: &'a [u8]) -> &'a [u8]
 // So many samples from a start, of m samples: start + count may not fit, so that it is never formed.
 fn check_stretch(k: usize, m: usize, start: usize, count: usize) -> Refusal
     requires { k * m < 2 ^ 64 }
-    ensures { result ≡ first_of (stretchChecks m start count) (Refusal.Done (k * start) (k * count)) }
+    ensures { result ≡ first_of (stretch_checks m start count) (Refusal.Done (k * start) (k * count)) }
 {
     if count == 0 {
         return Refusal::NoSuchPlace(start, m);
@@ -59,7 +59,7 @@ fn check_stretch(k: usize, m: usize, start: usize, count: usize) -> Refusal
 // What a window says, by byte lengths.
 fn say_window(k: usize, a: usize, d: usize, band: u32, start: usize, count: usize) -> Refusal
     requires { 0 < k }
-    ensures { result ≡ sayWindow k a d band start count }
+    ensures { result ≡ say_window k a d band start count }
 {
     if a % k != 0 {
         return Refusal::BadCount(0, a);
@@ -79,7 +79,7 @@ pub fn band_window_answer(
     start: usize,
     count: usize,
 ) -> Answer
-    ensures { result ≡ answer_of (sayWindow (bytesEach w) (length approx.now) (length details.now) band start count) }
+    ensures { result ≡ answer_of (say_window (bytes_each w) (length approx.now) (length details.now) band start count) }
 {
     numbers(say_window(
         bytes_each(w),
@@ -100,8 +100,8 @@ pub fn band_window<'a>(
     start: usize,
     count: usize,
 ) -> &'a [u8]
-    ensures result_value { result.now ≡ windowIn (bytesEach w) approx.now details.now band start count }
-    ensures ref_ptr_value { result.ref_ptr ≡ windowAt (bytesEach w) approx.entry details.entry band start count }
+    ensures result_value { result.now ≡ window_in (bytes_each w) approx.now details.now band start count }
+    ensures ref_ptr_value { result.ref_ptr ≡ window_at (bytes_each w) approx.entry details.entry band start count }
 {
     let r = band_window_answer(w, approx, details, band, start, count);
     let s = asked(band, approx, details);

@@ -2,7 +2,7 @@
 use borrow.Author.Rules.{rules}
 use mathlib.Core.Path.{ap}
 use native.Mathlib.Omega.{arith}
-use Rattle.file_open.specs.Opens.{ownWidth, ownPoint}
+use Rattle.file_open.specs.Opens.{own_width, own_point}
 use Rattle.app_show.proofs.Shown.{Shown, shown}
 use Rattle.app_show.proofs.show.Statement.{statement}
 use Rattle.app_show.proofs.show.Tie as tie
@@ -11,7 +11,7 @@ opened : (c : tie.Else1) → let d = c.before.before.before.before.before.before
 opened c =
     let d = c.before.before.before.before.before.before.before.before.before in
     let s = d.before.before.before.before.before.before.before.before.args.s.now in
-    shown s (ownWidth s) (ownPoint s) d.open_own.ensures.call c.if1.false
+    shown s (own_width s) (own_point s) d.open_own.ensures.call c.if1.false
 
 print-samples-requires : tie.Need-print-samples-requires
 print-samples-requires c κs =

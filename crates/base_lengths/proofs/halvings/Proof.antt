@@ -3,13 +3,13 @@ use Prim.Native.Nat.{◌+◌, ◌≤◌}
 use mathlib.Core.Path.{◌≡◌, ◌∙◌, ap}
 use native.Mathlib.Omega.{arith}
 use borrow.Author.Rules.{rules}
-use Rattle.base_lengths.specs.Levels.{depthFrom}
+use Rattle.base_lengths.specs.Levels.{depth_from}
 use Rattle.base_lengths.proofs.Depths.{two-below, depth-turn, depth-end}
 use Rattle.base_lengths.proofs.halvings.Statement.{statement}
 use Rattle.base_lengths.proofs.halvings.Tie as tie
 
 abbrev invariant-loop : tie.invariant-loop
-invariant-loop n m left₀ levels₀ left levels = (2 ≤ m) × (levels + depthFrom m left ≡ depthFrom m n) × (levels + left ≤ n)
+invariant-loop n m left₀ levels₀ left levels = (2 ≤ m) × (levels + depth_from m left ≡ depth_from m n) × (levels + left ≤ n)
 
 abbrev decreases-loop : tie.decreases-loop
 decreases-loop n m left₀ levels₀ left levels = left
@@ -24,7 +24,7 @@ loop-again c =
     (l.invariant.0, rw e (depth-turn _ l.invariant.0 _ _ _ l.invariant.1 c.before.loop-test.true), omega (arith, e, l.invariant, c.before.loop-test.true))
 
 returns : tie.Need-returns invariant-loop decreases-loop
-returns c = let l = c.before.loop in depth-end _ l.invariant.0 _ _ _ l.invariant.1 c.loop-test.false ∙ ap (λ m. depthFrom m c.before.before.before.args.n) c.before.before.smallest.ensures
+returns c = let l = c.before.loop in depth-end _ l.invariant.0 _ _ _ l.invariant.1 c.loop-test.false ∙ ap (λ m. depth_from m c.before.before.before.args.n) c.before.before.smallest.ensures
 
 pub halvings-spec : {M : Type 1} → statement M
 halvings-spec =

@@ -6,7 +6,7 @@ use native.Mathlib.Omega.{arith}
 use borrow.Author.Rules.{rules}
 use lib.ListN.{length, drop}
 use lib.Seq.{paste, paste-zero}
-use Rattle.base_samples.specs.Le.{leAt, stored, Bytes}
+use Rattle.base_samples.specs.Le.{le_at, stored, Bytes}
 use Rattle.base_moves.proofs.Moved.{word_moved}
 use Rattle.base_moves.proofs.pack_words.Statement.{statement}
 use Rattle.base_moves.proofs.pack_words.Tie as tie
@@ -31,7 +31,7 @@ loop-again c =
     let moved = paste b a.to (drop (a.to + a.gap) b) l.i in
     let word = c.before.before.before.before.read_u64 in
     let write = c.before.before.write-u64 in (
-      write.ensures ∙ ap (stored 8 l.b (a.to + l.i)) word.ensures ∙ ap (λ (t : List ℕ). stored 8 t (a.to + l.i) (leAt 8 t (a.to + a.gap + l.i))) l.invariant.0
+      write.ensures ∙ ap (stored 8 l.b (a.to + l.i)) word.ensures ∙ ap (λ (t : List ℕ). stored 8 t (a.to + l.i) (le_at 8 t (a.to + a.gap + l.i))) l.invariant.0
           ∙ word_moved b a.to a.gap a.count l.i st.requires bytes less,
       less,
       omega (arith, write.auto.0, l.invariant.2),

@@ -13,9 +13,9 @@ use Rattle.base_samples.specs.Words.{word_at}
 use Rattle.base_samples.specs.Integers.{val}
 use Rattle.base_samples.proofs.IntegerLaws.{width-of}
 use Rattle.file_open.specs.declared.head.Head.{Head}
-use Rattle.file_open.specs.Opens.{levelIn, countIn, samplesIn, sayFile}
+use Rattle.file_open.specs.Opens.{level_in, count_in, samples_in, say_file}
 use Rattle.file_open.proofs.Opening.{file-says, file-restorable}
-use Rattle.file_sample.proofs.Peeking.{levelsRestored, say-refused, say-past, say-done, peek-none, peek-some, file-stands, file-samples}
+use Rattle.file_sample.proofs.Peeking.{levels_restored, say-refused, say-past, say-done, peek-none, peek-some, file-stands, file-samples}
 use Rattle.file_sample.proofs.peek.Statement.{statement}
 use Rattle.file_sample.proofs.peek.Tie as tie
 
@@ -28,15 +28,15 @@ returns c =
     record { answer = c.refused.ensures.0 ∙ ap answer_of (file ∙ sym e); sample = c.refused.ensures.1 ∙ sym (peek-none a.s.now a.w a.p a.place (ap done e ∙ h)) }
 
 -- the file is taken, and what is said of it
-taken : (c : tie.Else1) → let a = c.before.before.before.before.args in done (sayFile a.s.now a.w a.p) ≡ true
+taken : (c : tie.Else1) → let a = c.before.before.before.before.args in done (say_file a.s.now a.w a.p) ≡ true
 taken c = sym (ap done c.before.before.check-file.ensures) ∙ sym c.before.is-done.ensures ∙ not-false _ c.if1.false
 
-told : (c : tie.After-numbers) → let s = c.before.before.before.before.before.args.s.now in c.numbers.result ≡ say 0 (levelIn s) (countIn s)
+told : (c : tie.After-numbers) → let s = c.before.before.before.before.before.args.s.now in c.numbers.result ≡ say 0 (level_in s) (count_in s)
 told c =
     let a = c.before.before.before.before.before.args in
     c.numbers.ensures ∙ ap answer_of (c.before.before.before.check-file.ensures ∙ file-says a.s.now a.w a.p (taken c.before))
 
-count : (c : tie.After-numbers) → c.numbers.result.second ≡ countIn c.before.before.before.before.before.args.s.now
+count : (c : tie.After-numbers) → c.numbers.result.second ≡ count_in c.before.before.before.before.before.args.s.now
 count c = ap (λ (r : Answer). r.second) (told c)
 
 returns-2 : tie.Need-returns-2
@@ -50,7 +50,7 @@ returns-2 c =
     }
 
 -- how many levels are restored, as the code has them
-levels : (c : tie.After-struct-known) → c.before.head_in.result.levels - c.before.before.before.numbers.result.first ≡ levelsRestored c.before.before.before.before.before.before.before.before.args.s.now
+levels : (c : tie.After-struct-known) → c.before.head_in.result.levels - c.before.before.before.numbers.result.first ≡ levels_restored c.before.before.before.before.before.before.before.before.args.s.now
 levels c =
     let a = c.before.before.before.before.before.before.before.before.args in
     let some = (file-restorable a.s.now a.w a.p (taken c.before.before.before.before)).some in
@@ -72,7 +72,7 @@ returns-3 c =
     let t = taken known.before.before.before.before in
     let body = ap (λ (h : Head). h.body) known.before.head_in.ensures.0 in
     let e = say-done s a.w a.p a.place t (omega (arith, n, known.before.before.if2.false)) in
-    let word : c.before.before.word_of.result ≡ word_at a.w (samplesIn s) a.place =
+    let word : c.before.before.word_of.result ≡ word_at a.w (samples_in s) a.place =
     (rw (levels known, n, body) at c.before.before.word_of.ensures.0) ∙ ap (λ (x : List ℕ). word_at a.w x a.place) (file-samples s a.w a.p t) in
     record {
       answer = c.before.numbers2.ensures ∙ ap answer_of (sym e);

@@ -15,7 +15,7 @@ use Rattle.base_answers.specs.contracts.err.Refusal.{the_type}
 use Rattle.base_answers.proofs.Chain.{by, stop}
 use Rattle.base_answers.proofs.Passed.{off}
 use Rattle.file_open.specs.declared.head.Head.{Head}
-use Rattle.file_why.specs.Reasons.{because, end_of, reasonBy, Said}
+use Rattle.file_why.specs.Reasons.{because, end_of, reason_by, Said}
 use Rattle.file_why.specs.Laws.{among}
 use Rattle.file_why.proofs.Keys.{is_one}
 use Rattle.file_why.proofs.Places.{wanted-is, told}
@@ -26,7 +26,7 @@ use Rattle.file_why.proofs.file_reason.Tie as tie
 abbrev keys : List ℕ
 keys = 2 ∷ 3 ∷ 5 ∷ 7 ∷ 13 ∷ 14 ∷ 15 ∷ 16 ∷ 17 ∷ []
 
-rest : (h : Head) (b : ℕ) (r : Refusal) → among keys (tag_of the_type r) ≡ true → because (answer_of r).number 0 0 0 0 ≡ reasonBy true h b r
+rest : (h : Head) (b : ℕ) (r : Refusal) → among keys (tag_of the_type r) ≡ true → because (answer_of r).number 0 0 0 0 ≡ reason_by true h b r
 rest h b (Done a c) = off refl
 rest h b (MinFilterSize a c) = off refl
 rest h b (ApproxSizeNotMatches a c) = λ _. refl

@@ -12,9 +12,9 @@ use Rattle.base_answers.specs.contracts.err.Refusal.{the_type}
 use Rattle.base_answers.proofs.Passed.{off}
 use Rattle.base_answers.specs.Answers.{answer_of, says, done}
 use Rattle.file_open.specs.declared.head.Head.{Head}
-use Rattle.file_open.specs.Files.{newCount}
-use Rattle.file_open.specs.Opens.{headIn}
-use Rattle.file_why.specs.Reasons.{because, missing, reasonBy, sayStart}
+use Rattle.file_open.specs.Files.{new_count}
+use Rattle.file_open.specs.Opens.{head_in}
+use Rattle.file_why.specs.Reasons.{because, missing, reason_by, say_start}
 use Rattle.file_why.specs.Laws.{among}
 use Rattle.file_why.proofs.Keys.{is_one}
 use Rattle.file_why.proofs.Places.{told}
@@ -32,22 +32,22 @@ module _ (s : List ℕ) where
   abbrev Zeroth : Refusal → Type 0
   Zeroth r = says 9 r ≡ true → (answer_of r).first ≡ 0
 
-  zeroth : (r : Refusal) → r ≡ sayStart s → Zeroth r
+  zeroth : (r : Refusal) → r ≡ say_start s → Zeroth r
   zeroth r e = subst Zeroth (sym e) (start-by s Zeroth (λ _. off refl) (λ _. off refl) (λ _ _ _. refl) (λ _ _ _. off refl) (λ _. off refl))
 
   -- what is neither too long nor a wrong count is a cut
   abbrev Cut : Refusal → Type 0
   Cut r = done r ≡ false → among keys (tag_of the_type r) ≡ true
-      → (4 ≤ length s → length s ≤ (headIn s).body) × (because 10 0 (length s) (missing (length s) 0 (headIn s).body) 0 ≡ reasonBy false (headIn s) (length s) r)
+      → (4 ≤ length s → length s ≤ (head_in s).body) × (because 10 0 (length s) (missing (length s) 0 (head_in s).body) 0 ≡ reason_by false (head_in s) (length s) r)
 
-  rest : (r : Refusal) → r ≡ sayStart s → Cut r
+  rest : (r : Refusal) → r ≡ say_start s → Cut r
   rest r e =
       subst Cut (sym e)
       (start-by s Cut (λ _ _. off refl) (λ few _ _. (λ four. omega arith, refl)) (λ _ _ _. off refl) (λ _ _ short _ _. (λ _. omega arith, refl)) (λ _ z. off z refl))
 
 -- the reason of a wrong count
-wrong : (h : Head) (b j found : ℕ) → j ≡ 0 → because 9 0 0 newCount found ≡ reasonBy false h b (BadCount j found)
-wrong h b j found e = ap (λ (i : ℕ). reasonBy false h b (BadCount i found)) (sym e)
+wrong : (h : Head) (b j found : ℕ) → j ≡ 0 → because 9 0 0 new_count found ≡ reason_by false h b (BadCount j found)
+wrong h b j found e = ap (λ (i : ℕ). reason_by false h b (BadCount i found)) (sym e)
 
 pub start-reason-spec : {M : Type 1} → statement M
 start-reason-spec =
@@ -62,7 +62,7 @@ start-reason-spec =
     let g = c.before.before.start.given in
     told false _ _ g.1
     (c.because2.ensures
-    ∙ wrong (headIn s) (length s) g.0.0 g.0.1.0 (sym (ap (λ (r : Refusal). (answer_of r).first) g.1) ∙ zeroth s st.args.start st.requires.0 (ap (says 9) g.1))))
+    ∙ wrong (head_in s) (length s) g.0.0 g.0.1.0 (sym (ap (λ (r : Refusal). (answer_of r).first) g.1) ∙ zeroth s st.args.start st.requires.0 (ap (says 9) g.1))))
     (λ c. let st = c.before.before.before.before in
     c.because3.ensures ∙ ap (λ (n : ℕ). because 10 0 (length st.args.s.now) n 0) c.before.start-missing.ensures
     ∙ (rest _ st.args.start st.requires.0 st.requires.1 (is_one keys _ c.before.before.match.keys3)).1))

@@ -1,12 +1,12 @@
 -- `copy_f32` meets its contract.
 use borrow.Author.Rules.{rules}
 use Rattle.base_samples.specs.Words.{put_at}
-use Rattle.base_samples.specs.Floats.{float_at, putFloat, canonical}
+use Rattle.base_samples.specs.Floats.{float_at, put_float, canonical}
 use Rattle.base_samples.proofs.floats.copy_f32.Statement.{statement}
 use Rattle.base_samples.proofs.floats.copy_f32.Tie as tie
 
 returns : tie.Need-returns
-unfolding float_at putFloat put_at canonical
+unfolding float_at put_float put_at canonical
 returns c = cc
 
 pub copy-f32-spec : {M : Type 1} → statement M

@@ -1,12 +1,12 @@
 -- `put_f32` meets its contract.
 use borrow.Author.Rules.{rules}
 use Rattle.base_samples.specs.Words.{put_at}
-use Rattle.base_samples.specs.Floats.{putFloat}
+use Rattle.base_samples.specs.Floats.{put_float}
 use Rattle.base_samples.proofs.floats.put_f32.Statement.{statement}
 use Rattle.base_samples.proofs.floats.put_f32.Tie as tie
 
 returns : tie.Need-returns
-unfolding putFloat put_at
+unfolding put_float put_at
 returns c = cc
 
 pub put-f32-spec : {M : Type 1} → statement M

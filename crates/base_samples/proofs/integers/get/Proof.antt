@@ -4,7 +4,7 @@ use Prim.Native.Nat.{◌*◌, ◌+◌, ◌≤◌}
 use native.Mathlib.Nat.{one-mul}
 use native.Mathlib.Omega.{arith}
 use lib.ListN.{length}
-use Rattle.base_samples.specs.Le.{leAt}
+use Rattle.base_samples.specs.Le.{le_at}
 use Rattle.base_samples.specs.Words.{word_at}
 use Rattle.base_samples.proofs.Words.{room_at}
 use Rattle.base_samples.proofs.IntegerLaws.{four}
@@ -24,7 +24,7 @@ rest c =
     room_at 4 (four st.requires.0 c.before.if1.false c.if2.false) st.args.s.now st.args.i st.requires.1
 
 returns : tie.Need-returns
-unfolding word_at leAt
+unfolding word_at le_at
 returns c = rw (c.before.if1.true, one-mul) (omega arith, omega (arith, c.shared-slice-known2.given c.before.before.before.args.i))
 
 returns-2 : tie.Need-returns-2

@@ -1,12 +1,12 @@
 -- `read_u64` meets its contract: a lower and an upper half.
 use borrow.Author.Rules.{rules}
 use mathlib.Core.Path.{sym}
-use Rattle.base_samples.proofs.LeLaws.{leAt-add}
+use Rattle.base_samples.proofs.LeLaws.{le_at-add}
 use Rattle.base_samples.proofs.le.read_u64.Statement.{statement}
 use Rattle.base_samples.proofs.le.read_u64.Tie as tie
 
 returns : tie.Need-returns
-returns c = rw (c.before.read_u32.ensures, c.read-u322.ensures) (sym (leAt-add 4 4 _ _))
+returns c = rw (c.before.read_u32.ensures, c.read-u322.ensures) (sym (le_at-add 4 4 _ _))
 
 pub read-u64-spec : {M : Type 1} → statement M
 read-u64-spec =

@@ -3,14 +3,14 @@ use borrow.Author.Rules.{rules}
 use mathlib.Core.Path.{◌≡◌}
 use native.Mathlib.Omega.{arith}
 use Rattle.base_samples.specs.Le.{Bytes}
-use Rattle.book_entries.specs.Books.{totalIn}
+use Rattle.book_entries.specs.Books.{total_in}
 use Rattle.book_entries.proofs.Entries.{total-is}
 use Rattle.book_entries.proofs.Laid.{checked}
 use Rattle.book_calls.proofs.Changed.{added_is}
 use Rattle.book_calls.proofs.calls.enter.Statement.{statement}
 use Rattle.book_calls.proofs.calls.enter.Tie as tie
 
-total : (c : tie.After-total-of) → c.total_of.result ≡ totalIn c.before.before.before.before.before.before.before.args.b.now
+total : (c : tie.After-total-of) → c.total_of.result ≡ total_in c.before.before.before.before.before.before.before.args.b.now
 total c = let k = c.before.before.before.held in total-is c.before.before.before.before.before.before.before.args.b.now k.result k.ensures c.total_of.ensures.0
 
 put-file-requires : tie.Need-put-file-requires

@@ -8,8 +8,8 @@ use lib.ListN.{length}
 use Rattle.base_answers.specs.declared.err.Refusal.TheVariants.{Done}
 use Rattle.base_answers.specs.Answers.{answer_of, done}
 use Rattle.base_answers.proofs.Passed.{Passing, passing, through, other-end}
-use Rattle.book_entries.specs.Books.{dataAt, totalIn}
-use Rattle.book_entries.specs.Checks.{Book, bookChecks, sayRoom}
+use Rattle.book_entries.specs.Books.{data_at, total_in}
+use Rattle.book_entries.specs.Checks.{Book, book_checks, say_room}
 use Rattle.book_entries.proofs.Entries.{total-is}
 use Rattle.book_entries.proofs.Laid.{checked}
 use Rattle.book_entries.proofs.Passed.{book-refuses, book-passes}
@@ -17,29 +17,29 @@ use Rattle.book_calls.proofs.calls.room.Statement.{statement}
 use Rattle.book_calls.proofs.calls.room.Tie as tie
 
 returns : tie.Need-returns
-unfolding sayRoom
+unfolding say_room
 returns c =
     let b = c.before.before.before.before.before.args.b.now in
     let e = c.before.before.before.check-book.ensures in
-    c.numbers.ensures ∙ ap answer_of (e ∙ sym (other-end (bookChecks b) (Done 0 0) _ refl (sym (ap done e) ∙ sym c.before.before.is-done.ensures ∙ not-true _ c.before.if1.true)))
+    c.numbers.ensures ∙ ap answer_of (e ∙ sym (other-end (book_checks b) (Done 0 0) _ refl (sym (ap done e) ∙ sym c.before.before.is-done.ensures ∙ not-true _ c.before.if1.true)))
 
 -- the checks pass: it is a book
-passes : (c : tie.Else1) → Passing (bookChecks c.before.before.before.before.args.b.now)
+passes : (c : tie.Else1) → Passing (book_checks c.before.before.before.before.args.b.now)
 passes c =
     let b = c.before.before.before.before.args.b.now in
-    passing (bookChecks b) (Done 0 0) (book-refuses b) (sym (ap done c.before.before.check-book.ensures) ∙ sym c.before.is-done.ensures ∙ not-false _ c.if1.false)
+    passing (book_checks b) (Done 0 0) (book-refuses b) (sym (ap done c.before.before.check-book.ensures) ∙ sym c.before.is-done.ensures ∙ not-false _ c.if1.false)
 
 book : (c : tie.Else1) → Book c.before.before.before.before.args.b.now
 book c = book-passes c.before.before.before.before.args.b.now (passes c)
 
-total : (c : tie.After-total-of) → c.total_of.result ≡ totalIn c.before.before.before.before.before.before.args.b.now
+total : (c : tie.After-total-of) → c.total_of.result ≡ total_in c.before.before.before.before.before.before.args.b.now
 total c = let k = c.before.held in total-is c.before.before.before.before.before.before.args.b.now k.result k.ensures c.total_of.ensures.0
 
 returns-2 : tie.Need-returns-2
-unfolding sayRoom
+unfolding say_room
 returns-2 c =
     let b = c.before.before.before.before.before.before.before.args.b.now in
-    c.numbers2.ensures ∙ ap answer_of (ap₂ (λ (t h : ℕ). Done (length b - dataAt - t) h) (total c.before) c.before.before.held.ensures ∙ sym (through (bookChecks b) _ (passes c.before.before.before)))
+    c.numbers2.ensures ∙ ap answer_of (ap₂ (λ (t h : ℕ). Done (length b - data_at - t) h) (total c.before) c.before.before.held.ensures ∙ sym (through (book_checks b) _ (passes c.before.before.before)))
 
 pub room-spec : {M : Type 1} → statement M
 room-spec =

@@ -5,18 +5,18 @@ use Prim.Native.Nat.{◌<◌}
 use native.Mathlib.Omega.{arith}
 use lib.ListN.{length}
 use Rattle.base_samples.specs.Le.{Bytes}
-use Rattle.book_entries.specs.Books.{entriesIn, slotOf}
+use Rattle.book_entries.specs.Books.{entries_in, slot_of}
 use Rattle.book_entries.proofs.Entries.{entries-few}
 use Rattle.book_entries.proofs.Passed.{held_below}
 use Rattle.book_calls.proofs.Changed.{withdrawn-is}
 use Rattle.book_calls.proofs.calls.take_out.Statement.{statement}
 use Rattle.book_calls.proofs.calls.take_out.Tie as tie
 
-slot : (c : tie.After-slot-of) → let a = c.before.before.before.before.before.args in c.slot_of.result ≡ slotOf a.p (entriesIn a.b.now)
+slot : (c : tie.After-slot-of) → let a = c.before.before.before.before.before.args in c.slot_of.result ≡ slot_of a.p (entries_in a.b.now)
 slot c = omega (arith, c.slot_of.ensures)
 
-below : (c : tie.After-slot-of) → c.slot_of.result < length (entriesIn c.before.before.before.before.before.args.b.now)
-below c = let st = c.before.before.before.before.before in omega (arith, slot c, held_below st.args.p (entriesIn st.args.b.now) st.requires.1)
+below : (c : tie.After-slot-of) → c.slot_of.result < length (entries_in c.before.before.before.before.before.args.b.now)
+below c = let st = c.before.before.before.before.before in omega (arith, slot c, held_below st.args.p (entries_in st.args.b.now) st.requires.1)
 
 take-file-requires : tie.Need-take-file-requires
 take-file-requires c κs = (c.before.before.before.before.before.before.requires.0, c.before.before.before.held.ensures, omega (arith, below c.before))

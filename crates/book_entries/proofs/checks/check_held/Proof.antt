@@ -13,19 +13,19 @@ use Rattle.base_answers.specs.Answers.{done}
 use Rattle.base_answers.specs.Checks.{Check, first_of}
 use Rattle.base_answers.proofs.Chain.{by, stop}
 use Rattle.base_answers.proofs.Passed.{passing, say-rest, say-stop}
-use Rattle.book_entries.specs.Books.{entriesIn, slotOf, is_held}
-use Rattle.book_entries.specs.Checks.{Book, bookChecks, heldChecks}
+use Rattle.book_entries.specs.Books.{entries_in, slot_of, is_held}
+use Rattle.book_entries.specs.Checks.{Book, book_checks, held_checks}
 use Rattle.book_entries.proofs.Passed.{book-refuses, book-passes}
 use Rattle.book_entries.proofs.checks.check_held.Statement.{statement}
 use Rattle.book_entries.proofs.checks.check_held.Tie as tie
 
 abbrev point : List ℕ → ℕ → List Check
-point b p = (not (is_held p (entriesIn b)), NotHeld) ∷ []
+point b p = (not (is_held p (entries_in b)), NotHeld) ∷ []
 
 returns : tie.Need-returns
 returns c =
     let a = c.before.before.before.before.args in
-    say-stop (bookChecks a.b.now) (point a.b.now a.p) (Done 0 0) c.before.before.check-book.ensures (sym c.before.is-done.ensures ∙ not-true _ c.if1.true)
+    say-stop (book_checks a.b.now) (point a.b.now a.p) (Done 0 0) c.before.before.check-book.ensures (sym c.before.is-done.ensures ∙ not-true _ c.if1.true)
 
 -- past the book
 passes : (c : tie.Else1) → done c.before.before.check-book.result ≡ true
@@ -34,26 +34,26 @@ passes c = sym c.before.is-done.ensures ∙ not-false _ c.if1.false
 book : (c : tie.Else1) → Book c.before.before.before.before.args.b.now
 book c =
     let b = c.before.before.before.before.args.b.now in
-    book-passes b (passing (bookChecks b) (Done 0 0) (book-refuses b) (sym (ap done c.before.before.check-book.ensures) ∙ passes c))
+    book-passes b (passing (book_checks b) (Done 0 0) (book-refuses b) (sym (ap done c.before.before.check-book.ensures) ∙ passes c))
 
-past : (c : tie.Else1) {z : Refusal} → let a = c.before.before.before.before.args in z ≡ first_of (point a.b.now a.p) (Done 0 0) → z ≡ first_of (heldChecks a.b.now a.p) (Done 0 0)
+past : (c : tie.Else1) {z : Refusal} → let a = c.before.before.before.before.args in z ≡ first_of (point a.b.now a.p) (Done 0 0) → z ≡ first_of (held_checks a.b.now a.p) (Done 0 0)
 past c q =
     let a = c.before.before.before.before.args in
-    say-rest (bookChecks a.b.now) (point a.b.now a.p) (Done 0 0) (book-refuses a.b.now) c.before.before.check-book.ensures (passes c) q
+    say-rest (book_checks a.b.now) (point a.b.now a.p) (Done 0 0) (book-refuses a.b.now) c.before.before.check-book.ensures (passes c) q
 
 returns-2 : tie.Need-returns-2
 returns-2 c =
     let k = c.before.before.before in
     let a = k.before.before.before.before.args in
-    let es = entriesIn a.b.now in
-    past k (stop _ (ap not (le-ltb (slotOf a.p es) (length es) (omega (arith, c.before.slot_of.ensures, c.before.before.held.ensures, c.if2.true)))) refl)
+    let es = entries_in a.b.now in
+    past k (stop _ (ap not (le-ltb (slot_of a.p es) (length es) (omega (arith, c.before.slot_of.ensures, c.before.before.held.ensures, c.if2.true)))) refl)
 
 returns-3 : tie.Need-returns-3
 returns-3 c =
     let k = c.before.before.before in
     let a = k.before.before.before.before.args in
-    let es = entriesIn a.b.now in
-    past k (by _ (ap not (lt-ltb (slotOf a.p es) (length es) (omega (arith, c.before.slot_of.ensures, c.before.before.held.ensures, c.if2.false)))) refl)
+    let es = entries_in a.b.now in
+    past k (by _ (ap not (lt-ltb (slot_of a.p es) (length es) (omega (arith, c.before.slot_of.ensures, c.before.before.held.ensures, c.if2.false)))) refl)
 
 pub check-held-spec : {M : Type 1} → statement M
 check-held-spec =

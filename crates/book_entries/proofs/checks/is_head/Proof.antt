@@ -6,10 +6,10 @@ use mathlib.Core.Path.{◌≡◌, sym, ap, ◌∙◌}
 use Rattle.base_answers.specs.declared.err.Refusal.TheVariants.{Done}
 use Rattle.base_answers.specs.Answers.{done}
 use Rattle.base_answers.specs.Checks.{first_of}
-use Rattle.base_samples.specs.Le.{leAt}
+use Rattle.base_samples.specs.Le.{le_at}
 use Rattle.file_open.specs.declared.head.Head.{Head}
-use Rattle.file_open.specs.Files.{isCount}
-use Rattle.file_open.specs.Opens.{fieldChecks}
+use Rattle.file_open.specs.Files.{is_count}
+use Rattle.file_open.specs.Opens.{field_checks}
 use Rattle.book_entries.specs.Books.{entry_at}
 use Rattle.book_entries.proofs.Tests.{yes, no}
 use Rattle.book_entries.proofs.Entries.{count-read}
@@ -17,14 +17,14 @@ use Rattle.book_entries.proofs.checks.is_head.Statement.{statement}
 use Rattle.book_entries.proofs.checks.is_head.Tie as tie
 
 -- the entry's own count is what is tested
-tested : (c : tie.After-is-count) → let a = c.before.before.before.args in isCount (leAt 4 (entry_at a.b.now a.i) 0) ≡ c.is-count.result
+tested : (c : tie.After-is-count) → let a = c.before.before.before.args in is_count (le_at 4 (entry_at a.b.now a.i) 0) ≡ c.is-count.result
 tested c =
     let a = c.before.before.before.args in
-    ap isCount (count-read a.b.now a.i ∙ sym c.before.read_u32.ensures) ∙ sym c.is-count.ensures
+    ap is_count (count-read a.b.now a.i ∙ sym c.before.read_u32.ensures) ∙ sym c.is-count.ensures
 
 -- what the fields say
 abbrev fields : Head → Bool
-fields h = done (first_of (fieldChecks h h.width h.point) (Done 0 0))
+fields h = done (first_of (field_checks h h.width h.point) (Done 0 0))
 
 returns : tie.Need-returns
 returns c = no _ (tested c.before ∙ not-true _ c.if1.true)

@@ -5,20 +5,20 @@ use Prim.Native.Nat.{ℕ, suc, ◌+◌, ◌-◌, ◌≤◌}
 use native.Mathlib.Omega.{arith}
 use borrow.Author.Tests.{eq-eqb, ne_eqb}
 use lib.ListN.{length}
-use Rattle.base_samples.specs.Le.{leAt}
-use Rattle.book_entries.specs.Books.{most, entry_at, usedFrom, entriesIn}
+use Rattle.base_samples.specs.Le.{le_at}
+use Rattle.book_entries.specs.Books.{most, entry_at, used_from, entries_in}
 use Rattle.book_entries.proofs.Entries.{count-read, held_next, held-end, held_none}
 use Rattle.book_entries.proofs.directory.held.Statement.{statement}
 use Rattle.book_entries.proofs.directory.held.Tie as tie
 
 abbrev invariant-loop : tie.invariant-loop
-invariant-loop b i₀ i = (i + length (usedFrom (most - i) i b) ≡ length (entriesIn b)) × (i ≤ most)
+invariant-loop b i₀ i = (i + length (used_from (most - i) i b) ≡ length (entries_in b)) × (i ≤ most)
 
 abbrev decreases-loop : tie.decreases-loop
 decreases-loop b i₀ i = most - i
 
 loop-holds : tie.Need-loop-init invariant-loop decreases-loop
-unfolding entriesIn
+unfolding entries_in
 loop-holds c = (omega arith, omega arith)
 
 returns : tie.Need-returns invariant-loop decreases-loop
@@ -32,9 +32,9 @@ loop-again : tie.Need-loop-preserved invariant-loop decreases-loop
 loop-again c =
     let b = c.before.before.before.before.before.args.b.now in
     let l = c.before.before.before.loop in
-    let used = ap not (ne_eqb (leAt 4 (entry_at b l.i) 0) 0 (λ z. c.if1.false (c.before.read_u32.ensures ∙ sym (count-read b l.i) ∙ z))) in
+    let used = ap not (ne_eqb (le_at 4 (entry_at b l.i) 0) 0 (λ z. c.if1.false (c.before.read_u32.ensures ∙ sym (count-read b l.i) ∙ z))) in
     let e : suc l.i ≡ l.i + 1 = omega arith in
-    let n = held_next b l.i c.before.before.loop-test.true used ∙ ap (λ (j : ℕ). suc (length (usedFrom (most - j) j b))) e in
+    let n = held_next b l.i c.before.before.loop-test.true used ∙ ap (λ (j : ℕ). suc (length (used_from (most - j) j b))) e in
     (omega (arith, l.invariant.0, n), omega arith)
 
 returns-2 : tie.Need-returns-2 invariant-loop decreases-loop

@@ -5,7 +5,7 @@ use Prim.Native.Nat.{◌*◌, ◌≤◌}
 use native.Mathlib.Nat.{mul-le-mul_right}
 use native.Mathlib.Omega.{arith}
 use Rattle.file_open.specs.declared.head.Head.{Head}
-use Rattle.file_open.specs.Files.{fileSize}
+use Rattle.file_open.specs.Files.{file_size}
 use Rattle.file_open.specs.Opens.{Read}
 use Rattle.book_entries.proofs.directory.size_at.Statement.{statement}
 use Rattle.book_entries.proofs.directory.size_at.Tie as tie
@@ -17,7 +17,7 @@ product h r = let a : h.width * h.samples ≤ 255 * h.samples = mul-le-mul_right
 returns : tie.Need-returns
 returns c =
     let e = c.before.before.before.entry in (
-      ap (λ (h : Head). fileSize h.body h.width h.levels h.samples) e.ensures.0,
+      ap (λ (h : Head). file_size h.body h.width h.levels h.samples) e.ensures.0,
       omega (arith, e.ensures.1.body, e.ensures.1.levels, product e.result e.ensures.1),
     )
 

@@ -6,26 +6,26 @@ use lib.ListN.{take}
 use Rattle.base_answers.specs.declared.err.Refusal.{Refusal}
 use Rattle.base_answers.specs.Checks.{first_of}
 use Rattle.base_answers.proofs.Chain.{by, stop, same, other}
-use Rattle.base_samples.specs.Integers.{isWidth}
-use Rattle.file_open.specs.Opens.{fieldChecks}
+use Rattle.base_samples.specs.Integers.{is_width}
+use Rattle.file_open.specs.Opens.{field_checks}
 use borrow.Author.Rules.{rules}
 use Rattle.file_open.proofs.open.check_fields.Statement.{statement}
 use Rattle.file_open.proofs.open.check_fields.Tie as tie
 
 -- the width asked is none
-none : (c : tie.Then2) → let a = c.before.before.before.before.args in not (isWidth a.w) ≡ true
+none : (c : tie.Then2) → let a = c.before.before.before.before.args in not (is_width a.w) ≡ true
 none c = ap not (sym c.before.is-width.ensures) ∙ c.if2.true
 
 -- past the widths: what is said of the rest is said of all
-past2 : (c : tie.Else2) {y z : Refusal} → z ≡ y → let a = c.before.before.before.before.args in z ≡ first_of (take 2 (fieldChecks a.h a.w a.p)) y
+past2 : (c : tie.Else2) {y z : Refusal} → z ≡ y → let a = c.before.before.before.before.args in z ≡ first_of (take 2 (field_checks a.h a.w a.p)) y
 past2 c q = by _ (same _ _ c.before.before.if1.false) (by _ (ap not (sym c.before.is-width.ensures) ∙ c.if2.false) q)
 
 -- past the number of samples
-past4 : (c : tie.Else4) {y z : Refusal} → z ≡ y → let a = c.before.before.before.before.before.before.before.before.args in z ≡ first_of (take 4 (fieldChecks a.h a.w a.p)) y
+past4 : (c : tie.Else4) {y z : Refusal} → z ≡ y → let a = c.before.before.before.before.before.before.before.before.args in z ≡ first_of (take 4 (field_checks a.h a.w a.p)) y
 past4 c q = past2 c.before.before.before.before (by _ (le-ltb _ _ c.before.before.if3.false) (by _ (le-ltb _ _ c.if4.false) q))
 
 -- past the levels
-past6 : (c : tie.Else6) {y z : Refusal} → z ≡ y → let a = c.before.before.before.before.before.before.before.before.before.before.before.before.before.args in z ≡ first_of (take 6 (fieldChecks a.h a.w a.p)) y
+past6 : (c : tie.Else6) {y z : Refusal} → z ≡ y → let a = c.before.before.before.before.before.before.before.before.before.before.before.before.before.args in z ≡ first_of (take 6 (field_checks a.h a.w a.p)) y
 past6 c q = past4 c.before.before.before.before.before (by _ (ne_eqb _ _ c.before.before.before.if5.false) (by _ (rw c.before.before.depth.ensures at (le-ltb _ _ c.if6.false)) q))
 
 pub check-fields-spec : {M : Type 1} → statement M

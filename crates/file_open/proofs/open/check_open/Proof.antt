@@ -12,30 +12,30 @@ use Rattle.base_answers.specs.Answers.{answer_of, done}
 use Rattle.base_answers.specs.Checks.{Check, first_of}
 use Rattle.base_answers.proofs.Passed.{passing, through, say-rest, say-stop, other-end}
 use Rattle.base_samples.proofs.IntegerLaws.{width-of}
-use Rattle.file_open.specs.Opens.{fileChecks, levelIn, countIn, sayFile, areaChecks, rooms_for, sayOpen}
+use Rattle.file_open.specs.Opens.{file_checks, level_in, count_in, say_file, area_checks, rooms_for, say_open}
 use Rattle.file_open.proofs.Opening.{area-refuses, file-says, file-restorable, file-rest, file-stop}
 use Rattle.file_open.proofs.open.check_open.Statement.{statement}
 use Rattle.file_open.proofs.open.check_open.Tie as tie
 
 -- what is checked after the areas
 abbrev rest : List ℕ → ℕ → ℕ → ℕ → ℕ → ℕ → List Check
-rest s w p o u v = fileChecks s w p ++ rooms_for w (countIn s) o u v
+rest s w p o u v = file_checks s w p ++ rooms_for w (count_in s) o u v
 
 -- past the areas: the whole list says what the rest says
 past : (c : tie.Else1) {z : Refusal} → let a = c.before.before.before.before.args in let s = a.s.now in
-    z ≡ first_of (rest s a.w a.p a.o a.u a.v) (Done (levelIn s) (countIn s)) → z ≡ sayOpen s a.w a.p a.o a.u a.v
-unfolding sayOpen
+    z ≡ first_of (rest s a.w a.p a.o a.u a.v) (Done (level_in s) (count_in s)) → z ≡ say_open s a.w a.p a.o a.u a.v
+unfolding say_open
 past c q =
     let a = c.before.before.before.before.args in
     let s = a.s.now in
-    say-rest (areaChecks a.w a.o a.u a.v) (rest s a.w a.p a.o a.u a.v) (Done (levelIn s) (countIn s)) (area-refuses a.w a.o a.u a.v) c.before.before.check-areas.ensures (sym c.before.is-done.ensures ∙ not-false _ c.if1.false) q
+    say-rest (area_checks a.w a.o a.u a.v) (rest s a.w a.p a.o a.u a.v) (Done (level_in s) (count_in s)) (area-refuses a.w a.o a.u a.v) c.before.before.check-areas.ensures (sym c.before.is-done.ensures ∙ not-false _ c.if1.false) q
 
 returns : tie.Need-returns
-unfolding sayOpen
+unfolding say_open
 returns c =
     let a = c.before.before.before.before.args in
     let s = a.s.now in
-    say-stop (areaChecks a.w a.o a.u a.v) (rest s a.w a.p a.o a.u a.v) (Done (levelIn s) (countIn s)) c.before.before.check-areas.ensures (sym c.before.is-done.ensures ∙ not-true _ c.if1.true)
+    say-stop (area_checks a.w a.o a.u a.v) (rest s a.w a.p a.o a.u a.v) (Done (level_in s) (count_in s)) c.before.before.check-areas.ensures (sym c.before.is-done.ensures ∙ not-true _ c.if1.true)
 
 returns-2 : tie.Need-returns-2
 returns-2 c =
@@ -45,14 +45,14 @@ returns-2 c =
     past c.before.before.before (e ∙ sym (file-stop s a.w a.p _ _ (sym (ap done e) ∙ sym c.before.is-done2.ensures ∙ not-true _ c.if2.true)))
 
 -- the file is taken
-taken : (c : tie.Else2) → let a = c.before.before.before.before.before.before.before.args in done (sayFile a.s.now a.w a.p) ≡ true
+taken : (c : tie.Else2) → let a = c.before.before.before.before.before.before.before.args in done (say_file a.s.now a.w a.p) ≡ true
 taken c = sym (ap done c.before.before.check-file.ensures) ∙ sym c.before.is-done2.ensures ∙ not-false _ c.if2.false
 
 -- the rooms, for the count that is said
-rooms : (c : tie.After-check-rooms) → let a = c.before.before.before.before.before.before.before.before.before.args in c.check-rooms.result ≡ first_of (rooms_for a.w (countIn a.s.now) a.o a.u a.v) (Done 0 0)
+rooms : (c : tie.After-check-rooms) → let a = c.before.before.before.before.before.before.before.before.before.args in c.check-rooms.result ≡ first_of (rooms_for a.w (count_in a.s.now) a.o a.u a.v) (Done 0 0)
 rooms c =
     let a = c.before.before.before.before.before.before.before.before.before.args in
-    let count : c.before.numbers.result.second ≡ countIn a.s.now =
+    let count : c.before.numbers.result.second ≡ count_in a.s.now =
     ap (λ (r : Answer). r.second) (c.before.numbers.ensures ∙ ap answer_of (c.before.before.before.before.check-file.ensures ∙ file-says a.s.now a.w a.p (taken c.before.before))) in
     c.check-rooms.ensures ∙ ap (λ (n : ℕ). first_of (rooms_for a.w n a.o a.u a.v) (Done 0 0)) count
 
@@ -60,16 +60,16 @@ returns-3 : tie.Need-returns-3
 returns-3 c =
     let a = c.before.before.before.before.before.before.before.before.before.before.before.args in
     let s = a.s.now in
-    let r = rooms_for a.w (countIn s) a.o a.u a.v in
+    let r = rooms_for a.w (count_in s) a.o a.u a.v in
     let e = rooms c.before.before in
     past c.before.before.before.before.before.before.before
-    (e ∙ sym (other-end r (Done 0 0) (Done (levelIn s) (countIn s)) refl (sym (ap done e) ∙ sym c.before.is-done3.ensures ∙ not-true _ c.if3.true)) ∙ sym (file-rest s a.w a.p r _ (taken c.before.before.before.before)))
+    (e ∙ sym (other-end r (Done 0 0) (Done (level_in s) (count_in s)) refl (sym (ap done e) ∙ sym c.before.is-done3.ensures ∙ not-true _ c.if3.true)) ∙ sym (file-rest s a.w a.p r _ (taken c.before.before.before.before)))
 
 returns-4 : tie.Need-returns-4
 returns-4 c =
     let a = c.before.before.before.before.before.before.before.before.before.before.before.args in
     let s = a.s.now in
-    let r = rooms_for a.w (countIn s) a.o a.u a.v in
+    let r = rooms_for a.w (count_in s) a.o a.u a.v in
     let d = taken c.before.before.before.before in
     let q = passing r (Done 0 0) (refl, (refl, (refl, tt))) (sym (ap done (rooms c.before.before)) ∙ sym c.before.is-done3.ensures ∙ not-false _ c.if3.false) in
     past c.before.before.before.before.before.before.before (c.before.before.before.before.before.before.check-file.ensures ∙ file-says s a.w a.p d ∙ sym (through r _ q) ∙ sym (file-rest s a.w a.p r _ d))

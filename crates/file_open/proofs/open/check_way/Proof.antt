@@ -7,14 +7,14 @@ use Rattle.base_answers.specs.declared.err.Refusal.TheVariants.{Done}
 use Rattle.base_answers.specs.Checks.{first_of}
 use Rattle.base_answers.proofs.Chain.{by, stop}
 use Rattle.file_open.specs.declared.walk.Way.{Way}
-use Rattle.file_open.specs.Opens.{wayChecks}
+use Rattle.file_open.specs.Opens.{way_checks}
 use borrow.Author.Rules.{rules}
 use Rattle.file_open.proofs.open.check_way.Statement.{statement}
 use Rattle.file_open.proofs.open.check_way.Tie as tie
 
 -- the same, of the way that it is
-of : {v g : Way} {r : Refusal} (b : ℕ) → v ≡ g → r ≡ first_of (wayChecks g b) (Done 0 0) → r ≡ first_of (wayChecks v b) (Done 0 0)
-of b e q = q ∙ sym (ap (λ w. first_of (wayChecks w b) (Done 0 0)) e)
+of : {v g : Way} {r : Refusal} (b : ℕ) → v ≡ g → r ≡ first_of (way_checks g b) (Done 0 0) → r ≡ first_of (way_checks v b) (Done 0 0)
+of b e q = q ∙ sym (ap (λ w. first_of (way_checks w b) (Done 0 0)) e)
 
 pub check-way-spec : {M : Type 1} → statement M
 check-way-spec =

@@ -6,14 +6,14 @@ use native.Mathlib.Omega.{arith}
 use borrow.Author.Rules.{rules}
 use lib.ListN.{length, take, drop}
 use lib.Seq.{take_at, drop_at}
-use Rattle.base_lengths.specs.Lengths.{approxLength, detailsLength, smallestOf}
+use Rattle.base_lengths.specs.Lengths.{approx_length, details_length, smallest_of}
 use Rattle.base_lengths.specs.Levels.{depth_of}
 use Rattle.base_lengths.proofs.Depths.{step, two-below}
-use Rattle.levels_filter.specs.Filters.{width_of, waveletOf, backOf}
+use Rattle.levels_filter.specs.Filters.{width_of, wavelet_of, back_of}
 use Rattle.levels_filter.proofs.Cuts.{split-width}
 use Rattle.levels_filter.proofs.Lists.{later}
-use Rattle.file_open.specs.Files.{bodySize}
-use Rattle.file_open.specs.Walks.{bytes_at, restoredAt}
+use Rattle.file_open.specs.Files.{body_size}
+use Rattle.file_open.specs.Walks.{bytes_at, restored_at}
 use Rattle.file_open.proofs.Parts.{restore-none, restore-more}
 use Prim.Native.Nat.{ℕ, ◌<◌}
 use borrow.Fn.Kinds.{In}
@@ -53,11 +53,11 @@ claims t = (
 
 -- a level more runs
 level : (t : ℕ) (st : restore-lts.Start (claims t) (restore-at t) restore.Post) → (st.args.levels ≡ 0 → ⊥)
-    → let a = st.args in (smallestOf (waveletOf a.f) ≤ a.n) × (a.levels - 1 ≤ depth_of (waveletOf a.f) (approxLength a.n))
+    → let a = st.args in (smallest_of (wavelet_of a.f) ≤ a.n) × (a.levels - 1 ≤ depth_of (wavelet_of a.f) (approx_length a.n))
 level t st h =
     let a = st.args in
-    let e : suc (a.levels - 1) ≤ depth_of (waveletOf a.f) a.n = omega (arith, st.requires.1.1.0.deep, h) in
-    step (smallestOf (waveletOf a.f)) (two-below (waveletOf a.f)) (a.levels - 1) a.n e
+    let e : suc (a.levels - 1) ≤ depth_of (wavelet_of a.f) a.n = omega (arith, st.requires.1.1.0.deep, h) in
+    step (smallest_of (wavelet_of a.f)) (two-below (wavelet_of a.f)) (a.levels - 1) a.n e
 
 restore-fetch-requires : (t : ℕ) → restore-lts.Need-fetch-requires (claims t) (restore-at t) restore.Post
 restore-fetch-requires t c κs = omega arith
@@ -118,22 +118,22 @@ restore-returns-2 : (t : ℕ) → restore-lts.Need-returns-2 (claims t) (restore
 restore-returns-2 t c =
     let a = c.before.before.before.before.before.before.before.before.before.before.before.before.before.before.before.before.before.before.args in
     let b = width_of a.f * a.n in
-    let h = width_of a.f * approxLength a.n in
-    let r = restoredAt (width_of a.f) a.s.now (a.levels - 1) (approxLength a.n) a.at in
+    let h = width_of a.f * approx_length a.n in
+    let r = restored_at (width_of a.f) a.s.now (a.levels - 1) (approx_length a.n) a.at in
     let rs = c.before.before.before.before.before.before.before.before.before.before.restore in
     let made = rw c.before.before.before.before.before.before.before.before.before.before.before.before.before.approx-length.ensures at rs.ensures in
     let cu = c.before.before.before.before.before.cut_of in
     let bd = c.before.before.build in
     let place = a.at + (4 * a.levels + cu.result) in
     let below : h ≤ b = omega (arith, cu.ensures) in
-    let there : place ≡ a.at + bodySize (width_of a.f) (a.levels - 1) (approxLength a.n) = omega (arith, cu.ensures, c.before.before.before.before.before.before.before.before.before.before.before.before.before.before.if1.false) in
+    let there : place ≡ a.at + body_size (width_of a.f) (a.levels - 1) (approx_length a.n) = omega (arith, cu.ensures, c.before.before.before.before.before.before.before.before.before.before.before.before.before.before.if1.false) in
     let tk : take h rs.new.1.1.1.1.1.0 ≡ r = ap (λ (u : List ℕ). take h u) made.0 ∙ take_at r (drop h a.other.now) h made.1.1 in
-    let whole : backOf a.f (take h rs.new.1.1.1.1.1.0) (bytes_at (width_of a.f) a.s.now (detailsLength a.n) place) ≡ restoredAt (width_of a.f) a.s.now a.levels a.n a.at =
-    ap (λ (u : List ℕ). backOf a.f u (bytes_at (width_of a.f) a.s.now (detailsLength a.n) place)) tk
+    let whole : back_of a.f (take h rs.new.1.1.1.1.1.0) (bytes_at (width_of a.f) a.s.now (details_length a.n) place) ≡ restored_at (width_of a.f) a.s.now a.levels a.n a.at =
+    ap (λ (u : List ℕ). back_of a.f u (bytes_at (width_of a.f) a.s.now (details_length a.n) place)) tk
     ∙ restore-more a.f c.before.before.before.before.before.before.before.before.before.before.before.before.before.before.before.before.before.before.requires.1.0 a.s.now a.levels a.n a.at place c.before.before.before.before.before.before.before.before.before.before.before.before.before.before.if1.false there in (
       bd.ensures.0
           ∙ ap (λ (u : List ℕ). u ++ drop b rs.new.1.1.1.1.1.1.0) whole
-          ∙ ap (λ (u : List ℕ). restoredAt (width_of a.f) a.s.now a.levels a.n a.at ++ u) (later h b _ _ below made.1.0),
+          ∙ ap (λ (u : List ℕ). restored_at (width_of a.f) a.s.now a.levels a.n a.at ++ u) (later h b _ _ below made.1.0),
       (
         later h b _ _ below (ap (λ (u : List ℕ). drop h u) made.0 ∙ drop_at r (drop h a.other.now) h made.1.1),
         ap length (sym whole) ∙ bd.ensures.1,

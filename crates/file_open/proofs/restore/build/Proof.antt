@@ -5,8 +5,8 @@ use Prim.Native.Nat.{ℕ, ◌*◌, ◌+◌, ◌-◌}
 use native.Mathlib.Omega.{arith}
 use lib.ListN.{length, take, drop}
 use lib.Seq.{length-take-le}
-use Rattle.base_lengths.specs.Lengths.{approxLength, detailsLength}
-use Rattle.levels_filter.specs.Filters.{width_of, backOf}
+use Rattle.base_lengths.specs.Lengths.{approx_length, details_length}
+use Rattle.levels_filter.specs.Filters.{width_of, back_of}
 use Rattle.file_open.proofs.Parts.{piece, piece-length}
 use borrow.Author.Rules.{rules}
 use Rattle.file_open.proofs.restore.build.Statement.{statement}
@@ -50,7 +50,7 @@ restore-requires c κs =
     let a = c.before.before.before.before.before.before.before.before.args in
     let k = a.at + 4 in
     let j = c.before.before.before.before.bytes-of.result - c.before.before.before.cut_of.result in
-    let b = width_of a.f * detailsLength a.n in
+    let b = width_of a.f * details_length a.n in
     let e : j ≡ b = omega arith in
     record {
       long = c.before.before.before.before.before.before.before.before.requires.0;
@@ -70,16 +70,16 @@ returns c =
     let all = c.before.before.before.before.before.before.before.bytes-of.result in
     let cu = c.before.before.before.before.before.before.cut_of in
     let j = all - cu.result in
-    let b = width_of a.f * detailsLength a.n in
+    let b = width_of a.f * details_length a.n in
     let e : j ≡ b = omega arith in
     let bw = c.before.before.restore in
     let x = bw.new.1.1.1.1.0 in
-    let is : x ≡ backOf a.f (take (width_of a.f * approxLength a.n) a.other.now) (take b (drop k a.s.now)) =
+    let is : x ≡ back_of a.f (take (width_of a.f * approx_length a.n) a.other.now) (take b (drop k a.s.now)) =
     bw.ensures
-    ∙ ap (λ (u : List ℕ). backOf a.f (take cu.result a.other.now) u) (piece a.s.now k j b e)
-    ∙ ap (λ (i : ℕ). backOf a.f (take i a.other.now) (take b (drop k a.s.now))) cu.ensures.place in
+    ∙ ap (λ (u : List ℕ). back_of a.f (take cu.result a.other.now) u) (piece a.s.now k j b e)
+    ∙ ap (λ (i : ℕ). back_of a.f (take i a.other.now) (take b (drop k a.s.now))) cu.ensures.place in
     let long : length x ≡ width_of a.f * a.n = bw.auto.1.1.1.1.0 ∙ length-take-le all a.to.now (omega arith) ∙ c.before.before.before.before.before.before.before.bytes-of.ensures in (
-      ap (λ (u : List ℕ). u ++ drop all a.to.now) is ∙ ap (λ (i : ℕ). ◌++◌ (backOf a.f (take (width_of a.f * approxLength a.n) a.other.now) (take b (drop k a.s.now))) (drop i a.to.now)) c.before.before.before.before.before.before.before.bytes-of.ensures,
+      ap (λ (u : List ℕ). u ++ drop all a.to.now) is ∙ ap (λ (i : ℕ). ◌++◌ (back_of a.f (take (width_of a.f * approx_length a.n) a.other.now) (take b (drop k a.s.now))) (drop i a.to.now)) c.before.before.before.before.before.before.before.bytes-of.ensures,
       ap length (sym is) ∙ long,
     )
 

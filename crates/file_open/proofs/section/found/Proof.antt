@@ -8,24 +8,24 @@ use Rattle.base_answers.specs.declared.err.Refusal.TheVariants.{Done}
 use Rattle.base_answers.specs.Checks.{first_of}
 use Rattle.file_open.specs.declared.walk.Way.{Way}
 use Rattle.file_open.specs.declared.walk.Way.TheVariants.{Went, Wrong}
-use Rattle.file_open.specs.Opens.{wayTo, sectionChecks, length_of, start_of, endBy}
+use Rattle.file_open.specs.Opens.{way_to, section_checks, length_of, start_of, end_by}
 use Rattle.file_open.proofs.Sections.{ends}
 use borrow.Author.Rules.{rules}
 use Rattle.file_open.proofs.section.found.Statement.{statement}
 use Rattle.file_open.proofs.section.found.Tie as tie
 
 -- the way is the one that was walked
-is : (c : tie.After-way-to) {v : Way} → c.way-to.result ≡ v → wayTo c.before.before.before.args.s.now c.before.before.before.args.h c.before.before.before.args.j ≡ v
+is : (c : tie.After-way-to) {v : Way} → c.way-to.result ≡ v → way_to c.before.before.before.args.s.now c.before.before.before.args.h c.before.before.before.args.j ≡ v
 is c e = sym c.way-to.ensures ∙ e
 
 -- of the way that it is
 of : (c : tie.After-way-to) (v : Way) (r : Refusal) → c.way-to.result ≡ v
     → let a = c.before.before.before.args in
     let b = length a.s.now in
-    r ≡ first_of (sectionChecks v b) (Done (endBy v - length_of a.h a.j) (length_of a.h a.j)) → r ≡ first_of (sectionChecks (wayTo a.s.now a.h a.j) b) (Done (start_of a.s.now a.h a.j) (length_of a.h a.j))
+    r ≡ first_of (section_checks v b) (Done (end_by v - length_of a.h a.j) (length_of a.h a.j)) → r ≡ first_of (section_checks (way_to a.s.now a.h a.j) b) (Done (start_of a.s.now a.h a.j) (length_of a.h a.j))
 of c v r e q =
     let a = c.before.before.before.args in
-    q ∙ sym (ap (λ w. first_of (sectionChecks w (length a.s.now)) (Done (endBy w - length_of a.h a.j) (length_of a.h a.j))) (is c e))
+    q ∙ sym (ap (λ w. first_of (section_checks w (length a.s.now)) (Done (end_by w - length_of a.h a.j) (length_of a.h a.j))) (is c e))
 
 returns : tie.Need-returns
 returns c =

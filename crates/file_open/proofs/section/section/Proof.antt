@@ -7,25 +7,25 @@ use native.Mathlib.Omega.{arith}
 use lib.Dec.{eqb}
 use lib.ListN.{length}
 use Rattle.base_answers.specs.Answers.{answer_of, done}
-use Rattle.file_open.specs.Opens.{headIn, saySection, start_of, length_of}
+use Rattle.file_open.specs.Opens.{head_in, say_section, start_of, length_of}
 use Rattle.file_open.proofs.Sections.{section-is, section-part, section-none, section-place}
 use borrow.Author.Rules.{rules}
 use Rattle.file_open.proofs.section.section.Statement.{statement}
 use Rattle.file_open.proofs.section.section.Tie as tie
 
 -- the lookup is done
-isDone : (c : tie.Then1) → let a = c.before.before.before.before.args in done (saySection a.s.now a.w a.p a.j) ≡ true
-isDone c = sym (ap (λ r. eqb r.number 0) c.before.before.section-answer.ensures) ∙ eq-eqb _ 0 c.if1.true
+is_done : (c : tie.Then1) → let a = c.before.before.before.before.args in done (say_section a.s.now a.w a.p a.j) ≡ true
+is_done c = sym (ap (λ r. eqb r.number 0) c.before.before.section-answer.ensures) ∙ eq-eqb _ 0 c.if1.true
 
 -- its numbers are the place and the length
 numbers : (c : tie.Then1)
     → let a = c.before.before.before.before.args in
     let r = c.before.before.section-answer.result in
     let s = a.s.now in
-    (r.first ≡ start_of s (headIn s) a.j) × (r.second ≡ length_of (headIn s) a.j) × (start_of s (headIn s) a.j + length_of (headIn s) a.j ≤ length s)
+    (r.first ≡ start_of s (head_in s) a.j) × (r.second ≡ length_of (head_in s) a.j) × (start_of s (head_in s) a.j + length_of (head_in s) a.j ≤ length s)
 numbers c =
     let a = c.before.before.before.before.args in
-    let i = section-is a.s.now a.w a.p a.j (isDone c) in
+    let i = section-is a.s.now a.w a.p a.j (is_done c) in
     let e = c.before.before.section-answer.ensures ∙ ap answer_of i.0 in
     (ap (λ r. r.first) e, ap (λ r. r.second) e, i.1)
 
@@ -33,7 +33,7 @@ returns : tie.Need-returns
 returns c =
     let a = c.before.before.before.before.before.args in
     let n = numbers c.before in
-    let h = isDone c.before in
+    let h = is_done c.before in
     (section-part a.s.now a.w a.p a.j _ _ h n.0 n.1, section-place a.s a.w a.p a.j _ true h n.0)
 
 returns-2 : tie.Need-returns-2

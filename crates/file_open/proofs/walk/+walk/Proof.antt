@@ -4,7 +4,7 @@ use Prim.Native.Nat.{◌-◌, ◌+◌, ◌≤◌}
 use native.Mathlib.Nat.{mul-le-mul_left}
 use native.Mathlib.Omega.{arith}
 use borrow.Author.Rules.{rules}
-use Rattle.base_lengths.specs.Lengths.{approxLength, detailsLength}
+use Rattle.base_lengths.specs.Lengths.{approx_length, details_length}
 use Rattle.file_open.specs.declared.walk.Way.TheVariants.{Went, Short, Wrong}
 use Rattle.file_open.specs.Walks.{walk_of}
 use Rattle.file_open.proofs.Ways.{walk_none, walk_more, walk-size}
@@ -42,7 +42,7 @@ claims t = (
 )
 
 -- what the walk over the sections of one level less found
-below : (t : ℕ) (c : walk-lts.After-walk (claims t) (walk_at t) walk.Post) → let a = c.before.before.before.before.args in c.walk.result ≡ walk_of a.s.now a.k (a.levels - 1) (approxLength a.n) a.at
+below : (t : ℕ) (c : walk-lts.After-walk (claims t) (walk_at t) walk.Post) → let a = c.before.before.before.before.args in c.walk.result ≡ walk_of a.s.now a.k (a.levels - 1) (approx_length a.n) a.at
 below t c = rw c.before.approx-length.ensures at c.walk.ensures
 
 walk-one-requires : (t : ℕ) → walk-lts.Need-one-requires (claims t) (walk_at t) walk.Post
@@ -63,7 +63,7 @@ walk-walk-requires : (t : ℕ) → walk-lts.Need-walk-requires (claims t) (walk_
 walk-walk-requires t c κs =
     let st = c.before.before.before in
     let a = st.args in
-    let m = mul-le-mul_left a.k (let h : approxLength a.n ≤ a.n = omega arith in h) in
+    let m = mul-le-mul_left a.k (let h : approx_length a.n ≤ a.n = omega arith in h) in
     (omega arith, rw c.approx-length.ensures (st.requires.1.0, omega (arith, m, st.requires.1.1), omega arith, omega arith))
 
 walk-enum-known-way : (t : ℕ) → walk-lts.Need-enum-known-way (claims t) (walk_at t) walk.Post
@@ -79,8 +79,8 @@ walk-one-requires-2 : (t : ℕ) → walk-lts.Need-one-requires-2 (claims t) (wal
 walk-one-requires-2 t c κs =
     let st = c.before.before.before.before.before.before.before.before in
     let a = st.args in
-    let m = mul-le-mul_left a.k (let h : detailsLength a.n ≤ a.n = omega arith in h) in
-    let g = walk-size (a.levels - 1) a.s.now a.k (approxLength a.n) a.at c.before.before.way.given.0.0 st.requires.1.0 (sym (below t c.before.before.before.before) ∙ c.before.before.way.given.1) in
+    let m = mul-le-mul_left a.k (let h : details_length a.n ≤ a.n = omega arith in h) in
+    let g = walk-size (a.levels - 1) a.s.now a.k (approx_length a.n) a.at c.before.before.way.given.0.0 st.requires.1.0 (sym (below t c.before.before.before.before) ∙ c.before.before.way.given.1) in
     rw c.details-length.ensures (g.1, omega arith)
 
 walk-enum-known-way-2 : (t : ℕ) → walk-lts.Need-enum-known-way-2 (claims t) (walk_at t) walk.Post

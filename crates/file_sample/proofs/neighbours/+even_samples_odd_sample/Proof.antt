@@ -7,7 +7,7 @@ use borrow.Author.Rules.{rules}
 use borrow.Fn.Kinds.{In}
 use borrow.Fn.PlainCycle.{Measures, is, falls, and}
 use lib.ListN.{length}
-use Rattle.base_lengths.specs.Lengths.{approxLength}
+use Rattle.base_lengths.specs.Lengths.{approx_length}
 use Rattle.file_sample.specs.Neighbours.{Stands, EvensOf, AroundOf}
 use Rattle.file_sample.proofs.OneSample.{less}
 use Rattle.file_sample.proofs.neighbours.even_samples.Reads as even-samples
@@ -77,7 +77,7 @@ odd-sample-requires t c κs =
     let l = less a.levels (omega (arith, c.before.if1.false)) st.requires.1.0 in
     let e = sym c.approx-length.ensures in (
       omega (arith, st.requires.0, c.before.if1.false),
-      (subst (λ (m : ℕ). Stands a.k (a.levels - 1) m a.at (length a.s.now)) e l.1, subst (λ (m : ℕ). a.r / 2 < approxLength m) e (omega (arith, st.requires.1.1))),
+      (subst (λ (m : ℕ). Stands a.k (a.levels - 1) m a.at (length a.s.now)) e l.1, subst (λ (m : ℕ). a.r / 2 < approx_length m) e (omega (arith, st.requires.1.1))),
     )
 
 restored-evens-requires : (t : ℕ) → even-samples-lts.Need-restored-evens-requires (claims-even t) (even-samples-at t) even-samples.Post

@@ -3,21 +3,21 @@ use borrow.Author.Rules.{rules}
 use mathlib.Core.Path.{◌≡◌, ap, subst, ◌∙◌}
 use Prim.Native.Nat.{ℕ, ◌+◌, ◌-◌, ◌^◌, ◌<◌, min}
 use native.Mathlib.Omega.{arith}
-use Rattle.base_lengths.specs.Lengths.{approxLength, detailsLength}
-use Rattle.file_sample.specs.Neighbours.{word_in, evenBy, Chosen}
+use Rattle.base_lengths.specs.Lengths.{approx_length, details_length}
+use Rattle.file_sample.specs.Neighbours.{word_in, even_by, Chosen}
 use Rattle.file_sample.proofs.OneSample.{less, last_fits, chosen-are, even-lifted}
 use Rattle.file_sample.proofs.neighbours.restored_evens.Statement.{statement}
 use Rattle.file_sample.proofs.neighbours.restored_evens.Tie as tie
 
 -- the next even sample
-next : (c : tie.After-lesser) → let a = c.before.before.before.args in c.lesser.result ≡ min (a.r + 1) (approxLength a.n - 1)
+next : (c : tie.After-lesser) → let a = c.before.before.before.args in c.lesser.result ≡ min (a.r + 1) (approx_length a.n - 1)
 next c = let a = c.before.before.before.args in c.lesser.ensures ∙ ap (λ (m : ℕ). min (a.r + 1) (m - 1)) c.before.approx-length.ensures
 
 -- what was chosen
 picked : (c : tie.After-chosen)
     → let a = c.before.before.before.before.args in
-    let g = word_in a.k a.s.now (a.levels - 1) (approxLength a.n) a.at in
-    (c.chosen.result.here ≡ g a.r) × (c.chosen.result.after ≡ g (min (a.r + 1) (approxLength a.n - 1))) × (c.chosen.result.here < 256 ^ a.k) × (c.chosen.result.after < 256 ^ a.k)
+    let g = word_in a.k a.s.now (a.levels - 1) (approx_length a.n) a.at in
+    (c.chosen.result.here ≡ g a.r) × (c.chosen.result.after ≡ g (min (a.r + 1) (approx_length a.n - 1))) × (c.chosen.result.here < 256 ^ a.k) × (c.chosen.result.after < 256 ^ a.k)
 picked c =
     let st = c.before.before.before.before in
     let a = st.args in
@@ -46,12 +46,12 @@ returns c =
     let place = c.before.before.details-at in
     let x = c.before.before.before.chosen.result in
     let p = picked c.before.before.before in
-    let m = min (a.r + 1) (approxLength a.n - 1) in
+    let m = min (a.r + 1) (approx_length a.n - 1) in
     let lifted = even-lifted {k = a.k} a.n a.at a.s.now a.levels in
     record {
       here = c.before.even-in.ensures.0 ∙ lifted a.r x.here place.result st.requires.1.0.0 st.requires.0 st.requires.1.0.1 p.0 place.ensures;
       after = c.even-in2.ensures.0
-          ∙ ap (evenBy a.k a.s.now (detailsLength a.n) place.result x.after) (next c.before.before.before.before)
+          ∙ ap (even_by a.k a.s.now (details_length a.n) place.result x.after) (next c.before.before.before.before)
           ∙ lifted m x.after place.result st.requires.1.0.0 st.requires.0 (omega (arith, st.requires.1.0.1)) p.1 place.ensures;
       low = c.before.even-in.ensures.1;
       high = c.even-in2.ensures.1;

@@ -11,7 +11,7 @@ use Rattle.base_answers.specs.Checks.{Check, first_of, ragged}
 use Rattle.base_answers.proofs.Chain.{by, stop}
 use Rattle.base_answers.proofs.Passed.{say-rest, say-stop}
 use Rattle.levels_filter.specs.declared.filter.Filter.{Filter}
-use Rattle.file_open.specs.Writes.{writeChecks, sayWrite}
+use Rattle.file_open.specs.Writes.{write_checks, say_write}
 use Rattle.file_open.proofs.Writing.{say-width}
 use Rattle.file_write.proofs.write.check_write.Statement.{statement}
 use Rattle.file_write.proofs.write.check_write.Tie as tie
@@ -21,11 +21,11 @@ abbrev front : ℕ → ℕ → ℕ → ℕ → List Check
 front k x u v = ragged k x ∷ ragged k u ∷ ragged k v ∷ []
 
 abbrev rest : Filter → ℕ → ℕ → ℕ → ℕ → ℕ → ℕ → ℕ → List Check
-rest f l r k x b u v = (eqb r 0, NoRate) ∷ writeChecks f l (x / k) b (u / k) (v / k)
+rest f l r k x b u v = (eqb r 0, NoRate) ∷ write_checks f l (x / k) b (u / k) (v / k)
 
 -- past the byte lengths: the whole list says what the rest says
 past : (c : tie.Else1) {z : Refusal} → let a = c.before.before.before.before.args in let k = c.before.before.before.width.result in
-    z ≡ first_of (rest a.f a.levels a.rate k a.signal a.file a.one a.two) (Done 0 0) → z ≡ sayWrite a.f a.levels a.rate a.signal a.file a.one a.two
+    z ≡ first_of (rest a.f a.levels a.rate k a.signal a.file a.one a.two) (Done 0 0) → z ≡ say_write a.f a.levels a.rate a.signal a.file a.one a.two
 past c q =
     let a = c.before.before.before.before.args in
     let k = c.before.before.before.width.result in

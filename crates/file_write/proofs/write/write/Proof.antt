@@ -5,9 +5,9 @@ use mathlib.Core.Path.{◌≡◌, ◌∙◌, sym, ap}
 use Prim.Native.Nat.{ℕ, ◌*◌, ◌/◌}
 use lib.ListN.{length, drop}
 use Rattle.base_answers.proofs.Endings.{call-done, call-refused}
-use Rattle.base_lengths.specs.Levels.{levelsOf}
+use Rattle.base_lengths.specs.Levels.{levels_of}
 use Rattle.levels_filter.specs.Filters.{width_of}
-use Rattle.file_open.specs.Files.{newSize, fileSize, fileOf}
+use Rattle.file_open.specs.Files.{new_size, file_size, file_of}
 use Rattle.file_open.proofs.Writing.{write-ready, ready_for}
 use Rattle.file_write.proofs.write.write.Statement.{statement}
 use Rattle.file_write.proofs.write.write.Tie as tie
@@ -32,8 +32,8 @@ returns c =
     let en : n ≡ x / width_of a.f = ap (λ (i : ℕ). x / i) k.ensures.0 in
     let w : width_of a.f * n ≡ x = ap (λ (i : ℕ). width_of a.f * i) en ∙ sym ready.ready.whole in
     call-done said.ensures c.before.before.before.before.before.before.before.before.before.before.before.before.before.before.numbers.ensures t
-    (e.0 ∙ ap (λ (l : ℕ). fileOf a.f l a.point a.rate a.signal.now ++ drop (fileSize newSize (width_of a.f) l n) a.file.now) c.before.before.before.before.before.before.before.before.before.before.at_least_one.ensures
-    ∙ ap (λ (i : ℕ). fileOf a.f (levelsOf a.levels) a.point a.rate a.signal.now ++ drop (fileSize newSize (width_of a.f) (levelsOf a.levels) i) a.file.now) en)
+    (e.0 ∙ ap (λ (l : ℕ). file_of a.f l a.point a.rate a.signal.now ++ drop (file_size new_size (width_of a.f) l n) a.file.now) c.before.before.before.before.before.before.before.before.before.before.at_least_one.ensures
+    ∙ ap (λ (i : ℕ). file_of a.f (levels_of a.levels) a.point a.rate a.signal.now ++ drop (file_size new_size (width_of a.f) (levels_of a.levels) i) a.file.now) en)
     (rw w at e.1.0) (rw w at e.1.1)
 
 returns-2 : tie.Need-returns-2

@@ -9,16 +9,16 @@ use lib.Dec.{ltb}
 use Rattle.base_answers.specs.declared.err.Refusal.{Refusal}
 use Rattle.base_answers.specs.declared.err.Refusal.TheVariants.{Done, NoRoom}
 use Rattle.base_answers.specs.Answers.{done}
-use Rattle.base_answers.specs.Checks.{first_of, tight, twoAreas}
+use Rattle.base_answers.specs.Checks.{first_of, tight, two_areas}
 use Rattle.base_answers.proofs.Chain.{by, stop}
 use Rattle.base_answers.proofs.Passed.{passing, roomy, say-rest, say-stop}
-use Rattle.base_lengths.specs.Lengths.{mostSamples}
-use Rattle.base_lengths.specs.Levels.{depth_of, levelsOf}
-use Rattle.levels_filter.specs.Filters.{width_of, waveletOf}
-use Rattle.levels_filter.specs.Calls.{depthChecks}
+use Rattle.base_lengths.specs.Lengths.{most_samples}
+use Rattle.base_lengths.specs.Levels.{depth_of, levels_of}
+use Rattle.levels_filter.specs.Filters.{width_of, wavelet_of}
+use Rattle.levels_filter.specs.Calls.{depth_checks}
 use Rattle.levels_filter.proofs.Multi.{depth-refuse}
-use Rattle.file_open.specs.Files.{newSize, fileSize}
-use Rattle.file_open.specs.Writes.{writeChecks}
+use Rattle.file_open.specs.Files.{new_size, file_size}
+use Rattle.file_open.specs.Writes.{write_checks}
 use Rattle.levels_filter.proofs.Cuts.{few-levels}
 use Rattle.file_write.proofs.write.write_lengths.Statement.{statement}
 use Rattle.file_write.proofs.write.write_lengths.Tie as tie
@@ -26,26 +26,26 @@ use Rattle.file_write.proofs.write.write_lengths.Tie as tie
 returns : tie.Need-returns
 returns c =
     let a = c.before.before.before.args in
-    say-stop (depthChecks a.f a.levels a.n) (tight a.b (fileSize newSize (width_of a.f) (levelsOf a.levels) a.n) ∷ twoAreas a.u a.v a.n) (Done 0 0) c.before.before.check-depth.ensures (sym c.before.is-done.ensures ∙ not-true _ c.if1.true)
+    say-stop (depth_checks a.f a.levels a.n) (tight a.b (file_size new_size (width_of a.f) (levels_of a.levels) a.n) ∷ two_areas a.u a.v a.n) (Done 0 0) c.before.before.check-depth.ensures (sym c.before.is-done.ensures ∙ not-true _ c.if1.true)
 
 -- past the levels: the whole list says what the rest says
 past : (c : tie.Else1) {z : Refusal} → let a = c.before.before.before.args in
-    z ≡ first_of (tight a.b (fileSize newSize (width_of a.f) (levelsOf a.levels) a.n) ∷ twoAreas a.u a.v a.n) (Done 0 0) → z ≡ first_of (writeChecks a.f a.levels a.n a.b a.u a.v) (Done 0 0)
+    z ≡ first_of (tight a.b (file_size new_size (width_of a.f) (levels_of a.levels) a.n) ∷ two_areas a.u a.v a.n) (Done 0 0) → z ≡ first_of (write_checks a.f a.levels a.n a.b a.u a.v) (Done 0 0)
 past c q =
     let a = c.before.before.before.args in
-    say-rest (depthChecks a.f a.levels a.n) (tight a.b (fileSize newSize (width_of a.f) (levelsOf a.levels) a.n) ∷ twoAreas a.u a.v a.n) (Done 0 0) (depth-refuse a.f a.levels a.n) c.before.before.check-depth.ensures (sym c.before.is-done.ensures ∙ not-false _ c.if1.false) q
+    say-rest (depth_checks a.f a.levels a.n) (tight a.b (file_size new_size (width_of a.f) (levels_of a.levels) a.n) ∷ two_areas a.u a.v a.n) (Done 0 0) (depth-refuse a.f a.levels a.n) c.before.before.check-depth.ensures (sym c.before.is-done.ensures ∙ not-false _ c.if1.false) q
 
 -- within the limit, and the levels fit a byte
-within : (c : tie.Else1) → let a = c.before.before.before.args in (a.n ≤ mostSamples) × (levelsOf a.levels < 256)
+within : (c : tie.Else1) → let a = c.before.before.before.args in (a.n ≤ most_samples) × (levels_of a.levels < 256)
 within c =
     let a = c.before.before.before.args in
-    let p = passing (depthChecks a.f a.levels a.n) (Done 0 0) (depth-refuse a.f a.levels a.n) (sym (ap done c.before.before.check-depth.ensures) ∙ sym c.before.is-done.ensures ∙ not-false _ c.if1.false) in
-    let m = roomy mostSamples a.n p.0 in
-    (m, few-levels (waveletOf a.f) (levelsOf a.levels) a.n (roomy (depth_of (waveletOf a.f) a.n) (levelsOf a.levels) p.1.0) m)
+    let p = passing (depth_checks a.f a.levels a.n) (Done 0 0) (depth-refuse a.f a.levels a.n) (sym (ap done c.before.before.check-depth.ensures) ∙ sym c.before.is-done.ensures ∙ not-false _ c.if1.false) in
+    let m = roomy most_samples a.n p.0 in
+    (m, few-levels (wavelet_of a.f) (levels_of a.levels) a.n (roomy (depth_of (wavelet_of a.f) a.n) (levels_of a.levels) p.1.0) m)
 
 -- the size of the file, as the code has it and as the list has it
-size : (c : tie.After-file-size) → let a = c.before.before.before.before.before.args in c.file-size.result ≡ fileSize newSize (width_of a.f) (levelsOf a.levels) a.n
-size c = let a = c.before.before.before.before.before.args in c.file-size.ensures ∙ ap (λ (l : ℕ). fileSize newSize (width_of a.f) l a.n) c.before.at_least_one.ensures
+size : (c : tie.After-file-size) → let a = c.before.before.before.before.before.args in c.file-size.result ≡ file_size new_size (width_of a.f) (levels_of a.levels) a.n
+size c = let a = c.before.before.before.before.before.args in c.file-size.ensures ∙ ap (λ (l : ℕ). file_size new_size (width_of a.f) l a.n) c.before.at_least_one.ensures
 
 pub write-lengths-spec : {M : Type 1} → statement M
 write-lengths-spec =

@@ -6,7 +6,7 @@ use lib.ListN.{length}
 use lib.Ieee.{binary32}
 use Rattle.base_samples.specs.Floats.{float_at}
 use Rattle.base_samples.proofs.Fronts.{front_at}
-use Rattle.filter_small.specs.Lists.{evensTo}
+use Rattle.filter_small.specs.Lists.{evens_to}
 use Rattle.filter_small.proofs.Lifts.{stored_more, never}
 use Rattle.filter_cdf53f.proofs.Ahead.{splitting-at, top-made, split-all}
 use Rattle.filter_cdf53f.proofs.single.split_end_f32.Statement.{statement}
@@ -23,7 +23,7 @@ returns c =
     let t : min a.top ((length a.x.now / 4 + 1) / 2 - 1) ≡ a.top = omega (arith, st.requires.1.1) in
     let here = r.here ∙ ap (λ (k : ℕ). float_at binary32 a.x.now (2 * k)) t in
     split-all v
-    (stored_more binary32 (evensTo binary32 a.c a.g a.x.now) r.approx (omega (arith, v.lent, st.requires.1.1))
+    (stored_more binary32 (evens_to binary32 a.c a.g a.x.now) r.approx (omega (arith, v.lent, st.requires.1.1))
     (top-made v a.top (omega (arith, e, st.requires.1.1)) (omega (arith, v.lent, st.requires.1.1)) r.left here) c.before.before.put-f32.ensures)
     (omega (arith, v.lent, st.requires.1.1)) (λ b. front_at _ (r.details b) (omega (arith, e, st.requires.1.1)))
 

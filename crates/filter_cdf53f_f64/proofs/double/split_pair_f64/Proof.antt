@@ -5,7 +5,7 @@ use native.Mathlib.Omega.{arith}
 use lib.ListN.{get_or}
 use lib.Ieee.{nan, binary64, add, mul}
 use Rattle.base_samples.specs.Floats.{float_at}
-use Rattle.filter_small.specs.Lists.{oddsTo, evensTo}
+use Rattle.filter_small.specs.Lists.{odds_to, evens_to}
 use Rattle.filter_small.proofs.Lifts.{stored_more, put_wanted}
 use Rattle.filter_small.proofs.Firsts.{odd-made, even-made}
 use Rattle.filter_cdf53f.proofs.Ahead.{odd_no_nan, even-no-nan, read-if}
@@ -18,7 +18,7 @@ here c = c.requires.1.0.here ∙ ap (λ (k : ℕ). float_at binary64 c.args.x.no
 
 -- the detail, once the samples are read
 detail : (c : tie.After-get-f642) → let a = c.before.before.before.before.before.before.args in
-    add binary64 (mul binary64 (add binary64 a.s.here c.before.before.get-f64.result) a.c) c.get-f642.result ≡ get_or (oddsTo binary64 a.c a.x.now) a.i nan
+    add binary64 (mul binary64 (add binary64 a.s.here c.before.before.get-f64.result) a.c) c.get-f642.result ≡ get_or (odds_to binary64 a.c a.x.now) a.i nan
 detail c =
     let st = c.before.before.before.before.before.before in
     let a = st.args in
@@ -28,7 +28,7 @@ detail c =
 -- and the approximation
 approx : (c : tie.After-get-f642) → let a = c.before.before.before.before.before.before.args in
     let z = add binary64 (mul binary64 (add binary64 a.s.here c.before.before.get-f64.result) a.c) c.get-f642.result in
-    add binary64 (mul binary64 (add binary64 a.s.left z) a.g) a.s.here ≡ get_or (evensTo binary64 a.c a.g a.x.now) a.i nan
+    add binary64 (mul binary64 (add binary64 a.s.left z) a.g) a.s.here ≡ get_or (evens_to binary64 a.c a.g a.x.now) a.i nan
 approx c =
     let st = c.before.before.before.before.before.before in
     let a = st.args in
@@ -41,10 +41,10 @@ returns c =
     let a = st.args in
     let h = st.requires.1.1.0 in
     record {
-      approx = stored_more binary64 (evensTo binary64 a.c a.g a.x.now) st.requires.1.0.approx (omega (arith, h)) (approx r) c.before.before.put-f64.ensures;
-      details = λ b. stored_more binary64 (oddsTo binary64 a.c a.x.now) (st.requires.1.0.details b) h.0 (detail r) (put_wanted _ b c.before.before.before.before.before.before.before.before.put-if-f64.ensures);
+      approx = stored_more binary64 (evens_to binary64 a.c a.g a.x.now) st.requires.1.0.approx (omega (arith, h)) (approx r) c.before.before.put-f64.ensures;
+      details = λ b. stored_more binary64 (odds_to binary64 a.c a.x.now) (st.requires.1.0.details b) h.0 (detail r) (put_wanted _ b c.before.before.before.before.before.before.before.before.put-if-f64.ensures);
       here = r.before.before.get-f64.ensures ∙ ap (λ (k : ℕ). float_at binary64 a.x.now (2 * k)) h.1;
-      left = detail r ∙ ap (λ (k : ℕ). get_or (oddsTo binary64 a.c a.x.now) k nan) (omega arith);
+      left = detail r ∙ ap (λ (k : ℕ). get_or (odds_to binary64 a.c a.x.now) k nan) (omega arith);
     }
 
 pub split-pair-f64-spec : {M : Type 1} → statement M

@@ -1,7 +1,7 @@
 -- `approximate` meets its contract. The invariant: the first i approximations are stored, e is the word of the detail before the next one, and the area is as long as it was.
 use Rattle.std.proofs.Common.{◌≡◌, ◌+◌, ◌-◌, ◌/◌, ◌≤◌, length, refl, ◌∙◌, arith, rules}
 use Rattle.base_samples.proofs.Fronts.{front-none}
-use Rattle.filter_cdf53i.specs.Bands.{Approximating, detailWord}
+use Rattle.filter_cdf53i.specs.Bands.{Approximating, detail_word}
 use Rattle.filter_cdf53i.proofs.WordTurns.{room_of, whole_words}
 use Rattle.filter_cdf53i.proofs.cdf53i.approximate.Statement.{statement}
 use Rattle.filter_cdf53i.proofs.cdf53i.approximate.Tie as tie
@@ -13,7 +13,7 @@ abbrev decreases-loop : tie.decreases-loop
 decreases-loop k x a₀ last most t₀ e₀ i₀ a t e i = last - i
 
 loop-holds : tie.Need-loop-init invariant-loop decreases-loop
-unfolding detailWord
+unfolding detail_word
 loop-holds c = (omega arith, refl, record { front = front-none _ c.before.before.before.requires.1; left = c.detail-at.ensures.0; small = c.detail-at.ensures.1 })
 
 approximate-block-requires : tie.Need-approximate-block-requires invariant-loop decreases-loop

@@ -1,7 +1,7 @@
 -- `approximate_end` meets its contract: as many approximations as details, and one more.
 use Rattle.std.proofs.Common.{◌+◌, ap, ◌∙◌, arith, rules}
 use Rattle.base_samples.proofs.Words.{holds_on}
-use Rattle.filter_cdf53i.specs.Bands.{detailWord}
+use Rattle.filter_cdf53i.specs.Bands.{detail_word}
 use Rattle.filter_cdf53i.proofs.WordTurns.{approx-more, approximated}
 use Rattle.filter_cdf53i.proofs.cdf53i.approximate_end.Statement.{statement}
 use Rattle.filter_cdf53i.proofs.cdf53i.approximate_end.Tie as tie
@@ -14,7 +14,7 @@ put-requires-2 c κs =
 
 -- one more: both its neighbours are the last detail
 returns : tie.Need-returns
-unfolding detailWord
+unfolding detail_word
 returns c =
     let st = c.before.before.before.before.before.before.before.before.before.before.before.before.before.before.before.before in
     let w = st.requires.0.width in
@@ -28,11 +28,11 @@ returns c =
     approximated w x _ _
     (approx-more w x (last + 1) last
     (approx-more w x last last r.front (omega arith) (omega arith) (omega arith) c.before.before.before.before.before.before.before.before.before.before.before.get.ensures.0 r.left f c.before.before.before.before.before.before.before.before.before.before.approx-of.ensures.0 c.before.before.before.before.before.before.before.before.before.put.ensures)
-    (omega arith) (omega arith) (omega arith) c.before.before.before.before.get2.ensures.0 (f ∙ ap (detailWord st.args.k x) (omega arith)) f c.before.before.before.approx-of2.ensures.0 c.before.before.put2.ensures)
+    (omega arith) (omega arith) (omega arith) c.before.before.before.before.get2.ensures.0 (f ∙ ap (detail_word st.args.k x) (omega arith)) f c.before.before.before.approx-of2.ensures.0 c.before.before.put2.ensures)
     (omega arith)
 
 returns-2 : tie.Need-returns-2
-unfolding detailWord
+unfolding detail_word
 returns-2 c =
     let st = c.before.before.before.before.before.before.before.before.before.before in
     let w = st.requires.0.width in

@@ -1,15 +1,15 @@
 -- `approxs_from` meets its contract. The invariant: the approximations before i + j are stored.
 use Rattle.std.proofs.Common.{◌+◌, ◌-◌, ◌/◌, ◌≤◌, length, ap, ◌∙◌, arith, rules}
-use Rattle.base_lengths.specs.Lengths.{approxLength}
+use Rattle.base_lengths.specs.Lengths.{approx_length}
 use Rattle.base_samples.specs.Words.{Front}
 use Rattle.base_samples.proofs.Fronts.{front_at}
-use Rattle.filter_cdf53i.specs.Bands.{detailWord, approxWord}
+use Rattle.filter_cdf53i.specs.Bands.{detail_word, approx_word}
 use Rattle.filter_cdf53i.proofs.WordTurns.{details-read, approx-more}
 use Rattle.filter_cdf53i.proofs.cdf53i.approxs_from.Statement.{statement}
 use Rattle.filter_cdf53i.proofs.cdf53i.approxs_from.Tie as tie
 
 abbrev invariant-loop : tie.invariant-loop
-invariant-loop k x i n t a₀ j₀ a j = (j ≤ n) × Front k (approxLength (length x / k)) (i + j) (approxWord k x) a
+invariant-loop k x i n t a₀ j₀ a j = (j ≤ n) × Front k (approx_length (length x / k)) (i + j) (approx_word k x) a
 
 abbrev decreases-loop : tie.decreases-loop
 decreases-loop k x i n t a₀ j₀ a j = n - j
@@ -29,7 +29,7 @@ loop-again c =
           (approx-more w x (i + l.j) (i + l.j) l.invariant.1 (omega arith) (omega arith) (omega arith)
           c.before.before.before.before.before.before.get.ensures.0
           (c.before.before.before.before.before.get2.ensures.0 ∙ details-read w x i l.j t (omega arith))
-          (c.before.before.before.before.get3.ensures.0 ∙ details-read w x i (l.j + 1) t (omega arith) ∙ ap (detailWord st.args.k x) (omega arith))
+          (c.before.before.before.before.get3.ensures.0 ∙ details-read w x i (l.j + 1) t (omega arith) ∙ ap (detail_word st.args.k x) (omega arith))
           c.before.before.before.approx-of.ensures.0 c.before.before.put.ensures)
           (omega arith),
     )

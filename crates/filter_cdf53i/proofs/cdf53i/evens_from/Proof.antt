@@ -2,29 +2,29 @@
 use Rattle.std.proofs.Common.{◌≡◌, ◌+◌, ◌-◌, ◌/◌, ◌≤◌, length, refl, ap, ◌∙◌, arith, rules}
 use Rattle.base_samples.specs.Words.{Front}
 use Rattle.base_samples.proofs.Fronts.{front-none, front-more, front_at}
-use Rattle.filter_cdf53i.specs.Bands.{evenWord, evensFrom}
+use Rattle.filter_cdf53i.specs.Bands.{even_word, evens_from}
 use Rattle.filter_cdf53i.proofs.WordTurns.{front-now}
 use Rattle.filter_cdf53i.proofs.cdf53i.evens_from.Statement.{statement}
 use Rattle.filter_cdf53i.proofs.cdf53i.evens_from.Tie as tie
 
 abbrev invariant-loop : tie.invariant-loop
-invariant-loop k a d i n e t₀ j₀ t j = (j ≤ n) × (length t ≡ length t₀) × (n + 1 ≤ length t / k) × Front k (length t / k) (j + 1) (evensFrom k a d i) t
+invariant-loop k a d i n e t₀ j₀ t j = (j ≤ n) × (length t ≡ length t₀) × (n + 1 ≤ length t / k) × Front k (length t / k) (j + 1) (evens_from k a d i) t
 
 abbrev decreases-loop : tie.decreases-loop
 decreases-loop k a d i n e t₀ j₀ t j = n - j
 
 loop-holds : tie.Need-loop-init invariant-loop decreases-loop
-unfolding evensFrom
+unfolding evens_from
 loop-holds c =
     let p = c.before.before in
     let st = p.before.before.before.before.before in
     let a = st.args in
     let most = st.requires.1.1.most in
-    let f = front-more (front-none (evensFrom a.k a.a.now a.d.now a.i) st.requires.1.1.holds) refl (omega arith) (st.requires.1.0.0 ∙ ap (evenWord a.k a.a.now a.d.now) (omega arith)) p.put.ensures in
+    let f = front-more (front-none (evens_from a.k a.a.now a.d.now a.i) st.requires.1.1.holds) refl (omega arith) (st.requires.1.0.0 ∙ ap (even_word a.k a.a.now a.d.now) (omega arith)) p.put.ensures in
     (omega arith, refl, omega (arith, f.holds.count), front-now f)
 
 loop-again : tie.Need-loop-preserved invariant-loop decreases-loop
-unfolding evensFrom evenWord
+unfolding evens_from even_word
 loop-again c =
     let p = c.before.before in
     let l = p.before.before.before.before.loop in
@@ -32,7 +32,7 @@ loop-again c =
     let a = st.args in
     let lt = p.before.before.before.loop-test.true in
     let most = l.invariant.2 in
-    let f = front-more l.invariant.3 refl (omega arith) (p.before.even-at.ensures.0 ∙ ap (evenWord a.k a.a.now a.d.now) (omega arith)) p.put2.ensures in
+    let f = front-more l.invariant.3 refl (omega arith) (p.before.even-at.ensures.0 ∙ ap (even_word a.k a.a.now a.d.now) (omega arith)) p.put2.ensures in
     (omega arith, omega (arith, f.holds.size, l.invariant.3.holds.size), omega (arith, f.holds.count), front-now f)
 
 pub evens-from-spec : {M : Type 1} → statement M

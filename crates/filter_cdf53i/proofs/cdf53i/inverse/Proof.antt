@@ -1,7 +1,7 @@
 -- `inverse` meets its contract. The invariant: the first 2 i samples are restored, e is the word of the even one that comes next, and the two areas are as long as they were.
 use Rattle.std.proofs.Common.{◌≡◌, ◌+◌, ◌-◌, ◌/◌, ◌≤◌, length, refl, ◌∙◌, arith, rules}
 use Rattle.base_samples.proofs.Fronts.{front-none}
-use Rattle.filter_cdf53i.specs.Bands.{InputBands, Restoring, evenWord}
+use Rattle.filter_cdf53i.specs.Bands.{InputBands, Restoring, even_word}
 use Rattle.filter_cdf53i.proofs.WordTurns.{bands-on, restoring-now, restoring-at, room_of, whole_words}
 use Rattle.filter_cdf53i.proofs.cdf53i.inverse.Statement.{statement}
 use Rattle.filter_cdf53i.proofs.cdf53i.inverse.Tie as tie
@@ -13,7 +13,7 @@ abbrev decreases-loop : tie.decreases-loop
 decreases-loop k a d x₀ last most t₀ u₀ e₀ i₀ x t u e i = last - i
 
 loop-holds : tie.Need-loop-init invariant-loop decreases-loop
-unfolding evenWord
+unfolding even_word
 loop-holds c = (omega arith, refl, refl, record { front = front-none _ c.before.before.before.before.requires.input.samples; next = c.even-at.ensures.0; small = c.even-at.ensures.1 })
 
 -- at the loop's head, x has the bands

@@ -2,13 +2,13 @@
 use Rattle.std.proofs.Common.{◌+◌, ◌-◌, ◌/◌, ◌≤◌, length, ap, ◌∙◌, arith}
 use Rattle.base_samples.specs.Words.{Front}
 use Rattle.base_samples.proofs.Fronts.{front-none, front_at}
-use Rattle.filter_cdf53i.specs.Bands.{evenWord, oddsFrom}
+use Rattle.filter_cdf53i.specs.Bands.{even_word, odds_from}
 use Rattle.filter_cdf53i.proofs.WordTurns.{evens-read, odds-more}
 use Rattle.filter_cdf53i.proofs.cdf53i.odds_from.Statement.{statement}
 use Rattle.filter_cdf53i.proofs.cdf53i.odds_from.Tie as tie
 
 abbrev invariant-loop : tie.invariant-loop
-invariant-loop k a d i n t u₀ j₀ u j = (j ≤ n) × Front k (length u₀ / k) j (oddsFrom k a d i) u
+invariant-loop k a d i n t u₀ j₀ u j = (j ≤ n) × Front k (length u₀ / k) j (odds_from k a d i) u
 
 abbrev decreases-loop : tie.decreases-loop
 decreases-loop k a d i n t u₀ j₀ u j = n - j
@@ -29,7 +29,7 @@ loop-again c =
       omega arith,
       odds-more w a d i l.j l.invariant.1 (omega arith) (omega arith) (omega arith)
           (p.before.before.before.before.get.ensures.0 ∙ evens-read w a d i l.j st.requires.1.0 (omega arith))
-          (p.before.before.get3.ensures.0 ∙ evens-read w a d i (l.j + 1) st.requires.1.0 (omega arith) ∙ ap (evenWord st.args.k a d) (omega arith))
+          (p.before.before.get3.ensures.0 ∙ evens-read w a d i (l.j + 1) st.requires.1.0 (omega arith) ∙ ap (even_word st.args.k a d) (omega arith))
           p.before.before.before.get2.ensures.0 p.before.odd-of.ensures.0 p.put.ensures,
     )
 

@@ -3,13 +3,13 @@ use Rattle.std.proofs.Common.{◌+◌, ◌-◌, ◌*◌, ◌/◌, ◌≤◌, len
 use Rattle.base_samples.specs.Words.{Front}
 use Rattle.base_samples.proofs.Fronts.{front_at}
 use Rattle.base_samples.proofs.Words.{holds_on}
-use Rattle.filter_cdf53i.specs.Bands.{sampleWord}
+use Rattle.filter_cdf53i.specs.Bands.{sample_word}
 use Rattle.filter_cdf53i.proofs.WordTurns.{evens-read, odds-read, pair-more}
 use Rattle.filter_cdf53i.proofs.cdf53i.pairs_from.Statement.{statement}
 use Rattle.filter_cdf53i.proofs.cdf53i.pairs_from.Tie as tie
 
 abbrev invariant-loop : tie.invariant-loop
-invariant-loop k a d i n t u x₀ j₀ x j = (j ≤ n) × Front k (length x₀ / k) (2 * (i + j)) (sampleWord k a d) x
+invariant-loop k a d i n t u x₀ j₀ x j = (j ≤ n) × Front k (length x₀ / k) (2 * (i + j)) (sample_word k a d) x
 
 abbrev decreases-loop : tie.decreases-loop
 decreases-loop k a d i n t u x₀ j₀ x j = n - j

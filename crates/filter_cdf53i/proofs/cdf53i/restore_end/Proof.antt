@@ -3,7 +3,7 @@ use Rattle.std.proofs.Common.{◌≡◌, ℕ, ◌+◌, ◌*◌, ◌/◌, ◌<◌
 use Rattle.base_order.proofs.Order.{lt-or-le}
 use Rattle.base_samples.proofs.Fronts.{front_at}
 use Rattle.base_samples.proofs.Words.{holds_on}
-use Rattle.filter_cdf53i.specs.Bands.{InputBands, evenWord}
+use Rattle.filter_cdf53i.specs.Bands.{InputBands, even_word}
 use Rattle.filter_cdf53i.proofs.WordTurns.{front-pair, front-last, restored-all}
 use Rattle.filter_cdf53i.proofs.cdf53i.restore_end.Statement.{statement}
 use Rattle.filter_cdf53i.proofs.cdf53i.restore_end.Tie as tie
@@ -63,7 +63,7 @@ returns c =
 
 -- one less: a pair, and the last even sample
 returns-2 : tie.Need-returns-2
-unfolding evenWord
+unfolding even_word
 returns-2 c =
     let a = c.before.before.before.before.before.before.before.before.before.before.before.before.before.before.before.before.before.before.before.args in
     let b = c.before.before.before.before.before.before.before.before.before.before.before.before.before.before.before.before.before.before.before.requires.0 in

@@ -6,7 +6,7 @@ use lib.Ieee.{nan, binary32, add, mul}
 use Rattle.filter_floats.specs.Kinds.{set32}
 use Rattle.filter_small.proofs.Lifts.{never}
 use Rattle.filter_small.proofs.Firsts.{odd-made, even-made}
-use Rattle.filter_cdf97f_forward.specs.Ahead.{oddsOne, evensTwo}
+use Rattle.filter_cdf97f_forward.specs.Ahead.{odds_one, evens_two}
 use Rattle.filter_cdf97f_forward.proofs.Ahead.{long}
 use Rattle.filter_cdf97f_forward.proofs.single.first_f32.Statement.{statement}
 use Rattle.filter_cdf97f_forward.proofs.single.first_f32.Tie as tie
@@ -16,7 +16,7 @@ starts : (c : tie.After-struct-known2) →
     let a = c.before.before.before.before.before.before.args in
     let e = c.before.before.before.before.get-f32.result in
     let p = add binary32 (mul binary32 (add binary32 e c.before.before.before.get-f322.result) a.t.alpha) c.before.get-f323.result in
-    (p ≡ get_or (oddsOne binary32 (set32 a.t) a.x.now) 0 nan) × (add binary32 (mul binary32 (add binary32 p p) a.t.beta) e ≡ get_or (evensTwo binary32 (set32 a.t) a.x.now) 0 nan)
+    (p ≡ get_or (odds_one binary32 (set32 a.t) a.x.now) 0 nan) × (add binary32 (mul binary32 (add binary32 p p) a.t.beta) e ≡ get_or (evens_two binary32 (set32 a.t) a.x.now) 0 nan)
 starts c =
     let st = c.before.before.before.before.before.before in
     let a = st.args in

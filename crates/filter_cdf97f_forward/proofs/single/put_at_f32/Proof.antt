@@ -6,20 +6,20 @@ use lib.ListN.{get_or}
 use lib.Ieee.{nan, binary32, add, mul}
 use Rattle.filter_floats.specs.Kinds.{set32}
 use Rattle.filter_small.proofs.Lifts.{stored_more, put_wanted}
-use Rattle.filter_cdf97f_forward.specs.Ahead.{scaledEvens, scaledOdds}
+use Rattle.filter_cdf97f_forward.specs.Ahead.{scaled_evens, scaled_odds}
 use Rattle.filter_cdf97f_forward.proofs.Ahead.{low-made, high-made, low-no-nan, high-no-nan}
 use Rattle.filter_cdf97f_forward.proofs.single.put_at_f32.Statement.{statement}
 use Rattle.filter_cdf97f_forward.proofs.single.put_at_f32.Tie as tie
 
 -- the approximation
 approx : (c : tie.Start) → let a = c.args in
-    mul binary32 (add binary32 (mul binary32 (add binary32 a.s.three a.third) a.t.delta) a.s.two) a.t.k ≡ get_or (scaledEvens binary32 (set32 a.t) a.x.now) a.i nan
+    mul binary32 (add binary32 (mul binary32 (add binary32 a.s.three a.third) a.t.delta) a.s.two) a.t.k ≡ get_or (scaled_evens binary32 (set32 a.t) a.x.now) a.i nan
 approx c =
     let s = c.requires.1.1.0 in
     let h = c.requires.1.1.1.1 in
     low-made c.requires.0.samples c.args.i (c.args.i - 1) c.args.i (omega arith) refl (omega arith) s.three h.1 s.two
 
-detail : (c : tie.Start) → let a = c.args in mul binary32 a.third a.t.invk ≡ get_or (scaledOdds binary32 (set32 a.t) a.x.now) a.i nan
+detail : (c : tie.Start) → let a = c.args in mul binary32 a.third a.t.invk ≡ get_or (scaled_odds binary32 (set32 a.t) a.x.now) a.i nan
 detail c = let h = c.requires.1.1.1.1 in high-made c.requires.0.samples c.args.i h.0 h.1
 
 returns : tie.Need-returns
@@ -28,8 +28,8 @@ returns c =
     let a = st.args in
     let h = st.requires.1.1.1.1 in
     record {
-      approx = stored_more binary32 (scaledEvens binary32 (set32 a.t) a.x.now) st.requires.1.0.approx (omega arith) (approx st) c.before.before.before.before.before.before.before.put-f32.ensures;
-      details = λ b. stored_more binary32 (scaledOdds binary32 (set32 a.t) a.x.now) (st.requires.1.0.details b) h.0 (detail st) (put_wanted _ b c.before.before.put-if-f32.ensures);
+      approx = stored_more binary32 (scaled_evens binary32 (set32 a.t) a.x.now) st.requires.1.0.approx (omega arith) (approx st) c.before.before.before.before.before.before.before.put-f32.ensures;
+      details = λ b. stored_more binary32 (scaled_odds binary32 (set32 a.t) a.x.now) (st.requires.1.0.details b) h.0 (detail st) (put_wanted _ b c.before.before.put-if-f32.ensures);
     }
 
 pub put-at-f32-spec : {M : Type 1} → statement M

@@ -5,7 +5,7 @@ use Prim.Native.Nat.{◌+◌, ◌-◌, ◌*◌, ◌≤◌}
 use native.Mathlib.Omega.{arith}
 use lib.Ieee.{binary32}
 use lib.ListN.{length, length-set}
-use Rattle.filter_small.specs.Lists.{evenIn, oddIn}
+use Rattle.filter_small.specs.Lists.{even_in, odd_in}
 use Rattle.filter_small.specs.Pieces.{Piece}
 use Rattle.filter_small.proofs.Sizes.{part-if}
 use Rattle.filter_small.proofs.Lifts.{even-in, odd-in}
@@ -14,7 +14,7 @@ use Rattle.filter_cdf97f_forward.proofs.single.read_pairs_f32.Statement.{stateme
 use Rattle.filter_cdf97f_forward.proofs.single.read_pairs_f32.Tie as tie
 
 abbrev invariant-loop : tie.invariant-loop
-invariant-loop small x y₀ z₀ i n j₀ y z j = (j ≤ n) × (length y ≡ length y₀) × (length z ≡ length z₀) × Piece (evenIn binary32 x) 0 i j y × Piece (oddIn binary32 x) 0 i j z
+invariant-loop small x y₀ z₀ i n j₀ y z j = (j ≤ n) × (length y ≡ length y₀) × (length z ≡ length z₀) × Piece (even_in binary32 x) 0 i j y × Piece (odd_in binary32 x) 0 i j z
 
 abbrev decreases-loop : tie.decreases-loop
 decreases-loop small x y₀ z₀ i n j₀ y z j = n - j

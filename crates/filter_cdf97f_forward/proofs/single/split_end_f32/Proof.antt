@@ -7,14 +7,14 @@ use lib.Ieee.{nan, binary32, add, mul}
 use Rattle.base_samples.proofs.Fronts.{front_at}
 use Rattle.filter_floats.specs.Kinds.{set32}
 use Rattle.filter_small.proofs.Lifts.{stored_more, never}
-use Rattle.filter_cdf97f_forward.specs.Ahead.{evensTwo, oddsThree, scaledEvens}
+use Rattle.filter_cdf97f_forward.specs.Ahead.{evens_two, odds_three, scaled_evens}
 use Rattle.filter_cdf97f_forward.proofs.Ahead.{three_made, low-made, split-all, carried-at, even-halves}
 use Rattle.filter_cdf97f_forward.proofs.single.split_end_f32.Statement.{statement}
 use Rattle.filter_cdf97f_forward.proofs.single.split_end_f32.Tie as tie
 
 -- the last odd sample after the third step
 third : (c : tie.After-top-f32) → let a = c.before.before.before.before.args in
-    add binary32 (mul binary32 (add binary32 a.s.two c.top-f32.result) a.t.gamma) a.s.one ≡ get_or (oddsThree binary32 (set32 a.t) a.x.now) a.last nan
+    add binary32 (mul binary32 (add binary32 a.s.two c.top-f32.result) a.t.gamma) a.s.one ≡ get_or (odds_three binary32 (set32 a.t) a.x.now) a.last nan
 third c =
     let st = c.before.before.before.before in
     let v = st.requires.0.samples in
@@ -24,7 +24,7 @@ third c =
 -- the approximation that has no detail of its own
 top : (c : tie.After-top-f32) → let a = c.before.before.before.before.args in length a.x.now / 4 % 2 ≡ 1 →
     let h = add binary32 (mul binary32 (add binary32 a.s.two c.top-f32.result) a.t.gamma) a.s.one in
-    mul binary32 (add binary32 (mul binary32 (add binary32 h h) a.t.delta) c.top-f32.result) a.t.k ≡ get_or (scaledEvens binary32 (set32 a.t) a.x.now) (a.last + 1) nan
+    mul binary32 (add binary32 (mul binary32 (add binary32 h h) a.t.delta) c.top-f32.result) a.t.k ≡ get_or (scaled_evens binary32 (set32 a.t) a.x.now) (a.last + 1) nan
 top c odd =
     let st = c.before.before.before.before in
     let v = st.requires.0.samples in
@@ -32,7 +32,7 @@ top c odd =
     let x = st.args.x.now in
     let e : (length x / 4 + 1) / 2 - 1 ≡ st.args.last + 1 = omega arith in
     low-made v (st.args.last + 1) st.args.last st.args.last (omega arith) (omega arith) (omega arith) (third c) (third c)
-    (c.top-f32.ensures ∙ ap (λ (k : ℕ). get_or (evensTwo binary32 (set32 st.args.t) x) k nan) e)
+    (c.top-f32.ensures ∙ ap (λ (k : ℕ). get_or (evens_two binary32 (set32 st.args.t) x) k nan) e)
 
 returns : tie.Need-returns
 returns c =
@@ -42,7 +42,7 @@ returns c =
     let h = st.requires.1.1.1 in
     let odd = c.before.before.before.before.before.before.if1.true in
     let r = c.before.before.before.before.before.before.before.before.before.before.before.put-at-f32.ensures in
-    split-all v (stored_more binary32 (scaledEvens binary32 (set32 st.args.t) st.args.x.now) r.approx (omega arith) (top g odd) c.before.before.put-f32.ensures)
+    split-all v (stored_more binary32 (scaled_evens binary32 (set32 st.args.t) st.args.x.now) r.approx (omega arith) (top g odd) c.before.before.put-f32.ensures)
     (omega arith) (λ b. front_at _ (r.details b) (omega arith))
 
 returns-2 : tie.Need-returns-2

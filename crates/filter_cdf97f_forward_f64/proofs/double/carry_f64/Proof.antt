@@ -7,7 +7,7 @@ use lib.Ieee.{nan, binary64}
 use Rattle.filter_floats.specs.Kinds.{set64}
 use Rattle.filter_small.proofs.Lifts.{never}
 use Rattle.filter_small.proofs.Firsts.{odd-made, even-made}
-use Rattle.filter_cdf97f_forward.specs.Ahead.{oddsThree}
+use Rattle.filter_cdf97f_forward.specs.Ahead.{odds_three}
 use Rattle.filter_cdf97f_forward.proofs.Ahead.{long, three_made}
 use Rattle.filter_cdf97f_forward_f64.proofs.double.carry_f64.Statement.{statement}
 use Rattle.filter_cdf97f_forward_f64.proofs.double.carry_f64.Tie as tie
@@ -30,7 +30,7 @@ returns c =
       one = p;
       two = q;
       three = three_made v a.i (a.i + 1) (omega (arith, h)) (omega (arith, h)) k.1 q k.0
-          ∙ ap (λ (k : ℕ). get_or (oddsThree binary64 t x) k nan) (omega arith);
+          ∙ ap (λ (k : ℕ). get_or (odds_three binary64 t x) k nan) (omega arith);
     }
 
 pub carry-f64-spec : {M : Type 1} → statement M

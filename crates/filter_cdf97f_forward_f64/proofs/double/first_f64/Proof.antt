@@ -6,7 +6,7 @@ use lib.Ieee.{nan, binary64, add, mul}
 use Rattle.filter_floats.specs.Kinds.{set64}
 use Rattle.filter_small.proofs.Lifts.{never}
 use Rattle.filter_small.proofs.Firsts.{odd-made, even-made}
-use Rattle.filter_cdf97f_forward.specs.Ahead.{oddsOne, evensTwo}
+use Rattle.filter_cdf97f_forward.specs.Ahead.{odds_one, evens_two}
 use Rattle.filter_cdf97f_forward.proofs.Ahead.{long}
 use Rattle.filter_cdf97f_forward_f64.proofs.double.first_f64.Statement.{statement}
 use Rattle.filter_cdf97f_forward_f64.proofs.double.first_f64.Tie as tie
@@ -16,7 +16,7 @@ starts : (c : tie.After-struct-known2) →
     let a = c.before.before.before.before.before.before.args in
     let e = c.before.before.before.before.get-f64.result in
     let p = add binary64 (mul binary64 (add binary64 e c.before.before.before.get-f642.result) a.t.alpha) c.before.get-f643.result in
-    (p ≡ get_or (oddsOne binary64 (set64 a.t) a.x.now) 0 nan) × (add binary64 (mul binary64 (add binary64 p p) a.t.beta) e ≡ get_or (evensTwo binary64 (set64 a.t) a.x.now) 0 nan)
+    (p ≡ get_or (odds_one binary64 (set64 a.t) a.x.now) 0 nan) × (add binary64 (mul binary64 (add binary64 p p) a.t.beta) e ≡ get_or (evens_two binary64 (set64 a.t) a.x.now) 0 nan)
 starts c =
     let st = c.before.before.before.before.before.before in
     let a = st.args in

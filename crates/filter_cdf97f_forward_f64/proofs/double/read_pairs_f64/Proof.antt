@@ -5,7 +5,7 @@ use Prim.Native.Nat.{◌+◌, ◌-◌, ◌*◌, ◌≤◌}
 use native.Mathlib.Omega.{arith}
 use lib.Ieee.{binary64}
 use lib.ListN.{length, length-set}
-use Rattle.filter_small.specs.Lists.{evenIn, oddIn}
+use Rattle.filter_small.specs.Lists.{even_in, odd_in}
 use Rattle.filter_small.specs.Pieces.{Piece}
 use Rattle.filter_small.proofs.Sizes.{part-if}
 use Rattle.filter_small.proofs.Lifts.{even-in, odd-in}
@@ -14,7 +14,7 @@ use Rattle.filter_cdf97f_forward_f64.proofs.double.read_pairs_f64.Statement.{sta
 use Rattle.filter_cdf97f_forward_f64.proofs.double.read_pairs_f64.Tie as tie
 
 abbrev invariant-loop : tie.invariant-loop
-invariant-loop small x y₀ z₀ i n j₀ y z j = (j ≤ n) × (length y ≡ length y₀) × (length z ≡ length z₀) × Piece (evenIn binary64 x) 0 i j y × Piece (oddIn binary64 x) 0 i j z
+invariant-loop small x y₀ z₀ i n j₀ y z j = (j ≤ n) × (length y ≡ length y₀) × (length z ≡ length z₀) × Piece (even_in binary64 x) 0 i j y × Piece (odd_in binary64 x) 0 i j z
 
 abbrev decreases-loop : tie.decreases-loop
 decreases-loop small x y₀ z₀ i n j₀ y z j = n - j

@@ -7,14 +7,14 @@ use lib.Ieee.{nan, binary64, add, mul}
 use Rattle.base_samples.proofs.Fronts.{front_at}
 use Rattle.filter_floats.specs.Kinds.{set64}
 use Rattle.filter_small.proofs.Lifts.{stored_more, never}
-use Rattle.filter_cdf97f_forward.specs.Ahead.{evensTwo, oddsThree, scaledEvens}
+use Rattle.filter_cdf97f_forward.specs.Ahead.{evens_two, odds_three, scaled_evens}
 use Rattle.filter_cdf97f_forward.proofs.Ahead.{three_made, low-made, split-all, carried-at, even-halves}
 use Rattle.filter_cdf97f_forward_f64.proofs.double.split_end_f64.Statement.{statement}
 use Rattle.filter_cdf97f_forward_f64.proofs.double.split_end_f64.Tie as tie
 
 -- the last odd sample after the third step
 third : (c : tie.After-top-f64) → let a = c.before.before.before.before.args in
-    add binary64 (mul binary64 (add binary64 a.s.two c.top-f64.result) a.t.gamma) a.s.one ≡ get_or (oddsThree binary64 (set64 a.t) a.x.now) a.last nan
+    add binary64 (mul binary64 (add binary64 a.s.two c.top-f64.result) a.t.gamma) a.s.one ≡ get_or (odds_three binary64 (set64 a.t) a.x.now) a.last nan
 third c =
     let st = c.before.before.before.before in
     let v = st.requires.0.samples in
@@ -24,7 +24,7 @@ third c =
 -- the approximation that has no detail of its own
 top : (c : tie.After-top-f64) → let a = c.before.before.before.before.args in length a.x.now / 8 % 2 ≡ 1 →
     let h = add binary64 (mul binary64 (add binary64 a.s.two c.top-f64.result) a.t.gamma) a.s.one in
-    mul binary64 (add binary64 (mul binary64 (add binary64 h h) a.t.delta) c.top-f64.result) a.t.k ≡ get_or (scaledEvens binary64 (set64 a.t) a.x.now) (a.last + 1) nan
+    mul binary64 (add binary64 (mul binary64 (add binary64 h h) a.t.delta) c.top-f64.result) a.t.k ≡ get_or (scaled_evens binary64 (set64 a.t) a.x.now) (a.last + 1) nan
 top c odd =
     let st = c.before.before.before.before in
     let v = st.requires.0.samples in
@@ -32,7 +32,7 @@ top c odd =
     let x = st.args.x.now in
     let e : (length x / 8 + 1) / 2 - 1 ≡ st.args.last + 1 = omega arith in
     low-made v (st.args.last + 1) st.args.last st.args.last (omega arith) (omega arith) (omega arith) (third c) (third c)
-    (c.top-f64.ensures ∙ ap (λ (k : ℕ). get_or (evensTwo binary64 (set64 st.args.t) x) k nan) e)
+    (c.top-f64.ensures ∙ ap (λ (k : ℕ). get_or (evens_two binary64 (set64 st.args.t) x) k nan) e)
 
 returns : tie.Need-returns
 returns c =
@@ -42,7 +42,7 @@ returns c =
     let h = st.requires.1.1.1 in
     let odd = c.before.before.before.before.before.before.if1.true in
     let r = c.before.before.before.before.before.before.before.before.before.before.before.put-at-f64.ensures in
-    split-all v (stored_more binary64 (scaledEvens binary64 (set64 st.args.t) st.args.x.now) r.approx (omega arith) (top g odd) c.before.before.put-f64.ensures)
+    split-all v (stored_more binary64 (scaled_evens binary64 (set64 st.args.t) st.args.x.now) r.approx (omega arith) (top g odd) c.before.before.put-f64.ensures)
     (omega arith) (λ b. front_at _ (r.details b) (omega arith))
 
 returns-2 : tie.Need-returns-2

@@ -7,7 +7,7 @@ use lib.Ieee.{nan, binary64}
 use Rattle.filter_floats.specs.Kinds.{set64}
 use Rattle.filter_small.proofs.Lifts.{never}
 use Rattle.filter_small.proofs.Firsts.{even-made}
-use Rattle.filter_cdf97f_forward.specs.Ahead.{evensTwo}
+use Rattle.filter_cdf97f_forward.specs.Ahead.{evens_two}
 use Rattle.filter_cdf97f_forward.proofs.Ahead.{long, odd-count}
 use Rattle.filter_cdf97f_forward_f64.proofs.double.top_f64.Statement.{statement}
 use Rattle.filter_cdf97f_forward_f64.proofs.double.top_f64.Tie as tie
@@ -15,7 +15,7 @@ use Rattle.filter_cdf97f_forward_f64.proofs.double.top_f64.Tie as tie
 returns : tie.Need-returns
 returns c =
     let st = c.before.before in
-    st.requires.1.1 ∙ ap (λ (k : ℕ). get_or (evensTwo binary64 (set64 st.args.t) st.args.x.now) k nan) (omega (arith, st.requires.0, c.if1.true))
+    st.requires.1.1 ∙ ap (λ (k : ℕ). get_or (evens_two binary64 (set64 st.args.t) st.args.x.now) k nan) (omega (arith, st.requires.0, c.if1.true))
 
 returns-2 : tie.Need-returns-2
 returns-2 c =

@@ -8,13 +8,13 @@ use lib.ListN.{length, length-set}
 use Rattle.filter_small.specs.Pieces.{Piece}
 use Rattle.filter_small.proofs.Sizes.{part-if}
 use Rattle.filter_small.proofs.Pieces.{piece-none, piece-more}
-use Rattle.filter_cdf97f_inverse.specs.Back.{timesOf}
+use Rattle.filter_cdf97f_inverse.specs.Back.{times_of}
 use Rattle.filter_cdf97f_inverse.proofs.Back.{times-made}
 use Rattle.filter_cdf97f_inverse.proofs.single.read_times_f32.Statement.{statement}
 use Rattle.filter_cdf97f_inverse.proofs.single.read_times_f32.Tie as tie
 
 abbrev invariant-loop : tie.invariant-loop
-invariant-loop small k s y₀ i n j₀ y j = (j ≤ n) × (length y ≡ length y₀) × Piece (timesOf binary32 k s) 0 i j y
+invariant-loop small k s y₀ i n j₀ y j = (j ≤ n) × (length y ≡ length y₀) × Piece (times_of binary32 k s) 0 i j y
 
 abbrev decreases-loop : tie.decreases-loop
 decreases-loop small k s y₀ i n j₀ y j = n - j

@@ -3,7 +3,7 @@ use borrow.Author.Rules.{rules}
 use Prim.Native.Nat.{◌-◌}
 use lib.Ieee.{binary32}
 use Rattle.filter_floats.specs.Kinds.{kind32}
-use Rattle.filter_floats.proofs.Runs.{RanTo, ranTo-none, ranTo-bands, ranTo-more, ranTo-lengthA, ranTo-lengthD, ranTo-all}
+use Rattle.filter_floats.proofs.Runs.{RanTo, ran_to-none, ran_to-bands, ran_to-more, ran_to-length_a, ran_to-length_d, ran_to-all}
 use Rattle.filter_floats.proofs.single.run5_f32.Statement.{statement}
 use Rattle.filter_floats.proofs.single.run5_f32.Tie as tie
 
@@ -14,8 +14,8 @@ abbrev decreases-loop : tie.decreases-loop
 decreases-loop a₀ d₀ schedule i₀ a d i = 5 - i
 
 pub run5-f32-spec : {M : Type 1} → statement M
-run5-f32-spec = tie.close (tie.spec invariant-loop decreases-loop (λ c. search ranTo-none) (λ c. search rules)
-    (λ c. search rules) (λ c κs. ranTo-bands c.before.before.before.before.loop.invariant)
-    (λ c. search rules) (λ c. search rules) (λ c. search ranTo-more)
-    (λ c. ranTo-lengthA c.before.loop.invariant) (λ c. ranTo-lengthD c.before.loop.invariant)
-    (λ c. ranTo-all c.before.loop.invariant c.loop-test.false))
+run5-f32-spec = tie.close (tie.spec invariant-loop decreases-loop (λ c. search ran_to-none) (λ c. search rules)
+    (λ c. search rules) (λ c κs. ran_to-bands c.before.before.before.before.loop.invariant)
+    (λ c. search rules) (λ c. search rules) (λ c. search ran_to-more)
+    (λ c. ran_to-length_a c.before.loop.invariant) (λ c. ran_to-length_d c.before.loop.invariant)
+    (λ c. ran_to-all c.before.loop.invariant c.loop-test.false))

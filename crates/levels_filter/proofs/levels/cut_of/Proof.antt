@@ -3,14 +3,14 @@ use borrow.Author.Rules.{rules}
 use mathlib.Core.Path.{◌≡◌, ap₂}
 use Prim.Native.Nat.{◌*◌}
 use native.Mathlib.Omega.{arith}
-use Rattle.base_lengths.specs.Lengths.{approxLength}
+use Rattle.base_lengths.specs.Lengths.{approx_length}
 use Rattle.levels_filter.specs.Filters.{width_of}
 use Rattle.levels_filter.proofs.Cuts.{cut_at, split-width}
 use Rattle.levels_filter.proofs.levels.cut_of.Statement.{statement}
 use Rattle.levels_filter.proofs.levels.cut_of.Tie as tie
 
 -- the product that the code makes
-product : (c : tie.After-approx-length) → c.before.width.result * c.approx-length.result ≡ width_of c.before.before.args.f * approxLength c.before.before.args.n
+product : (c : tie.After-approx-length) → c.before.width.result * c.approx-length.result ≡ width_of c.before.before.args.f * approx_length c.before.before.args.n
 product c = ap₂ (λ a b. a * b) c.before.width.ensures.0 c.approx-length.ensures
 
 pub cut-of-spec : {M : Type 1} → statement M

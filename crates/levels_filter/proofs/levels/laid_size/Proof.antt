@@ -4,17 +4,17 @@ use mathlib.Core.Bool.{Bool, true, false}
 use mathlib.Core.Path.{◌≡◌, ap, ap₂}
 use Prim.Native.Nat.{ℕ, ◌+◌, ◌*◌, ◌≤◌, ◌<◌}
 use native.Mathlib.Omega.{arith}
-use Rattle.levels_filter.specs.Pyramids.{countSize}
+use Rattle.levels_filter.specs.Pyramids.{count_size}
 use Rattle.levels_filter.proofs.Cuts.{width_room}
 use Rattle.levels_filter.proofs.levels.laid_size.Statement.{statement}
 use Rattle.levels_filter.proofs.levels.laid_size.Tie as tie
 
-few-counts : (b : Bool) (l : ℕ) → l < 256 → countSize b * (l + 1) ≤ 1024
+few-counts : (b : Bool) (l : ℕ) → l < 256 → count_size b * (l + 1) ≤ 1024
 few-counts true l h = omega arith
 few-counts false l h = omega arith
 
 -- the counts that the code makes
-counts : (c : tie.After-count-size) → c.count-size.result * (c.before.args.levels + 1) ≡ countSize c.before.args.counted * (c.before.args.levels + 1)
+counts : (c : tie.After-count-size) → c.count-size.result * (c.before.args.levels + 1) ≡ count_size c.before.args.counted * (c.before.args.levels + 1)
 counts c = ap (λ (k : ℕ). k * (c.before.args.levels + 1)) c.count-size.ensures
 
 pub laid-size-spec : {M : Type 1} → statement M

@@ -8,7 +8,7 @@ use native.Mathlib.Omega.{arith}
 use lib.ListN.{length, take}
 use lib.Seq.{length-take-le}
 use Rattle.levels_filter.specs.Filters.{width_of}
-use Rattle.levels_filter.specs.Pyramids.{countSize, laidOut}
+use Rattle.levels_filter.specs.Pyramids.{count_size, laid_out}
 use Rattle.levels_filter.proofs.Cuts.{half-within, width_room}
 use Rattle.levels_filter.proofs.Lists.{later}
 use Rattle.levels_filter.proofs.Rooms.{room-below}
@@ -86,10 +86,10 @@ returns : (t : ℕ) → lay-lts.Need-returns (claims t) (lay_at t) lay.Post
 returns t c =
     let all = c.before.before.before.before.before.before in
     let a = all.before.before.before.before.args in
-    let k = countSize a.counted in (
+    let k = count_size a.counted in (
       c.before.before.lay-deepest.ensures
           ∙ sym (laid_none a.f k a.levels a.n (take all.bytes-of.result a.from.now) c.before.before.before.before.before.if1.true)
-          ∙ ap (λ (i : ℕ). laidOut a.f k a.levels a.n (take i a.from.now)) all.bytes-of.ensures,
+          ∙ ap (λ (i : ℕ). laid_out a.f k a.levels a.n (take i a.from.now)) all.bytes-of.ensures,
       (refl, refl),
     )
 
@@ -103,7 +103,7 @@ returns-2 t c =
     let p = some t lv.before.before.before.before in
     let laid = lv.lay-level.ensures in (
       laid_more a.counted laid p st.requires.1.1 _ below.0
-          ∙ ap (λ (i : ℕ). laidOut a.f (countSize a.counted) a.levels a.n (take i a.from.now)) all.bytes-of.ensures,
+          ∙ ap (λ (i : ℕ). laid_out a.f (count_size a.counted) a.levels a.n (take i a.from.now)) all.bytes-of.ensures,
       (later _ _ _ _ (half-within (width_of a.f) a.n) below.1.1, area-kept a.counted laid p st.requires.1.1 _ below.1.0),
     )
 

@@ -5,7 +5,7 @@ use Prim.Native.Nat.{ℕ, ◌+◌, ◌≤◌}
 use native.Mathlib.Omega.{arith}
 use lib.ListN.{length}
 use Rattle.base_samples.specs.Le.{stored}
-use Rattle.levels_filter.specs.Pyramids.{countSize}
+use Rattle.levels_filter.specs.Pyramids.{count_size}
 use Rattle.levels_forward.proofs.Laying.{stored-none}
 use Rattle.levels_forward.proofs.bands.put_count.Statement.{statement}
 use Rattle.levels_forward.proofs.bands.put_count.Tie as tie
@@ -20,9 +20,9 @@ put-count-spec =
     (λ c. search rules)
     (λ c.
     let st = c.before.before.before.before.before.before in
-    let s : countSize st.args.counted ≡ 4 = ap countSize c.before.before.before.before.if1.true in
+    let s : count_size st.args.counted ≡ 4 = ap count_size c.before.before.before.before.if1.true in
     (omega (arith, s), c.before.before.write-u32.ensures ∙ ap (λ (k : ℕ). stored k st.args.out.now st.args.at st.args.n) (sym s)))
     (λ c.
     let a = c.before.before.args in
-    let s : countSize a.counted ≡ 0 = ap countSize c.if1.false in
+    let s : count_size a.counted ≡ 0 = ap count_size c.if1.false in
     (omega (arith, s), sym (ap (λ (k : ℕ). stored k a.out.now a.at a.n) s ∙ stored-none a.out.now a.at a.n))))

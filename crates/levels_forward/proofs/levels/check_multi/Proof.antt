@@ -9,7 +9,7 @@ use Rattle.base_answers.specs.Answers.{done}
 use Rattle.base_answers.specs.Checks.{Check, first_of, ragged}
 use Rattle.base_answers.proofs.Chain.{by, stop, same, other}
 use Rattle.base_answers.proofs.Passed.{then-rest, then-stop}
-use Rattle.levels_filter.specs.Calls.{multiChecks, sayMulti}
+use Rattle.levels_filter.specs.Calls.{multi_checks, say_multi}
 use Rattle.levels_forward.proofs.levels.check_multi.Statement.{statement}
 use Rattle.levels_forward.proofs.levels.check_multi.Tie as tie
 
@@ -23,31 +23,31 @@ unfolding front
 whole c = sym (ap done c.before.before.check-whole.ensures) ∙ sym c.before.is-done.ensures ∙ c.if1.true
 
 returns : tie.Need-returns
-unfolding sayMulti front
+unfolding say_multi front
 returns c =
     let a = c.before.before.before.before.before.args in
     let k = c.before.before.before.before.width.result in
     rw (sym c.before.before.before.before.width.ensures.0)
     (stop _ (other _ 0 c.if2.true) refl
-    ∙ sym (then-rest (front k a.signal a.out a.one) (ragged k a.two ∷ multiChecks a.f a.levels (a.signal / k) (a.out / k) (a.one / k) (a.two / k)) (Done 0 0) (refl, (refl, (refl, tt))) (whole c.before)))
+    ∙ sym (then-rest (front k a.signal a.out a.one) (ragged k a.two ∷ multi_checks a.f a.levels (a.signal / k) (a.out / k) (a.one / k) (a.two / k)) (Done 0 0) (refl, (refl, (refl, tt))) (whole c.before)))
 
 returns-2 : tie.Need-returns-2
-unfolding sayMulti front
+unfolding say_multi front
 returns-2 c =
     let a = c.before.before.before.before.before.before.args in
     let k = c.before.before.before.before.before.width.result in
     rw (sym c.before.before.before.before.before.width.ensures.0)
     (by _ (same _ 0 c.before.if2.false) c.multi-lengths.ensures
-    ∙ sym (then-rest (front k a.signal a.out a.one) (ragged k a.two ∷ multiChecks a.f a.levels (a.signal / k) (a.out / k) (a.one / k) (a.two / k)) (Done 0 0) (refl, (refl, (refl, tt))) (whole c.before.before)))
+    ∙ sym (then-rest (front k a.signal a.out a.one) (ragged k a.two ∷ multi_checks a.f a.levels (a.signal / k) (a.out / k) (a.one / k) (a.two / k)) (Done 0 0) (refl, (refl, (refl, tt))) (whole c.before.before)))
 
 returns-3 : tie.Need-returns-3
-unfolding sayMulti front
+unfolding say_multi front
 returns-3 c =
     let a = c.before.before.before.before.args in
     let k = c.before.before.before.width.result in
     rw (sym c.before.before.before.width.ensures.0)
     (c.before.before.check-whole.ensures
-    ∙ sym (then-stop (front k a.signal a.out a.one) (ragged k a.two ∷ multiChecks a.f a.levels (a.signal / k) (a.out / k) (a.one / k) (a.two / k)) (Done 0 0)
+    ∙ sym (then-stop (front k a.signal a.out a.one) (ragged k a.two ∷ multi_checks a.f a.levels (a.signal / k) (a.out / k) (a.one / k) (a.two / k)) (Done 0 0)
     (sym (ap done c.before.before.check-whole.ensures) ∙ sym c.before.is-done.ensures ∙ c.if1.false)))
 
 pub check-multi-spec : {M : Type 1} → statement M

@@ -8,8 +8,8 @@ use lib.ListN.{length, take, drop, drop_of_length-le}
 use lib.Seq.{take_all}
 use Rattle.base_samples.specs.Words.{words_of}
 use Rattle.base_samples.proofs.Words.{length-words}
-use Rattle.levels_filter.specs.Filters.{width_of, backOf}
-use Rattle.levels_filter.specs.Pyramids.{samplesOf}
+use Rattle.levels_filter.specs.Filters.{width_of, back_of}
+use Rattle.levels_filter.specs.Pyramids.{samples_of}
 use Rattle.levels_filter.specs.Backward.{Rising}
 use Rattle.levels_filter.proofs.Lists.{put_front, end_is, length-end}
 use Rattle.levels_filter.proofs.LevelsBack.{at_length, rise-level, rise-room, rise-next, rise-last, samples-next, samples-last}
@@ -83,14 +83,14 @@ up-returns t c =
     let k = width_of a.f in
     let m = c.before.before.before.before.before.before.length_at.result in
     let x = take (k * a.n) a.from.now in
-    let b = backOf a.f x (take (k * m) a.details.now) in
+    let b = back_of a.f x (take (k * m) a.details.now) in
     let z = none t c.before.before.before.before.before in
     let last = rise-last (rising t c.before.before.before.before.before.before) z in
     let full : length a.out.now ≤ k * (a.n + m) = omega (arith, last.1) in (
       c.before.before.level-back.ensures.0
           ∙ ap (λ (l : List ℕ). b ++ l) (drop_of_length-le a.out.now full)
           ∙ append-nil b
-          ∙ ap (backOf a.f x) (take_all (k * m) a.details.now (omega (arith, last.0)))
+          ∙ ap (back_of a.f x) (take_all (k * m) a.details.now (omega (arith, last.0)))
           ∙ sym (samples-last a.f x a.details.now _ _ _ (split t c.before.before.before.before.before.before) z last.0),
       (refl, refl),
     )
@@ -103,7 +103,7 @@ up-returns-2 t c =
     let m = c.before.before.before.before.before.before.before.before.before.before.before.before.before.before.before.before.before.before.length_at.result in
     let rest = drop (a.i + 1) (words_of 4 a.lengths.now) in
     let x = take (k * a.n) a.from.now in
-    let b = backOf a.f x (take (k * m) a.details.now) in
+    let b = back_of a.f x (take (k * m) a.details.now) in
     let cut = k * (a.n + m) in
     let seam = c.before.before.before.before.before.before.before.before.before.before.before.bytes-of.result in
     let d = take (length a.details.now - seam) (drop seam a.details.now) in
@@ -111,10 +111,10 @@ up-returns-2 t c =
     let front = put_front a.to.now b cut (length a.out.now) lb.1 (rise-room (rising t c.before.before.before.before.before.before.before.before.before.before.before.before.before.before.before.before.before.before)).3 in
     let e = c.before.before.before.before.before.before.up.ensures in (
       e.0
-          ∙ ap (λ (y : List ℕ). samplesOf a.f (take cut y) d rest) lb.0
-          ∙ ap (λ (y : List ℕ). samplesOf a.f y d rest) front.0
-          ∙ ap (λ (y : List ℕ). samplesOf a.f b y rest) (end_is seam a.details.now)
-          ∙ ap (λ (j : ℕ). samplesOf a.f b (drop j a.details.now) rest) c.before.before.before.before.before.before.before.before.before.before.before.bytes-of.ensures
+          ∙ ap (λ (y : List ℕ). samples_of a.f (take cut y) d rest) lb.0
+          ∙ ap (λ (y : List ℕ). samples_of a.f y d rest) front.0
+          ∙ ap (λ (y : List ℕ). samples_of a.f b y rest) (end_is seam a.details.now)
+          ∙ ap (λ (j : ℕ). samples_of a.f b (drop j a.details.now) rest) c.before.before.before.before.before.before.before.before.before.before.before.bytes-of.ensures
           ∙ sym (samples-next a.f x a.details.now _ m rest (split t c.before.before.before.before.before.before.before.before.before.before.before.before.before.before.before.before.before.before)),
       (e.1.1, e.1.0 ∙ ap (drop (length a.out.now)) lb.0 ∙ front.1),
     )

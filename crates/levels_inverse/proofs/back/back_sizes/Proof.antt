@@ -7,18 +7,18 @@ use Rattle.base_answers.specs.declared.err.Refusal.{Refusal}
 use Rattle.base_answers.specs.declared.err.Refusal.TheVariants.{TooLong}
 use Rattle.base_answers.specs.Checks.{first_of}
 use Rattle.base_answers.proofs.Chain.{by, stop}
-use Rattle.base_lengths.specs.Lengths.{mostSamples}
-use Rattle.levels_filter.specs.Backward.{mostLevels}
+use Rattle.base_lengths.specs.Lengths.{most_samples}
+use Rattle.levels_filter.specs.Backward.{most_levels}
 use Rattle.levels_inverse.proofs.back.back_sizes.Statement.{statement}
 use Rattle.levels_inverse.proofs.back.back_sizes.Tie as tie
 
 -- past the limits: the whole list says what the rest says
 past3 : (c : tie.Else3) {y z : Refusal} → z ≡ y
-    → let a = c.before.before.before.args in z ≡ first_of ((ltb mostSamples a.n, TooLong) ∷ (ltb mostSamples a.a, TooLong) ∷ (ltb mostSamples a.d, TooLong) ∷ []) y
+    → let a = c.before.before.before.args in z ≡ first_of ((ltb most_samples a.n, TooLong) ∷ (ltb most_samples a.a, TooLong) ∷ (ltb most_samples a.d, TooLong) ∷ []) y
 past3 c q = by _ (le-ltb _ _ c.before.before.if1.false) (by _ (le-ltb _ _ c.before.if2.false) (by _ (le-ltb _ _ c.if3.false) q))
 
 past4 : (c : tie.Else4) {y z : Refusal} → z ≡ y
-    → let a = c.before.before.before.before.args in z ≡ first_of ((ltb mostSamples a.n, TooLong) ∷ (ltb mostSamples a.a, TooLong) ∷ (ltb mostSamples a.d, TooLong) ∷ (ltb mostLevels a.count, TooLong) ∷ []) y
+    → let a = c.before.before.before.before.args in z ≡ first_of ((ltb most_samples a.n, TooLong) ∷ (ltb most_samples a.a, TooLong) ∷ (ltb most_samples a.d, TooLong) ∷ (ltb most_levels a.count, TooLong) ∷ []) y
 past4 c q = past3 c.before (by _ (le-ltb _ _ c.if4.false) q)
 
 pub back-sizes-spec : {M : Type 1} → statement M

@@ -9,7 +9,7 @@ use Rattle.base_answers.specs.declared.err.Refusal.TheVariants.{Done}
 use Rattle.base_answers.specs.Checks.{first_of}
 use Rattle.base_samples.specs.Words.{words_of}
 use Rattle.base_samples.proofs.Words.{length-words}
-use Rattle.levels_filter.specs.Backward.{total, bandChecks}
+use Rattle.levels_filter.specs.Backward.{total, band_checks}
 use Rattle.levels_filter.proofs.LevelsBack.{total-more, bands-more, bands-stop, bands-end}
 use Rattle.levels_inverse.proofs.back.band_lengths.Statement.{statement}
 use Rattle.levels_inverse.proofs.back.band_lengths.Tie as tie
@@ -18,7 +18,7 @@ abbrev invariant-loop : tie.invariant-loop
 invariant-loop w a lengths count n₀ i₀ n i =
     (i ≤ count)
     × (n + total (drop i (words_of 4 lengths)) ≡ a + total (words_of 4 lengths))
-    × (first_of (bandChecks w a (words_of 4 lengths)) (Done 0 0) ≡ first_of (bandChecks w n (drop i (words_of 4 lengths))) (Done 0 0))
+    × (first_of (band_checks w a (words_of 4 lengths)) (Done 0 0) ≡ first_of (band_checks w n (drop i (words_of 4 lengths))) (Done 0 0))
 
 abbrev decreases-loop : tie.decreases-loop
 decreases-loop w a lengths count n₀ i₀ n i = count - i

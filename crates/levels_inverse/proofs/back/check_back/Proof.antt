@@ -11,7 +11,7 @@ use Rattle.base_answers.specs.Checks.{Check, first_of, ragged}
 use Rattle.base_answers.proofs.Passed.{say-rest, say-stop}
 use Rattle.base_samples.specs.Words.{words_of}
 use Rattle.levels_filter.specs.declared.filter.Filter.{Filter}
-use Rattle.levels_filter.specs.Backward.{backChecks, sayBack}
+use Rattle.levels_filter.specs.Backward.{back_checks, say_back}
 use Rattle.levels_inverse.proofs.back.check_back.Statement.{statement}
 use Rattle.levels_inverse.proofs.back.check_back.Tie as tie
 
@@ -23,10 +23,10 @@ lent : ℕ → ℕ → ℕ → ℕ → List Check
 lent k n u v = ragged k n ∷ ragged k u ∷ ragged k v ∷ []
 
 rest : Filter → ℕ → ℕ → ℕ → List ℕ → ℕ → ℕ → ℕ → List Check
-rest f k a d ls n u v = backChecks f (a / k) (d / k) (words_of 4 ls) (n / k) (u / k) (v / k)
+rest f k a d ls n u v = back_checks f (a / k) (d / k) (words_of 4 ls) (n / k) (u / k) (v / k)
 
 returns : tie.Need-returns
-unfolding sayBack read lent rest
+unfolding say_back read lent rest
 returns c =
     let a = c.before.before.before.before.before.args in
     let k = c.before.before.before.width.result in
@@ -41,7 +41,7 @@ past1 c m q =
     say-rest (read c.before.before.before.width.result a.a a.d (length a.lengths.now)) m (Done 0 0) (refl, (refl, (refl, tt))) c.before.before.whole-bands.ensures (sym c.before.is-done.ensures ∙ not-false _ c.if1.false) q
 
 returns-2 : tie.Need-returns-2
-unfolding sayBack read lent rest
+unfolding say_back read lent rest
 returns-2 c =
     let a = c.before.before.before.before.before.before.before.before.args in
     let k = c.before.before.before.before.before.before.width.result in
@@ -50,7 +50,7 @@ returns-2 c =
     rw (sym c.before.before.before.before.before.before.width.ensures.0) (past1 c.before.before.before (l ++ m) (say-stop l m (Done 0 0) c.before.before.check-whole.ensures (sym c.before.is-done2.ensures ∙ not-true _ c.if2.true)))
 
 returns-3 : tie.Need-returns-3
-unfolding sayBack read lent rest
+unfolding say_back read lent rest
 returns-3 c =
     let a = c.before.before.before.before.before.before.before.before.before.args in
     let k = c.before.before.before.before.before.before.before.width.result in

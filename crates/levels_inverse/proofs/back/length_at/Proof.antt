@@ -2,13 +2,13 @@
 use borrow.Author.Rules.{rules}
 use mathlib.Core.Path.{◌∙◌, sym}
 use Rattle.base_samples.specs.Words.{word_at}
-use Rattle.base_samples.proofs.Words.{get_d_words}
+use Rattle.base_samples.proofs.Words.{get_or-words}
 use Rattle.levels_inverse.proofs.back.length_at.Statement.{statement}
 use Rattle.levels_inverse.proofs.back.length_at.Tie as tie
 
 returns : tie.Need-returns
 unfolding word_at
-returns c = let st = c.before.before in (c.read_u32.ensures ∙ sym (get_d_words 4 st.args.lengths.now st.args.i st.requires), search rules)
+returns c = let st = c.before.before in (c.read_u32.ensures ∙ sym (get_or-words 4 st.args.lengths.now st.args.i st.requires), search rules)
 
 pub length-at-spec : {M : Type 1} → statement M
 length-at-spec =

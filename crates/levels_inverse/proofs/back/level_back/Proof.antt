@@ -6,7 +6,7 @@ use Prim.Native.Nat.{ℕ, ◌+◌, ◌*◌, ◌≤◌}
 use native.Mathlib.Omega.{arith}
 use lib.ListN.{length, take, drop}
 use lib.Seq.{length-take-le}
-use Rattle.levels_filter.specs.Filters.{width_of, backOf}
+use Rattle.levels_filter.specs.Filters.{width_of, back_of}
 use Rattle.levels_filter.proofs.LevelsBack.{level-at}
 use Rattle.levels_inverse.proofs.back.level_back.Statement.{statement}
 use Rattle.levels_inverse.proofs.back.level_back.Tie as tie
@@ -29,7 +29,7 @@ returns c =
     let st = c.before.before.before.before.before.before.before.before.before.before.before.before in
     let a = st.args in
     let r = c.before.before.restore in
-    let is = r.ensures ∙ ap₂ (λ (i j : ℕ). backOf a.f (take i a.from.now) (take j a.details.now)) c.before.before.before.before.before.before.before.before.bytes-of.ensures c.before.before.before.before.before.before.before.bytes-of2.ensures in (
+    let is = r.ensures ∙ ap₂ (λ (i j : ℕ). back_of a.f (take i a.from.now) (take j a.details.now)) c.before.before.before.before.before.before.before.before.bytes-of.ensures c.before.before.before.before.before.before.before.bytes-of2.ensures in (
       ap₂ (λ (l : List ℕ) (j : ℕ). l ++ drop j a.to.now) is c.before.before.before.before.before.before.bytes-of3.ensures,
       ap length (sym is) ∙ r.auto.1.1.1.1.0 ∙ part a.to.now c.before.before.before.before.before.before.bytes-of3.ensures st.requires.1.2,
     )

@@ -8,7 +8,7 @@ use lib.ListN.{length, take, drop}
 use Rattle.base_answers.proofs.Endings.{call-done, call-refused}
 use Rattle.base_samples.specs.Words.{words_of}
 use Rattle.levels_filter.specs.Filters.{width_of}
-use Rattle.levels_filter.specs.Pyramids.{samplesOf}
+use Rattle.levels_filter.specs.Pyramids.{samples_of}
 use Rattle.levels_filter.specs.Backward.{Rising}
 use Rattle.levels_filter.proofs.Lists.{copied-front, copied-after}
 use Rattle.levels_filter.proofs.LevelsBack.{rise-front}
@@ -42,7 +42,7 @@ returns c =
     let e = c.before.before.before.before.before.before.up.ensures in
     let front : width_of a.f * (length x / c.before.before.before.before.before.before.before.before.before.before.width.result) ≡ length x = ap (λ j. width_of a.f * (length x / j)) c.before.before.before.before.before.before.before.before.before.before.width.ensures.0 ∙ sym r.2 in
     call-done c.before.before.before.before.before.before.before.before.before.before.before.before.before.before.before.before.before.before.check-back.ensures c.before.before.before.before.before.before.before.before.before.before.before.before.before.before.before.before.before.numbers.ensures (sym c.before.before.before.before.before.before.before.before.before.before.before.before.before.before.before.before.is-done.ensures ∙ c.before.before.before.before.before.before.before.before.before.before.before.before.before.before.before.if1.true)
-    (e.0 ∙ ap (λ (s : List ℕ). samplesOf a.f s a.details.now (words_of 4 a.lengths.now)) (ap (take (width_of a.f * (length x / c.before.before.before.before.before.before.before.before.before.before.width.result))) c.before.before.before.before.before.before.before.before.before.before.before.before.before.copy.ensures.1 ∙ copied-front x a.one.now _ front))
+    (e.0 ∙ ap (λ (s : List ℕ). samples_of a.f s a.details.now (words_of 4 a.lengths.now)) (ap (take (width_of a.f * (length x / c.before.before.before.before.before.before.before.before.before.before.width.result))) c.before.before.before.before.before.before.before.before.before.before.before.before.before.copy.ensures.1 ∙ copied-front x a.one.now _ front))
     (rw r.3 at (e.1.0 ∙ ap (drop (length a.out.now)) c.before.before.before.before.before.before.before.before.before.before.before.before.before.copy.ensures.1 ∙ copied-after x a.one.now (length a.out.now) (omega (arith, r.3))))
     (rw r.3 at e.1.1)
 

@@ -10,7 +10,7 @@ use Rattle.base_answers.specs.Checks.{Check, first_of, ragged}
 use Rattle.base_answers.proofs.Chain.{by, stop, same, other}
 use Rattle.base_answers.proofs.Passed.{say-rest, say-stop}
 use Rattle.levels_filter.specs.declared.filter.Filter.{Filter}
-use Rattle.levels_filter.specs.Calls.{dwtChecks, sayDwt}
+use Rattle.levels_filter.specs.Calls.{dwt_checks, say_dwt}
 use Rattle.levels_last.proofs.last.check_dwt.Statement.{statement}
 use Rattle.levels_last.proofs.last.check_dwt.Tie as tie
 
@@ -19,15 +19,15 @@ bands : ℕ → ℕ → ℕ → ℕ → List Check
 bands k x a d = ragged k x ∷ ragged k a ∷ ragged k d ∷ []
 
 rest : Filter → ℕ → ℕ → ℕ → ℕ → ℕ → ℕ → ℕ → List Check
-rest f l k x a d u v = ragged k u ∷ ragged k v ∷ dwtChecks f l (x / k) (a / k) (d / k) (u / k) (v / k)
+rest f l k x a d u v = ragged k u ∷ ragged k v ∷ dwt_checks f l (x / k) (a / k) (d / k) (u / k) (v / k)
 
 -- signal and bands are whole: the whole list says what the rest says
 past1 : (c : tie.Else1) {z : Refusal}
     → let a = c.before.before.before.before.args in
     let k = c.before.before.before.width.result in
     let m = rest a.f a.levels k a.signal a.approx a.details a.one a.two in
-    z ≡ first_of m (Done 0 0) → z ≡ sayDwt a.f a.levels a.signal a.approx a.details a.one a.two
-unfolding sayDwt bands rest
+    z ≡ first_of m (Done 0 0) → z ≡ say_dwt a.f a.levels a.signal a.approx a.details a.one a.two
+unfolding say_dwt bands rest
 past1 c q =
     let a = c.before.before.before.before.args in
     let k = c.before.before.before.width.result in
@@ -35,7 +35,7 @@ past1 c q =
     (say-rest (bands k a.signal a.approx a.details) (rest a.f a.levels k a.signal a.approx a.details a.one a.two) (Done 0 0) (refl, (refl, (refl, tt))) c.before.before.check-whole.ensures (sym c.before.is-done.ensures ∙ not-false _ c.if1.false) q)
 
 returns : tie.Need-returns
-unfolding sayDwt bands rest
+unfolding say_dwt bands rest
 returns c =
     let a = c.before.before.before.before.args in
     let k = c.before.before.before.width.result in

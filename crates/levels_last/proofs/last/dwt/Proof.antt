@@ -3,7 +3,7 @@ use borrow.Author.Rules.{rules}
 use mathlib.Core.Path.{◌∙◌, sym, ap}
 use Prim.Native.Nat.{ℕ, ◌-◌, ◌*◌, ◌/◌}
 use lib.ListN.{length}
-use Rattle.base_lengths.specs.Levels.{countAt, levelsOf}
+use Rattle.base_lengths.specs.Levels.{count_at, levels_of}
 use Rattle.levels_filter.specs.Filters.{width_of}
 use Rattle.levels_filter.specs.Calls.{BandsOf, Ready}
 use Rattle.levels_filter.proofs.LastLevel.{dwt-ready, dwt-done, dwt-refused}
@@ -14,8 +14,8 @@ use Rattle.levels_last.proofs.last.dwt.Tie as tie
 ready : (c : tie.Then1)
     → let a = c.before.before.before.before.before.before.before.before.before.args in
     let n = length a.signal.now / width_of a.f in
-    Ready a.f (levelsOf a.levels) n (length a.signal.now) (length a.one.now) (length a.two.now)
-    × BandsOf a.f (countAt (levelsOf a.levels - 1) n) (length a.approx.now) (length a.details.now)
+    Ready a.f (levels_of a.levels) n (length a.signal.now) (length a.one.now) (length a.two.now)
+    × BandsOf a.f (count_at (levels_of a.levels - 1) n) (length a.approx.now) (length a.details.now)
 ready c =
     let a = c.before.before.before.before.before.before.before.before.before.args in
     dwt-ready a.f a.levels (length a.signal.now) (length a.approx.now) (length a.details.now) (length a.one.now) (length a.two.now)

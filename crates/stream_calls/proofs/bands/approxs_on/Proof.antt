@@ -6,18 +6,18 @@ use native.Mathlib.Omega.{arith}
 use lib.ListN.{length}
 use Rattle.base_samples.specs.Words.{Front}
 use Rattle.base_samples.proofs.Fronts.{front-none, front-more, front_at}
-use Rattle.stream_calls.specs.Loops.{approxAmong}
+use Rattle.stream_calls.specs.Loops.{approx_among}
 use Rattle.stream_calls.proofs.bands.approxs_on.Statement.{statement}
 use Rattle.stream_calls.proofs.bands.approxs_on.Tie as tie
 
 abbrev invariant-loop : tie.invariant-loop
-invariant-loop k z a₀ d n j₀ a j = (j ≤ n) × Front k (length a₀ / k) j (approxAmong k z d) a
+invariant-loop k z a₀ d n j₀ a j = (j ≤ n) × Front k (length a₀ / k) j (approx_among k z d) a
 
 abbrev decreases-loop : tie.decreases-loop
 decreases-loop k z a₀ d n j₀ a j = n - j
 
 loop-again : tie.Need-loop-preserved invariant-loop decreases-loop
-unfolding approxAmong
+unfolding approx_among
 loop-again c =
     let p = c.before.before in
     let l = p.before.before.before.before.before.before in

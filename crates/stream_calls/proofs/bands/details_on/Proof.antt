@@ -6,18 +6,18 @@ use native.Mathlib.Omega.{arith}
 use lib.ListN.{length}
 use Rattle.base_samples.specs.Words.{Front}
 use Rattle.base_samples.proofs.Fronts.{front-none, front-more, front_at}
-use Rattle.filter_cdf53i.specs.Bands.{detailWord}
+use Rattle.filter_cdf53i.specs.Bands.{detail_word}
 use Rattle.stream_calls.proofs.bands.details_on.Statement.{statement}
 use Rattle.stream_calls.proofs.bands.details_on.Tie as tie
 
 abbrev invariant-loop : tie.invariant-loop
-invariant-loop k z d₀ n j₀ d j = (j ≤ n) × Front k (length d₀ / k) j (detailWord k z) d
+invariant-loop k z d₀ n j₀ d j = (j ≤ n) × Front k (length d₀ / k) j (detail_word k z) d
 
 abbrev decreases-loop : tie.decreases-loop
 decreases-loop k z d₀ n j₀ d j = n - j
 
 loop-again : tie.Need-loop-preserved invariant-loop decreases-loop
-unfolding detailWord
+unfolding detail_word
 loop-again c =
     let p = c.before.before in
     let lt = p.before.before.before.loop-test.true in

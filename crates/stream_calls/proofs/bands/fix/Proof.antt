@@ -10,12 +10,12 @@ use Rattle.base_samples.specs.Words.{tabulate, bytes_of, Front}
 use Rattle.base_samples.proofs.Fronts.{front-none, front-all}
 use Rattle.filter_cdf53i.specs.Bands.{low, high}
 use Rattle.stream_pieces.specs.declared.recorder.Recorder.{Recorder}
-use Rattle.stream_pieces.specs.States.{fixed, waiting, standIn, fixedBy}
-use Rattle.stream_pieces.specs.Steps.{nextDetail, nextApprox, newly, Taking}
+use Rattle.stream_pieces.specs.States.{fixed, waiting, stand_in, fixed_by}
+use Rattle.stream_pieces.specs.Steps.{next_detail, next_approx, newly, Taking}
 use Rattle.stream_pieces.proofs.Tables.{some_words, between-low, between-high}
 use Rattle.stream_pieces.proofs.NextWords.{count}
 use Rattle.stream_calls.specs.Loops.{Others}
-use Rattle.stream_calls.proofs.Rears.{rearOf, rear-is}
+use Rattle.stream_calls.proofs.Rears.{rear_of, rear-is}
 use Rattle.stream_calls.proofs.Others.{holds-z, details-all, approxs-all}
 use Rattle.stream_calls.proofs.bands.fix.Statement.{statement}
 use Rattle.stream_calls.proofs.bands.fix.Tie as tie
@@ -29,21 +29,21 @@ module _ {k : ℕ} {s : Recorder} {y : List ℕ} (g : Taking k s y) (some : 0 < 
   rear-within : k * (2 - v) ≤ length y
   rear-within = rw (e, g.piece.size) (mul-le-mul_left k (omega arith))
 
-  rear : rearOf (k * (2 - v)) y ≡ drop (k * (2 - waiting s.total)) y
+  rear : rear_of (k * (2 - v)) y ≡ drop (k * (2 - waiting s.total)) y
   rear = rear-is (k * (2 - v)) y ∙ ap (λ (u : ℕ). drop (k * (2 - u)) y) e
 
-  asked : {a d : List ℕ} → Front k (newly k s y) 1 (nextApprox k s y) a → Front k (newly k s y) 1 (nextDetail k s y) d → Others k (length d / k) (rearOf (k * (2 - v)) y) a d
+  asked : {a d : List ℕ} → Front k (newly k s y) 1 (next_approx k s y) a → Front k (newly k s y) 1 (next_detail k s y) d → Others k (length d / k) (rear_of (k * (2 - v)) y) a d
   asked a d =
       let h = holds-z g rear (omega arith) in
       record { width = g.width; samples = rw h.count h; approx = rw d.holds.count a.holds; details = rw d.holds.count d.holds; some = rw d.holds.count some; more = rw (d.holds.count, h.count) (enough (newly k s y) (waiting s.total) (length y / k) some (omega arith) (omega arith)) }
 
 -- the words of all new coefficients are the new part of the band
 module _ {k : ℕ} {s : Recorder} {y : List ℕ} (g : Taking k s y) where
-  lows : {a : List ℕ} → a ≡ bytes_of k (tabulate (newly k s y) (nextApprox k s y)) → a ≡ fixedBy low k s y
-  lows e = e ∙ sym (between-low k (standIn k s ++ y) (fixed s.total) (fixed (s.total + length y / k)) (omega arith) (omega (arith, count g)))
+  lows : {a : List ℕ} → a ≡ bytes_of k (tabulate (newly k s y) (next_approx k s y)) → a ≡ fixed_by low k s y
+  lows e = e ∙ sym (between-low k (stand_in k s ++ y) (fixed s.total) (fixed (s.total + length y / k)) (omega arith) (omega (arith, count g)))
 
-  highs : {d : List ℕ} → d ≡ bytes_of k (tabulate (newly k s y) (nextDetail k s y)) → d ≡ fixedBy high k s y
-  highs e = e ∙ sym (between-high k (standIn k s ++ y) (fixed s.total) (fixed (s.total + length y / k)) (omega arith) (omega (arith, count g)))
+  highs : {d : List ℕ} → d ≡ bytes_of k (tabulate (newly k s y) (next_detail k s y)) → d ≡ fixed_by high k s y
+  highs e = e ∙ sym (between-high k (stand_in k s ++ y) (fixed s.total) (fixed (s.total + length y / k)) (omega arith) (omega (arith, count g)))
 
 start : (c : tie.After-waiting)
     → let a = c.before.before.before.before.before.before.before.before.before.before.before.before.before.args in a.k * (2 - c.waiting.result) ≤ length a.y.now

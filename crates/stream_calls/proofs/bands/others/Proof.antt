@@ -6,7 +6,7 @@ use Prim.Native.Nat.{ℕ}
 use native.Mathlib.Omega.{arith}
 use Rattle.base_samples.proofs.Fronts.{front-all}
 use Rattle.stream_calls.specs.Loops.{Inner, Others}
-use Rattle.stream_calls.proofs.Rears.{rearOf, Behind, behind, behind-back, behind-holds}
+use Rattle.stream_calls.proofs.Rears.{rear_of, Behind, behind, behind-back, behind-holds}
 use Rattle.stream_calls.proofs.bands.others.Statement.{statement}
 use Rattle.stream_calls.proofs.bands.others.Tie as tie
 
@@ -18,7 +18,7 @@ module _ {k c : ℕ} {z a d : List ℕ} (o : Others k c z a d) where
   details-rear = behind o.width.some o.details o.some
 
   -- what is lent of either area
-  inner : {e : List ℕ} → Behind k c e → Inner k z (rearOf k e)
+  inner : {e : List ℕ} → Behind k c e → Inner k z (rear_of k e)
   inner b = let h = b.words in record { width = o.width; samples = o.samples; words = rw h.count h; more = rw h.count o.more }
 
 approxs-on-requires : tie.Need-approxs-on-requires

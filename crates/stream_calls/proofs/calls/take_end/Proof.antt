@@ -3,12 +3,12 @@ use borrow.Author.Rules.{rules}
 use mathlib.Core.Path.{sym, ap, ◌∙◌}
 use Prim.Native.Nat.{◌-◌, ◌*◌}
 use native.Mathlib.Omega.{arith}
-use Rattle.base_lengths.specs.Lengths.{approxLength, detailsLength}
+use Rattle.base_lengths.specs.Lengths.{approx_length, details_length}
 use Rattle.base_samples.specs.Le.{le_bytes}
 use Rattle.base_samples.specs.Words.{bytes_of}
 use Rattle.filter_cdf53i.specs.Bands.{low, high}
 use Rattle.stream_pieces.specs.States.{fixed, rest_of}
-use Rattle.stream_calls.specs.StateBytes.{stateBytes, stateIn}
+use Rattle.stream_calls.specs.StateBytes.{state_bytes, state_in}
 use Rattle.stream_calls.specs.Calls.{fresh}
 use Rattle.stream_calls.proofs.Fronting.{Lends, lends, lent_back}
 use Rattle.stream_calls.proofs.calls.take_end.Statement.{statement}
@@ -17,8 +17,8 @@ use Rattle.stream_calls.proofs.calls.take_end.Tie as tie
 -- what is lent of each area
 lows : (c : tie.After-approx-length)
     → let a = c.before.before.before.before.before.before.before.before.args in
-    let t = (stateIn a.state.now).total in
-    Lends a.k (approxLength t - fixed t) (a.k * (c.approx-length.result - c.before.fixed.result)) a.a.now
+    let t = (state_in a.state.now).total in
+    Lends a.k (approx_length t - fixed t) (a.k * (c.approx-length.result - c.before.fixed.result)) a.a.now
 lows c =
     let m = c.before in
     let read = m.before.before in
@@ -27,8 +27,8 @@ lows c =
 
 highs : (c : tie.After-details-length)
     → let a = c.before.before.before.before.before.before.before.before.before.args in
-    let t = (stateIn a.state.now).total in
-    Lends a.k (detailsLength t - fixed t) (a.k * (c.details-length.result - c.before.before.fixed.result)) a.d.now
+    let t = (state_in a.state.now).total in
+    Lends a.k (details_length t - fixed t) (a.k * (c.details-length.result - c.before.before.fixed.result)) a.d.now
 highs c =
     let m = c.before.before in
     let read = m.before.before in
@@ -44,7 +44,7 @@ rest-requires c κs =
 
 -- four zeros are 16 zero bytes by computing
 returns : tie.Need-returns
-unfolding stateBytes bytes_of le_bytes fresh
+unfolding state_bytes bytes_of le_bytes fresh
 returns c =
     let made = c.before.before.before.before.before.before.before.before in
     let h = made.before.before.before in
@@ -52,8 +52,8 @@ returns c =
     let k = read.before.before.before.before.before.args.k in (
       c.before.before.write.ensures,
       (
-        lent_back (lows h.before) made.rest.auto.1.1.0 (made.rest.ensures.0 ∙ ap (rest_of low approxLength k) read.read.ensures),
-        lent_back (highs h) made.rest.auto.1.1.1.0 (made.rest.ensures.1 ∙ ap (rest_of high detailsLength k) read.read.ensures),
+        lent_back (lows h.before) made.rest.auto.1.1.0 (made.rest.ensures.0 ∙ ap (rest_of low approx_length k) read.read.ensures),
+        lent_back (highs h) made.rest.auto.1.1.1.0 (made.rest.ensures.1 ∙ ap (rest_of high details_length k) read.read.ensures),
       ),
     )
 

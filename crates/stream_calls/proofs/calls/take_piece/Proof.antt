@@ -6,9 +6,9 @@ use Prim.Native.Nat.{ℕ, ◌-◌, ◌*◌}
 use native.Mathlib.Omega.{arith}
 use Rattle.filter_cdf53i.specs.Bands.{low, high, EnoughWords}
 use Rattle.stream_pieces.specs.declared.recorder.Recorder.{Recorder}
-use Rattle.stream_pieces.specs.States.{state_of, standIn, fixedBy}
+use Rattle.stream_pieces.specs.States.{state_of, stand_in, fixed_by}
 use Rattle.stream_pieces.specs.Steps.{newly}
-use Rattle.stream_calls.specs.StateBytes.{stateBytes, stateIn}
+use Rattle.stream_calls.specs.StateBytes.{state_bytes, state_in}
 use Rattle.stream_calls.proofs.Fronting.{Lends, lends, lent_back}
 use Rattle.stream_calls.proofs.calls.take_piece.Statement.{statement}
 use Rattle.stream_calls.proofs.calls.take_piece.Tie as tie
@@ -16,7 +16,7 @@ use Rattle.stream_calls.proofs.calls.take_piece.Tie as tie
 -- what is lent of an area
 lent : (c : tie.After-fixed2) {e : List ℕ}
     → let a = c.before.before.before.before.before.before.before.before.before.args in
-    EnoughWords a.k (newly a.k (stateIn a.state.now) a.y.now) e → Lends a.k (newly a.k (stateIn a.state.now) a.y.now) (a.k * (c.before.fixed.result - c.fixed2.result)) e
+    EnoughWords a.k (newly a.k (state_in a.state.now) a.y.now) e → Lends a.k (newly a.k (state_in a.state.now) a.y.now) (a.k * (c.before.fixed.result - c.fixed2.result)) e
 lent c r =
     let read = c.before.before.before in
     lends read.before.before.before.before.before.before.requires.0.1.width r (rw (c.fixed2.ensures, c.before.fixed.ensures, read.read.ensures))
@@ -36,10 +36,10 @@ returns c =
     let st = read.before.before.before.before.before.before in
     let k = st.args.k in
     let y = st.args.y.now in (
-      c.before.before.write.ensures ∙ ap stateBytes (made.advance.ensures.0 ∙ ap (λ (s : Recorder). state_of k (standIn k s ++ y)) read.read.ensures),
+      c.before.before.write.ensures ∙ ap state_bytes (made.advance.ensures.0 ∙ ap (λ (s : Recorder). state_of k (stand_in k s ++ y)) read.read.ensures),
       (
-        lent_back (lent m st.requires.1.0) made.advance.auto.1.1.1.0 (made.advance.ensures.1.0 ∙ ap (λ (s : Recorder). fixedBy low k s y) read.read.ensures),
-        lent_back (lent m st.requires.1.1) made.advance.auto.1.1.1.1.0 (made.advance.ensures.1.1 ∙ ap (λ (s : Recorder). fixedBy high k s y) read.read.ensures),
+        lent_back (lent m st.requires.1.0) made.advance.auto.1.1.1.0 (made.advance.ensures.1.0 ∙ ap (λ (s : Recorder). fixed_by low k s y) read.read.ensures),
+        lent_back (lent m st.requires.1.1) made.advance.auto.1.1.1.1.0 (made.advance.ensures.1.1 ∙ ap (λ (s : Recorder). fixed_by high k s y) read.read.ensures),
       ),
     )
 

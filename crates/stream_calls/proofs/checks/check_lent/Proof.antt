@@ -5,7 +5,7 @@ use mathlib.Core.List.{[], ◌∷◌}
 use mathlib.Core.Path.{refl, sym, ap, ◌∙◌}
 use Rattle.base_answers.specs.Checks.{ragged}
 use Rattle.base_answers.proofs.Chain.{by, stop}
-use Rattle.stream_calls.specs.Calls.{stateCheck}
+use Rattle.stream_calls.specs.Calls.{state_check}
 use Rattle.stream_calls.proofs.Ready.{Split, split}
 use Rattle.stream_calls.proofs.checks.check_lent.Statement.{statement}
 use Rattle.stream_calls.proofs.checks.check_lent.Tie as tie
@@ -13,7 +13,7 @@ use Rattle.stream_calls.proofs.checks.check_lent.Tie as tie
 past : (c : tie.After-is-done)
     → let a = c.before.before.before.args in
     let k = a.k in
-    Split (ragged k a.y ∷ ragged k a.a ∷ ragged k a.d ∷ []) (stateCheck k a.b.now ∷ []) c.before.check-whole.result c.is-done.result
+    Split (ragged k a.y ∷ ragged k a.a ∷ ragged k a.d ∷ []) (state_check k a.b.now ∷ []) c.before.check-whole.result c.is-done.result
 past c = split _ _ (refl, (refl, (refl, tt))) c.before.check-whole.ensures c.is-done.ensures
 
 pub check-lent-spec : {M : Type 1} → statement M

@@ -5,16 +5,16 @@ use mathlib.Core.Bool.{Bool, ◌&&◌}
 use mathlib.Core.Path.{◌≡◌, sym, ◌∙◌}
 use lib.Dec.{ltb}
 use Rattle.stream_pieces.specs.States.{fixed, waiting}
-use Rattle.stream_calls.specs.StateBytes.{stateIn, isKept, couldBe}
+use Rattle.stream_calls.specs.StateBytes.{state_in, is_kept, could_be}
 use Rattle.stream_calls.proofs.state.could_be.Statement.{statement}
 use Rattle.stream_calls.proofs.state.could_be.Tie as tie
 
 returns : tie.Need-returns
-unfolding couldBe
+unfolding could_be
 returns c = rw (ne_eqb _ _ c.if1.true)
 
 returns-2 : tie.Need-returns-2
-unfolding couldBe
+unfolding could_be
 returns-2 c =
     let k = c.before.before in
     rw (eq-eqb _ _ k.before.if1.false, lt-leb _ _ (rw k.read.ensures at c.if2.true))
@@ -22,11 +22,11 @@ returns-2 c =
 -- past the size and the limit: the words decide
 past : (c : tie.Else2) {z : Bool}
     → let a = c.before.before.before.before.before.args in
-    let s = stateIn a.b.now in
+    let s = state_in a.b.now in
     let t = s.total in
-    z ≡ (isKept a.k (ltb 0 (waiting t)) s.even && (isKept a.k (ltb 1 (waiting t)) s.odd && isKept a.k (ltb 0 (fixed t)) s.detail))
-    → z ≡ couldBe a.k a.b.now
-unfolding couldBe
+    z ≡ (is_kept a.k (ltb 0 (waiting t)) s.even && (is_kept a.k (ltb 1 (waiting t)) s.odd && is_kept a.k (ltb 0 (fixed t)) s.detail))
+    → z ≡ could_be a.k a.b.now
+unfolding could_be
 past c q =
     let k = c.before.before in
     rw (eq-eqb _ _ k.before.if1.false, le-leb _ _ (rw k.read.ensures at c.if2.false)) q
@@ -34,14 +34,14 @@ past c q =
 -- what the tests of the words say of the state in the bytes
 even : (c : tie.After-is-kept)
     → let a = c.before.before.before.before.before.before.before.args in
-    let s = stateIn a.b.now in
-    c.is-kept.result ≡ isKept a.k (ltb 0 (waiting s.total)) s.even
+    let s = state_in a.b.now in
+    c.is-kept.result ≡ is_kept a.k (ltb 0 (waiting s.total)) s.even
 even c = rw (c.before.waiting.ensures, c.before.before.before.before.read.ensures) at c.is-kept.ensures
 
 odd : (c : tie.After-is-kept2)
     → let a = c.before.before.before.before.before.before.before.before.before.args in
-    let s = stateIn a.b.now in
-    c.is-kept2.result ≡ isKept a.k (ltb 1 (waiting s.total)) s.odd
+    let s = state_in a.b.now in
+    c.is-kept2.result ≡ is_kept a.k (ltb 1 (waiting s.total)) s.odd
 odd c = let k = c.before.before.before in rw (k.waiting.ensures, k.before.before.before.read.ensures) at c.is-kept2.ensures
 
 returns-3 : tie.Need-returns-3

@@ -7,12 +7,12 @@ use lib.ListN.{get_or}
 use Rattle.base_samples.specs.Words.{tabulate, put_at}
 use Rattle.base_samples.proofs.Words.{holds}
 use Rattle.base_samples.proofs.Fronts.{front-none, front-more, front-all}
-use Rattle.stream_calls.specs.StateBytes.{stateBytes}
+use Rattle.stream_calls.specs.StateBytes.{state_bytes}
 use Rattle.stream_calls.proofs.state.write.Statement.{statement}
 use Rattle.stream_calls.proofs.state.write.Tie as tie
 
 returns : tie.Need-returns
-unfolding stateBytes tabulate put_at
+unfolding state_bytes tabulate put_at
 returns c =
     let c₃ = c.before.before.before.before in
     let c₂ = c₃.before.before.before.before in

@@ -3,13 +3,13 @@ use borrow.Author.Rules.{rules}
 use mathlib.Core.Path.{◌≡◌, refl, ◌∙◌}
 use native.Mathlib.Omega.{arith}
 use Rattle.base_samples.proofs.Fronts.{front-none, front-more, front_at}
-use Rattle.stream_pieces.specs.Steps.{nextDetail}
+use Rattle.stream_pieces.specs.Steps.{next_detail}
 use Rattle.stream_pieces.proofs.NextWords.{before-is, next-detail, next-approx}
 use Rattle.stream_pieces.proofs.borders.first.Statement.{statement}
 use Rattle.stream_pieces.proofs.borders.first.Tie as tie
 
 -- the detail is the next one
-new : (c : tie.After-detail-of) → let a = c.before.before.before.before.before.before.before.args in c.detail-of.result ≡ nextDetail a.k a.s a.y.now 0
+new : (c : tie.After-detail-of) → let a = c.before.before.before.before.before.before.before.args in c.detail-of.result ≡ next_detail a.k a.s a.y.now 0
 new c =
     let st = c.before.before.before.before.before.before.before in
     let some = st.requires.0.1 in

@@ -7,14 +7,14 @@ use native.Mathlib.Omega.{arith}
 use lib.IntN.{pos, ◌+ℤ◌, ◌-ℤ◌}
 use lib.ListN.{length}
 use lib.Signed.{shr_z}
-use Rattle.base_lengths.specs.Lengths.{approxLength, detailsLength}
+use Rattle.base_lengths.specs.Lengths.{approx_length, details_length}
 use Rattle.base_samples.specs.Words.{put_at, Holds}
 use Rattle.base_samples.specs.Integers.{Width, val, residue}
 use Rattle.base_samples.proofs.Fronts.{front-none, front-more, front_at}
-use Rattle.filter_cdf53i.specs.Bands.{low, high, detailWord, approxWord}
+use Rattle.filter_cdf53i.specs.Bands.{low, high, detail_word, approx_word}
 use Rattle.filter_cdf53i.proofs.WordTurns.{detail-at, approx-from}
 use Rattle.stream_pieces.specs.declared.recorder.Recorder.{Recorder}
-use Rattle.stream_pieces.specs.States.{fixed, waiting, Possible, standIn, rest_of}
+use Rattle.stream_pieces.specs.States.{fixed, waiting, Possible, stand_in, rest_of}
 use Rattle.stream_pieces.proofs.Kept.{kept_small}
 use Rattle.stream_pieces.proofs.Tables.{some_words, lows-are, highs-are}
 use Rattle.stream_pieces.proofs.Stands.{count-stand, even_is, odd_is, detail-kept}
@@ -25,7 +25,7 @@ module _ {k : ℕ} (w : Width k) (s : Recorder) (p : Possible k s) (long : 3 ≤
   abbrev m : ℕ
   m = fixed s.total
 
-  count : length (standIn k s) / k ≡ s.total
+  count : length (stand_in k s) / k ≡ s.total
   count = count-stand w s p
 
   even-small : s.even < 256 ^ k
@@ -35,27 +35,27 @@ module _ {k : ℕ} (w : Width k) (s : Recorder) (p : Possible k s) (long : 3 ≤
   detail-small = kept_small k 0 m s.detail p.detail (omega arith)
 
   -- the detail of the odd sample that waits
-  odd-detail : detailsLength s.total ≡ m + 1 → residue (256 ^ k) (val (256 ^ k) s.odd -ℤ shr_z (val (256 ^ k) s.even +ℤ val (256 ^ k) s.even) 2) ≡ detailWord k (standIn k s) m
-  unfolding detailWord
-  odd-detail h = rw (even_is w s p, odd_is w s p) at (detail-at w (standIn k s) m m (omega (arith, count)) (omega (arith, count)))
+  odd-detail : details_length s.total ≡ m + 1 → residue (256 ^ k) (val (256 ^ k) s.odd -ℤ shr_z (val (256 ^ k) s.even +ℤ val (256 ^ k) s.even) 2) ≡ detail_word k (stand_in k s) m
+  unfolding detail_word
+  odd-detail h = rw (even_is w s p, odd_is w s p) at (detail-at w (stand_in k s) m m (omega (arith, count)) (omega (arith, count)))
 
   -- the last approximation, beside the last detail, of the word z
-  last-approx : (r : ℕ) {z : ℕ} → r ≡ detailsLength s.total - 1 → z ≡ detailWord k (standIn k s) r
-      → residue (256 ^ k) (val (256 ^ k) s.even +ℤ shr_z (val (256 ^ k) s.detail +ℤ val (256 ^ k) z +ℤ pos 2) 4) ≡ approxWord k (standIn k s) m
+  last-approx : (r : ℕ) {z : ℕ} → r ≡ details_length s.total - 1 → z ≡ detail_word k (stand_in k s) r
+      → residue (256 ^ k) (val (256 ^ k) s.even +ℤ shr_z (val (256 ^ k) s.detail +ℤ val (256 ^ k) z +ℤ pos 2) 4) ≡ approx_word k (stand_in k s) m
   last-approx r er ez =
-      approx-from w (standIn k s) m r (omega (arith, count)) (omega (arith, count)) (omega (arith, count)) (sym (even_is w s p)) (detail-kept w s p (omega arith)) ez
+      approx-from w (stand_in k s) m r (omega (arith, count)) (omega (arith, count)) (omega (arith, count)) (sym (even_is w s p)) (detail-kept w s p (omega arith)) ez
 
   -- all that is left of each band
-  lows-left : {a a' : List ℕ} {r u z : ℕ} → Holds k (approxLength s.total - m) a → r ≡ detailsLength s.total - 1 → z ≡ detailWord k (standIn k s) r
-      → u ≡ residue (256 ^ k) (val (256 ^ k) s.even +ℤ shr_z (val (256 ^ k) s.detail +ℤ val (256 ^ k) z +ℤ pos 2) 4) → a' ≡ put_at k a 0 u → a' ≡ rest_of low approxLength k s
+  lows-left : {a a' : List ℕ} {r u z : ℕ} → Holds k (approx_length s.total - m) a → r ≡ details_length s.total - 1 → z ≡ detail_word k (stand_in k s) r
+      → u ≡ residue (256 ^ k) (val (256 ^ k) s.even +ℤ shr_z (val (256 ^ k) s.detail +ℤ val (256 ^ k) z +ℤ pos 2) 4) → a' ≡ put_at k a 0 u → a' ≡ rest_of low approx_length k s
   lows-left {r = r} h er ez eu put =
-      lows-are k (standIn k s) m (approxLength s.total) (omega arith) (omega (arith, count))
-      (front_at _ (front-more (front-none _ h) refl (omega arith) (eu ∙ last-approx r er ez ∙ ap (approxWord k (standIn k s)) (omega arith)) put) (omega arith))
+      lows-are k (stand_in k s) m (approx_length s.total) (omega arith) (omega (arith, count))
+      (front_at _ (front-more (front-none _ h) refl (omega arith) (eu ∙ last-approx r er ez ∙ ap (approx_word k (stand_in k s)) (omega arith)) put) (omega arith))
 
-  highs-left : {d d' : List ℕ} {u : ℕ} → Holds k (detailsLength s.total - m) d → detailsLength s.total ≡ m + 1 → u ≡ detailWord k (standIn k s) m → d' ≡ put_at k d 0 u → d' ≡ rest_of high detailsLength k s
+  highs-left : {d d' : List ℕ} {u : ℕ} → Holds k (details_length s.total - m) d → details_length s.total ≡ m + 1 → u ≡ detail_word k (stand_in k s) m → d' ≡ put_at k d 0 u → d' ≡ rest_of high details_length k s
   highs-left h e eu put =
-      highs-are k (standIn k s) m (detailsLength s.total) (omega arith) (omega (arith, count))
-      (front_at _ (front-more (front-none _ h) refl (omega arith) (eu ∙ ap (detailWord k (standIn k s)) (omega arith)) put) (omega arith))
+      highs-are k (stand_in k s) m (details_length s.total) (omega arith) (omega (arith, count))
+      (front_at _ (front-more (front-none _ h) refl (omega arith) (eu ∙ ap (detail_word k (stand_in k s)) (omega arith)) put) (omega arith))
 
 returns : tie.Need-returns
 returns c =
@@ -64,9 +64,9 @@ returns c =
     let p = st.requires.0.1 in
     let long = st.requires.0.2 in
     let s = st.args.s in
-    let none : detailsLength s.total ≡ m w s p long = omega (arith, st.requires.1.1.most, c.before.before.before.before.before.if1.true) in (
+    let none : details_length s.total ≡ m w s p long = omega (arith, st.requires.1.1.most, c.before.before.before.before.before.if1.true) in (
       lows-left w s p long st.requires.1.0 (omega (arith, none)) (detail-kept w s p (omega arith)) c.before.before.before.approx-of.ensures.0 c.before.before.put.ensures,
-      highs-are _ (standIn st.args.k s) (m w s p long) (detailsLength s.total) (omega arith) (omega (arith, count w s p long)) (front_at _ (front-none _ st.requires.1.1) (omega (arith, none))),
+      highs-are _ (stand_in st.args.k s) (m w s p long) (details_length s.total) (omega arith) (omega (arith, count w s p long)) (front_at _ (front-none _ st.requires.1.1) (omega (arith, none))),
     )
 
 returns-2 : tie.Need-returns-2
@@ -77,7 +77,7 @@ returns-2 c =
     let p = st.requires.0.1 in
     let long = st.requires.0.2 in
     let s = st.args.s in
-    let one : detailsLength s.total ≡ m w s p long + 1 = omega (arith, some_words st.requires.1.1 first.before.if1.false) in
+    let one : details_length s.total ≡ m w s p long + 1 = omega (arith, some_words st.requires.1.1 first.before.if1.false) in
     let last = first.detail-of.ensures.0 ∙ odd-detail w s p long one in
     (lows-left w s p long st.requires.1.0 (omega (arith, one)) last c.before.before.before.approx-of2.ensures.0 c.before.before.put3.ensures, highs-left w s p long st.requires.1.1 one last c.before.before.before.before.before.before.before.put2.ensures)
 

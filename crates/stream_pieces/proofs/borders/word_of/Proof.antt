@@ -4,7 +4,7 @@ use mathlib.Core.Path.{ap, sym, ◌∙◌}
 use native.Mathlib.Omega.{arith}
 use Rattle.base_samples.proofs.LeLaws.{top_pos}
 use Rattle.stream_pieces.specs.States.{waiting}
-use Rattle.stream_pieces.specs.Steps.{nextWord}
+use Rattle.stream_pieces.specs.Steps.{next_word}
 use Rattle.stream_pieces.proofs.Kept.{kept_small}
 use Rattle.stream_pieces.proofs.NextWords.{next-even, next-odd, next-piece, next-none}
 use Rattle.stream_pieces.proofs.borders.word_of.Statement.{statement}
@@ -16,7 +16,7 @@ returns c =
     let a = st.args in
     let some = c.before.if1.true in
     let w = c.before.before.waiting.ensures in
-    (next-even st.requires (omega arith) ∙ ap (nextWord a.k a.s a.y.now) (sym c.if2.true), kept_small _ 0 (waiting a.s.total) _ st.requires.state.even (omega arith))
+    (next-even st.requires (omega arith) ∙ ap (next_word a.k a.s a.y.now) (sym c.if2.true), kept_small _ 0 (waiting a.s.total) _ st.requires.state.even (omega arith))
 
 returns-2 : tie.Need-returns-2
 returns-2 c =
@@ -25,7 +25,7 @@ returns-2 c =
     let some = c.before.if1.true in
     let w = c.before.before.waiting.ensures in
     let more = c.if2.false in
-    (next-odd st.requires (omega arith) ∙ ap (nextWord a.k a.s a.y.now) (omega arith), kept_small _ 1 (waiting a.s.total) _ st.requires.state.odd (omega arith))
+    (next-odd st.requires (omega arith) ∙ ap (next_word a.k a.s a.y.now) (omega arith), kept_small _ 1 (waiting a.s.total) _ st.requires.state.odd (omega arith))
 
 returns-3 : tie.Need-returns-3
 returns-3 c =

@@ -5,29 +5,29 @@ use native.Mathlib.Omega.{arith}
 use borrow.Author.Rules.{rules}
 use Rattle.base_answers.specs.declared.err.Refusal.{Refusal}
 use Rattle.base_answers.specs.declared.err.Refusal.TheVariants.{Done}
-use Rattle.view_notes.specs.Notes.{columnOf, sayColumn}
+use Rattle.view_notes.specs.Notes.{column_of, say_column}
 use Rattle.view_notes.proofs.Answered.{drawn, level-stops, place-stops, place-passes, fits}
 use Rattle.view_notes.proofs.notes.say_column.Statement.{statement}
 use Rattle.view_notes.proofs.notes.say_column.Tie as tie
 
 -- what it says of a sample that is there
 abbrev column : ℕ → ℕ → Refusal
-column l s = Done (columnOf l s) 0
+column l s = Done (column_of l s) 0
 
 returns : tie.Need-returns
-unfolding sayColumn
+unfolding say_column
 returns c =
     let a = c.before.before.before.args in
     level-stops a.n a.level c.before.before.check-level.ensures c.before.is-done.ensures a.s.0 a.n (column a.level a.s.0) c.if1.true
 
 returns-2 : tie.Need-returns-2
-unfolding sayColumn
+unfolding say_column
 returns-2 c =
     let a = c.before.before.before.before.args in
     place-stops a.n a.level c.before.before.before.check-level.ensures c.before.before.is-done.ensures a.s.0 a.n (column a.level a.s.0) _ refl c.before.if1.false c.if2.true
 
 returns-3 : tie.Need-returns-3
-unfolding sayColumn
+unfolding say_column
 returns-3 c =
     let a = c.before.before.before.before.before.args in
     place-passes a.n a.level c.before.before.before.before.check-level.ensures c.before.before.before.is-done.ensures a.s.0 a.n (column a.level a.s.0) c.before.before.if1.false c.before.if2.false
