@@ -1,4 +1,6 @@
 // Stored answers of the Rust, with document 02's 17, asked of the calls behind the desk's functions again. data/README says how a list of them is laid out.
+#![tactic(auto)]
+
 ghost use Rattle.std.specs.Prelude.{◌+◌, ◌≤◌, ◌<◌, ◌≡◌, length};
 ghost use Rattle.io.specs.Counts.{IsPrefixLen};
 
@@ -12,14 +14,14 @@ use levels_last::last::dwt;
 use libc::STDOUT_FILENO;
 
 // A record gone through: where the next one starts, or 0 where it does not fit; whether the call says and leaves the same.
-#[derive(Drop)]
+#[derive(Clone, Copy)]
 struct Step {
     next: usize,
     same: bool,
 }
 
 // A list gone through: its records, those that differ, and whether it ends with the byte 0.
-#[derive(Drop)]
+#[derive(Clone, Copy)]
 struct Tally {
     records: u64,
     differ: u64,
@@ -54,7 +56,7 @@ fn loaded(s: &[u8], from: usize, n: usize) -> [u8; 256]
     ensures { IsPrefixLen n result }
 {
     let mut a = [0u8; 256];
-    bytes::copy(&s[from..from + n], &mut a);
+    a[..n].copy_from_slice(&s[from..from + n]);
     a
 }
 

@@ -1,4 +1,6 @@
 // A pyramid file of 8 bits and point 14 on standard input: the bytes of its sections, and windows of the deepest level's two bands. Each is a part of the file itself.
+#![tactic(auto)]
+
 ghost use Rattle.std.specs.Prelude.{◌≡◌};
 ghost use Rattle.view_windows.specs.Windows.{window_in};
 ghost use Rattle.file_open.specs.Opens.{section_in};

@@ -1,4 +1,6 @@
 // A pyramid file on standard input: what its section 0 says, and the samples that opening it for its own width and point gives.
+#![tactic(auto)]
+
 ghost use Rattle.std.specs.Prelude.{◌/◌, ◌≤◌, length};
 ghost use Rattle.base_samples.specs.Integers.{Width};
 ghost use Rattle.file_open.specs.Opens.{OpenGives, own_width, own_point};

@@ -4,7 +4,7 @@ ghost use Rattle.base_answers.specs.Answers.{say, answer_of, done};
 
 // What a call has to say, with the values that document 01's table names; from 14 on document 02 has the numbers.
 // DetailsSizeNotMatches is osclet's name too, though none of the files that were ported returns it.
-#[derive(Drop)]
+#[derive(Clone, Copy)]
 pub enum Refusal {
     Done(usize, usize),
     MinFilterSize(usize, usize),
@@ -29,7 +29,7 @@ pub enum Refusal {
 
 // The three numbers that the desk reads.
 #[repr(C)]
-#[derive(Drop)]
+#[derive(Clone, Copy)]
 pub struct Answer {
     pub number: u32,
     pub first: u64,

@@ -1,4 +1,6 @@
 // How many samples and coefficients there are: limits, bands, levels, depth, and the checks of one level. Document 01, "Many levels".
+#![tactic(auto)]
+
 pub mod checks;
 
 ghost use Rattle.std.specs.Prelude.{◌≡◌, max, min};
@@ -12,14 +14,14 @@ use base_answers::err::{Answer, Refusal, numbers};
 pub const MOST_SAMPLES: usize = 16777216;
 
 // The two wavelets: they differ in the smallest input and in the fewest details of an inverse.
-#[derive(Drop)]
+#[derive(Clone, Copy)]
 pub enum Wavelet {
     Cdf53,
     Cdf97,
 }
 
 // The lengths of the two bands.
-#[derive(Drop)]
+#[derive(Clone, Copy)]
 pub struct DwtSize {
     pub approx: usize,
     pub details: usize,

@@ -1,9 +1,10 @@
 // Bytes within one area: laid at a place, cleared, and moved down over a gap.
+#![tactic(auto)]
+
 ghost use Rattle.std.specs.Prelude.{◌++◌, ◌≡◌, ◌+◌, ◌-◌, ◌≤◌, length, take, drop, replicate};
 ghost use Rattle.std.proofs.Math.Seq.{paste};
 
 use base_samples::le::{read_u64, write_u64};
-use bytes::copy;
 
 // The bytes x, at a place.
 pub fn lay(b: &mut [u8], at: usize, x: &[u8])
@@ -11,7 +12,7 @@ pub fn lay(b: &mut [u8], at: usize, x: &[u8])
     ensures { b.new ≡ take at b.old ++ (x.now ++ drop (at + length x.now) b.old) }
 {
     let end = at + x.len();
-    copy(x, &mut b[at..end]);
+    b[at..end].copy_from_slice(x);
 }
 
 // Zeros from one place up to another.

@@ -1,4 +1,6 @@
 // Samples in byte slices: numbers of 1, 2, 4 and 8 bytes, little-endian; two's complement integers over the width; floats by their bits.
+#![tactic(auto)]
+
 pub mod floats;
 pub mod integers;
 pub mod le;

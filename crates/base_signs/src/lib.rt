@@ -1,10 +1,12 @@
 // The signed number that a stored word stands for: as a sign and a size, as it is printed, and as one number.
+#![tactic(auto)]
+
 ghost use Rattle.std.specs.Prelude.{◌≡◌, ◌/◌, ◌^◌, ◌≤◌, ◌<◌};
 ghost use Rattle.base_samples.specs.Integers.{Width, val};
 ghost use Rattle.base_signs.specs.Numbers.{number_of};
 
 // A signed number: its size, and whether it is below 0.
-#[derive(Drop)]
+#[derive(Clone, Copy)]
 pub struct Number {
     pub negative: bool,
     pub size: u64,

@@ -1,4 +1,6 @@
 // What a pyramid file says of itself, and how many bytes one will have.
+#![tactic(auto)]
+
 ghost use Rattle.std.specs.Prelude.{◌≡◌};
 ghost use Rattle.base_answers.specs.Answers.{answer_of};
 ghost use Rattle.file_head.specs.Heads.{say_size, Told};
@@ -12,7 +14,7 @@ use levels_filter::levels::check_depth;
 
 // The answer, and what section 0 says as it is stored: zeros where the call is refused. An old file has no rate, 0.
 #[repr(C)]
-#[derive(Drop)]
+#[derive(Clone, Copy)]
 pub struct HeadAnswer {
     pub answer: Answer,
     pub width: u32,

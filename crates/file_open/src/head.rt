@@ -17,7 +17,7 @@ pub const NEW_SIZE: usize = 4 + NEW_COUNT;
 pub const COMMON_SIZE: usize = 4 + OLD_COUNT;
 
 // What section 0 of either kind says, and where the sections after it start.
-#[derive(Drop)]
+#[derive(Clone, Copy)]
 pub struct Head {
     pub width: usize,
     pub levels: usize,

@@ -1,4 +1,6 @@
 // The pyramid file: its head and its size, opening, and looking a section up; file_write has the writing, by the definitions and laws here. Document 01, "The pyramid file".
+#![tactic(auto)]
+
 pub mod head;
 pub mod open;
 pub mod restore;

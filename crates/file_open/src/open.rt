@@ -241,7 +241,7 @@ fn check_open(s: &[u8], w: usize, p: usize, o: usize, u: usize, v: usize) -> Ref
 
 // The answer, and the file's rate: 0 for an old file and where the call is refused.
 #[repr(C)]
-#[derive(Drop)]
+#[derive(Clone, Copy)]
 pub struct OpenAnswer {
     pub answer: Answer,
     pub rate: u32,

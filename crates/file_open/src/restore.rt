@@ -20,7 +20,7 @@ fn fetch(f: Filter, n: usize, s: &[u8], at: usize, to: &mut [u8])
 {
     let all = bytes_of(f, n);
     let start = at + 4;
-    bytes::copy(&s[start..start + all], to);
+    to[..all].copy_from_slice(&s[start..start + all]);
 }
 
 // One level back to n samples: the approximations in front of `other`, the details in the section at `at`.

@@ -6,7 +6,7 @@ use base_lengths::{approx_length, details_length};
 use base_samples::le::read_u32;
 
 // How far a walk over sections got: past the last one, into a section that is cut, or to a wrong count.
-#[derive(Drop)]
+#[derive(Clone, Copy)]
 pub enum Way {
     Went(usize),
     Short(usize),

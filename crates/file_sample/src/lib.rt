@@ -1,4 +1,6 @@
 // One sample of a pyramid file, straight from its bytes: what opening would put at that place.
+#![tactic(auto)]
+
 mod neighbours;
 
 ghost use Rattle.std.specs.Prelude.{◌≡◌, pos};
@@ -13,7 +15,7 @@ use file_open::open::check_file;
 
 // The answer, and the sample as a signed number: 0 where the call is refused.
 #[repr(C)]
-#[derive(Drop)]
+#[derive(Clone, Copy)]
 pub struct PeekAnswer {
     pub answer: Answer,
     pub sample: i64,

@@ -13,14 +13,14 @@ use base_samples::integers::get;
 use filter_cdf53i::steps::{even_of, odd_of};
 
 // The words of two samples: one, and the one that is read after it; where there is none, the last one's again.
-#[derive(Drop)]
+#[derive(Clone, Copy)]
 struct TwoWords {
     here: u32,
     after: u32,
 }
 
 // The words of an even sample, of the odd one after it and of the next even one; where there is none, the last one's again.
-#[derive(Drop)]
+#[derive(Clone, Copy)]
 struct ThreeWords {
     here: u32,
     between: u32,

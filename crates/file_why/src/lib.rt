@@ -1,4 +1,6 @@
 // Why a file does not open: the first check that stopped the opener, in five numbers. Document 02, C-18.
+#![tactic(auto)]
+
 ghost use Rattle.std.specs.Prelude.{true, false, ◌≡◌, ◌+◌, ◌≤◌, ◌<◌, length};
 ghost use Rattle.base_answers.specs.Answers.{done};
 ghost use Rattle.file_open.specs.Opens.{head_in, Read};
@@ -14,7 +16,7 @@ use file_open::section::{count_of, length_of, samples_to};
 
 // The refusal's number, the section, the byte place, and the numbers wanted and found. All zeros for a whole file.
 #[repr(C)]
-#[derive(Drop)]
+#[derive(Clone, Copy)]
 pub struct Reason {
     pub number: u64,
     pub section: u64,

@@ -13,7 +13,7 @@ use filter_small::single::{get_f32, put_f32, put_if_f32, small_bands_f32, small_
 use filter_small::turns::{block_end, minus};
 
 // Forward, what a turn hands to the next: an even sample, and the detail before it.
-#[derive(Drop)]
+#[derive(Clone, Copy)]
 struct Turn32 {
     here: f32,
     left: f32,

@@ -13,7 +13,7 @@ use filter_small::turns::{block_end, minus};
 use filter_small_f64::double::{get_f64, put_f64, put_if_f64, small_bands_f64, small_from_f64};
 
 // Forward, what a turn hands to the next: an even sample, and the detail before it.
-#[derive(Drop)]
+#[derive(Clone, Copy)]
 struct Turn64 {
     here: f64,
     left: f64,

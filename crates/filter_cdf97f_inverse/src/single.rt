@@ -16,7 +16,7 @@ use filter_small::single::{Carry32, get_f32, put_f32, small_bands_f32, steps_f32
 use filter_small::turns::{BLOCK, block_turns, minus};
 
 // What the last pair is made of: `two` is its odd entry after the second step, `three` its even sample, and `next` the even sample to the right.
-#[derive(Drop)]
+#[derive(Clone, Copy)]
 struct Last32 {
     two: f32,
     three: f32,

@@ -16,7 +16,7 @@ use filter_small::turns::{BLOCK, block_turns, minus};
 use filter_small_f64::double::{Carry64, get_f64, put_f64, small_bands_f64, steps_f64};
 
 // What the last pair is made of: `two` is its odd entry after the second step, `three` its even sample, and `next` the even sample to the right.
-#[derive(Drop)]
+#[derive(Clone, Copy)]
 struct Last64 {
     two: f64,
     three: f64,

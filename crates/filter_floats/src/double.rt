@@ -13,7 +13,7 @@ use crate::mla::fmla_f64;
 use base_samples::floats::{copy_f64, get_plain_f64, put_f64};
 
 // A step, with its factors.
-#[derive(Drop)]
+#[derive(Clone, Copy)]
 pub enum Step64 {
     Odds(f64),
     Evens(f64),
@@ -21,7 +21,7 @@ pub enum Step64 {
 }
 
 // The six factors of 9/7, which travel together as one set.
-#[derive(Drop)]
+#[derive(Clone, Copy)]
 pub struct Factors64 {
     pub alpha: f64,
     pub beta: f64,

@@ -13,7 +13,7 @@ use crate::mla::fmla_f32;
 use base_samples::floats::{copy_f32, get_plain_f32, put_f32};
 
 // A step, with its factors.
-#[derive(Drop)]
+#[derive(Clone, Copy)]
 pub enum Step32 {
     Odds(f32),
     Evens(f32),
@@ -21,7 +21,7 @@ pub enum Step32 {
 }
 
 // The six factors of 9/7, which travel together as one set.
-#[derive(Drop)]
+#[derive(Clone, Copy)]
 pub struct Factors32 {
     pub alpha: f32,
     pub beta: f32,

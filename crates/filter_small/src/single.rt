@@ -95,7 +95,7 @@ pub fn put_if_f32(wanted: bool, small: bool, s: &mut [u8], i: usize, x: f32)
 }
 
 // What a block of turns of 9/7 hands to the next: an entry after each of three lifting steps.
-#[derive(Drop)]
+#[derive(Clone, Copy)]
 pub struct Carry32 {
     pub one: f32,
     pub two: f32,

@@ -95,7 +95,7 @@ pub fn put_if_f64(wanted: bool, small: bool, s: &mut [u8], i: usize, x: f64)
 }
 
 // What a block of turns of 9/7 hands to the next: an entry after each of three lifting steps.
-#[derive(Drop)]
+#[derive(Clone, Copy)]
 pub struct Carry64 {
     pub one: f64,
     pub two: f64,

@@ -10,7 +10,7 @@ use filter_cdf53i::cdf53i as integer;
 use filter_schedules::cdf97f;
 
 // The seven filters.
-#[derive(Drop)]
+#[derive(Clone, Copy)]
 pub enum Filter {
     Cdf53I8,
     Cdf53I16,

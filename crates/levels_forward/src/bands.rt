@@ -30,7 +30,7 @@ fn lay_deepest(counted: bool, n: usize, x: &[u8], out: &mut [u8])
     ensures { out.new ≡ le_bytes (count_size counted) n ++ x.now }
 {
     let start = put_count(counted, n, 0, out);
-    bytes::copy(x, &mut out[start..]);
+    out[start..].copy_from_slice(x);
 }
 
 // One level: the approximations to the front of `to`, the details after their count to the end of `out`; where that count stands is the result. Of the two areas that `Ready` asks for it takes one. The count first: one part of a slice is lent at a time.

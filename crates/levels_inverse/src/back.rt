@@ -225,7 +225,7 @@ pub fn multi_idwt(
     );
     let r = numbers(said);
     if is_done(said) {
-        bytes::copy(approx, one);
+        one[..approx.len()].copy_from_slice(approx);
         up(
             f,
             approx.len() / width(f),

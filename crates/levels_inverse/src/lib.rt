@@ -1,2 +1,4 @@
 // The levels back, written once over the filter; levels_filter has the definitions and the laws.
+#![tactic(auto)]
+
 pub mod back;

@@ -3,7 +3,7 @@ ghost use Rattle.std.specs.Prelude.{◌≡◌};
 ghost use Rattle.stream_pieces.specs.States;
 
 // How many samples came, the words of the two that wait, and the word of the last detail that was written.
-#[derive(Drop)]
+#[derive(Clone, Copy)]
 pub struct Recorder {
     pub total: u32,
     pub even: u32,

@@ -10,14 +10,14 @@ use base_lengths::{MOST_SAMPLES, Wavelet, count_at, depth, details_length, lesse
 use view_spans::Band;
 
 // Two kinds of number, which only `column` and `span`, by `clipped`, turn into each other.
-#[derive(Drop)]
+#[derive(Clone, Copy)]
 pub struct SampleNumber(pub usize);
 
-#[derive(Drop)]
+#[derive(Clone, Copy)]
 pub struct CoefficientNumber(pub usize);
 
 // The first and the last sample of a span.
-#[derive(Drop)]
+#[derive(Clone, Copy)]
 pub struct SpanEnds {
     pub first: SampleNumber,
     pub last: SampleNumber,

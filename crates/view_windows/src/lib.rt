@@ -1,2 +1,4 @@
 // What the desk asks of two bands: a stretch of one of them to draw.
+#![tactic(auto)]
+
 pub mod window;

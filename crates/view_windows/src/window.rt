@@ -7,7 +7,7 @@ ghost use Rattle.view_windows.specs.Windows.{bytes_each, band_of, stretch_checks
 use base_answers::err::{Answer, Refusal, numbers};
 
 // How many bytes a sample has. An enum, so that no caller can ask for a width of 0.
-#[derive(Drop)]
+#[derive(Clone, Copy)]
 pub enum SampleWidth {
     One,
     Two,
