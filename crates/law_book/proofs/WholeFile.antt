@@ -34,8 +34,8 @@ pub record Whole (s : List ℕ) (p : ℕ) : Type 0 where
   pub size : length s ≡ size_by (take entry_size s)
 
 -- what `head_in` reads is in the first 14 bytes
-head_in : (s : List ℕ) → head_in (take entry_size s) ≡ head_in s
-head_in s =
+head_in-take : (s : List ℕ) → head_in (take entry_size s) ≡ head_in s
+head_in-take s =
     let field : (k p : ℕ) → p + k ≤ entry_size → le_at k (take entry_size s) p ≡ le_at k s p = λ k p h. le_at-take k entry_size s p h in
     λ i. record {
       width = field 1 4 (omega arith) i;
@@ -122,8 +122,8 @@ whole-file s p c =
     let size : length s ≡ file_size h.body h.width h.levels h.samples = (walk-size h.levels s h.width h.samples h.body (length s) there.1 way).0 in
     record {
       entry = length-take-le entry_size s there.0;
-      head = subst (λ (g : Head). (is_count (le_at 4 e 0) && done (first_of (field_checks g g.width g.point) (Done 0 0))) ≡ true) (sym (head_in s))
+      head = subst (λ (g : Head). (is_count (le_at 4 e 0) && done (first_of (field_checks g g.width g.point) (Done 0 0))) ≡ true) (sym (head_in-take s))
           ((and-eq-true_iff (is_count (le_at 4 e 0)) _).1 (count, own-fields h w p section.1));
-      point = ap (λ (g : Head). g.point) (head_in s) ∙ right h.point p section.1.1.1.1.1.1.1.0;
-      size = size ∙ sym (ap (λ (g : Head). file_size g.body g.width g.levels g.samples) (head_in s));
+      point = ap (λ (g : Head). g.point) (head_in-take s) ∙ right h.point p section.1.1.1.1.1.1.1.0;
+      size = size ∙ sym (ap (λ (g : Head). file_size g.body g.width g.levels g.samples) (head_in-take s));
     }

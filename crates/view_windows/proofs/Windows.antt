@@ -125,7 +125,7 @@ module _ (k : ℕ) (a d : Bor (List ℕ)) (band start count : ℕ) where
   unfolding window_at
   at_place t s i h e b =
       ap (λ (n : ℕ). (s.ref_ptr.0, n)) (add_comm i s.ref_ptr.1 ∙ ap (λ (n : ℕ). s.ref_ptr.1 + n) (e ∙ ap (λ (x : Bool). cond x (k * start) 0) (sym h)))
-      ∙ ap (λ (x : Bor (List ℕ)). (x.ptr.0, x.ptr.1 + cond (done here) (k * start) 0)) b
+      ∙ ap (λ (x : Bor (List ℕ)). (x.ref_ptr.0, x.ref_ptr.1 + cond (done here) (k * start) 0)) b
 
   pub placed : (r : Answer) (s : Bor (List ℕ)) → r ≡ answer_of here → r.number ≡ 0 → s ≡ band_of band a d → (s.ref_ptr.0, r.first + s.ref_ptr.1) ≡ window_at k a d band start count
   placed r s e z b =

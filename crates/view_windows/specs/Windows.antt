@@ -38,4 +38,4 @@ window_in k a d band start count =
 unfoldable pub window_at : ℕ → Bor (List ℕ) → Bor (List ℕ) → ℕ → ℕ → ℕ → ℕ × ℕ
 window_at k a d band start count =
     let s = band_of band a d in
-    (s.ptr.0, s.ptr.1 + cond (done (say_window k (length a.now) (length d.now) band start count)) (k * start) 0)
+    (s.ref_ptr.0, s.ref_ptr.1 + cond (done (say_window k (length a.now) (length d.now) band start count)) (k * start) 0)
