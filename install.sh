@@ -16,7 +16,7 @@ Proves the library (about 10 minutes the first time, about one after that; each 
 Nothing else is written, but for target/ here. PREFIX is made where it is missing; files of these names in it are replaced. Its
 name may have no blank, comma, quote, backslash, $ or #, which pkg-config and the linker take apart.
 
-  --library FILE   installs this library, which `rt staticlib desk` wrote before, and proves nothing; one that lacks a function of
+  --library FILE   installs this library, which `rt lib` wrote before in crates/desk, and proves nothing; one that lacks a function of
                    the header is refused, as every one of a version before 0.11.0 is, which lacks bk_pyramid_why. Nothing else
                    of its version is looked at: give one that was made of this version
   --help           this
@@ -122,14 +122,9 @@ version=$series.$(version_of PATCH)
 if [ -n "$library" ]; then
     echo "install.sh: nothing is proved now: $library is installed as it is"
 else
-    library=target/staticlib/libdesk.a
-    echo "install.sh: proving the library, whose last crate is desk (target/install.log and target/install-desk.log have all of it)"
-    # what desk stands on first, side by side: rt staticlib would prove one crate after the other
-    below=''
-    for crate in $(sed -n 's/^desk://p' crates.txt); do [ ! -d "crates/$crate" ] || below="$below $crate"; done
-    # shellcheck disable=SC2086
-    tests/desk/prove target/install.log check $below || exit 1
-    tests/desk/prove target/install-desk.log staticlib desk || exit 1
+    library=crates/desk/out/libdesk.a
+    echo "install.sh: proving the library, whose last crate is desk (target/install.log has all of it)"
+    tests/desk/prove target/install.log desk lib || exit 1
     holds_all "$library"
 fi
 

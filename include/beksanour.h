@@ -19,7 +19,7 @@
  * `install.sh PREFIX` installs this header, the library and beksanour.pc, for x86-64 Linux. Then, with PREFIX/lib/pkgconfig in
  * PKG_CONFIG_PATH, `cc examples/desk.c $(pkg-config --cflags --libs beksanour)` links the shared library, which a program finds
  * with PREFIX/lib in LD_LIBRARY_PATH; `cc examples/desk.c -IPREFIX/include PREFIX/lib/libbeksanour.a` links the static one.
- * Without an installation, `rt staticlib desk` writes the same library to target/staticlib/libdesk.a. examples/desk.c is a
+ * Without an installation, `rt lib` in crates/desk writes the same library to crates/desk/out/libdesk.a. examples/desk.c is a
  * program that uses the files, the route book, notes, windows and a recording that comes in pieces. CHANGELOG.md says what a caller
  * must change from one version to the next.
  *
