@@ -1,17 +1,17 @@
 // Stored answers of the Rust, with document 02's 17, asked of the calls behind the desk's functions again. data/README says how a list of them is laid out.
 #![tactic(auto)]
 
-ghost use Rattle.std.specs.Prelude.{◌+◌, ◌≤◌, ◌<◌, ◌≡◌, length};
-ghost use Rattle.io.specs.Counts.{IsPrefixLen};
+ghost use Rattle.std.specs.Prelude.{◌+◌, ◌≤◌, ◌<◌, ◌≡◌, length, take, IfOk};
 
 use base_answers::err::Answer;
 use base_samples::le::{read_u16, read_u32};
-use check::same;
 use levels_filter::filter::{Filter, execute_forward, execute_inverse};
 use levels_forward::levels::multi_dwt;
 use levels_inverse::back::multi_idwt;
 use levels_last::last::dwt;
-use libc::STDOUT_FILENO;
+use std::io::Read;
+use std::rt::Files;
+use std::{fs, io};
 
 // A record gone through: where the next one starts, or 0 where it does not fit; whether the call says and leaves the same.
 #[derive(Clone, Copy)]
@@ -53,7 +53,8 @@ fn slice_end(s: &[u8], at: usize) -> usize
 // The n bytes of s from a place on, at the start of an array of which they can be lent.
 fn loaded(s: &[u8], from: usize, n: usize) -> [u8; 256]
     requires { (from + n ≤ length s.now) × (n ≤ 256) }
-    ensures { IsPrefixLen n result }
+    ensures in_bounds { n ≤ length result }
+    ensures taken { n ≡ length (take n result) }
 {
     let mut a = [0u8; 256];
     a[..n].copy_from_slice(&s[from..from + n]);
@@ -169,8 +170,8 @@ fn replay(s: &[u8], at: usize) -> Step
     let d: &mut [u8] = &mut second[..d_len];
     let answer = ask(s, at, x_end, y_end, z_end, a, d);
     let said = same_answer(s, d_end, answer);
-    let same_a = same(a, &s[after..middle]);
-    let same_d = same(d, &s[middle..next]);
+    let same_a = &*a == &s[after..middle];
+    let same_d = &*d == &s[middle..next];
     Step {
         next,
         same: said && same_a && same_d,
@@ -211,33 +212,49 @@ fn replay_all(s: &[u8]) -> Tally
 }
 
 // One line: how many records, and how many of them differ, or that the list is cut.
-fn print(t: Tally) {
-    io::print_decimal(STDOUT_FILENO, t.records);
-    io::write_all(STDOUT_FILENO, b" records, ");
+fn print(rt: &impl Print, t: Tally) -> io::Result<()> {
+    rt.print(t.records)?;
+    rt.write_all(b" records, ")?;
     if t.is_whole {
-        io::print_decimal(STDOUT_FILENO, t.differ);
-        io::write_all(STDOUT_FILENO, b" differ\n");
+        rt.print(t.differ)?;
+        rt.write_all(b" differ\n")
     } else {
-        io::write_all(STDOUT_FILENO, b"cut\n");
+        rt.write_all(b"cut\n")
     }
+}
+
+// The bytes of the input, to the front of a buffer: as many as there are, or as it holds.
+fn read_full(input: &mut impl Read, buf: &mut [u8]) -> io::Result<usize>
+    ensures { IfOk result (λ n. n ≤ length buf.new) }
+{
+    let mut n = 0;
+    for _ in 0..u64::MAX {
+        if n == buf.len() {
+            break;
+        }
+        let got = input.read(&mut buf[n..])?;
+        if got == 0 {
+            break;
+        }
+        n += got;
+    }
+    Ok(n)
 }
 
 // The list in the first 65,536 bytes of a file.
-fn replay_file(path: &[u8]) {
-    let fd = os::open_read(path);
-    if fd < 0 {
-        os::fail(path);
-        return;
-    }
-    let mut list = io::large_buffer();
-    let n = io::read_full(fd, &mut list);
-    libc::close(fd);
-    print(replay_all(&list[..n]));
+fn replay_file(rt: &(impl Files + Print + Eprint), path: &str) -> io::Result<()> {
+    let mut file = match fs::open(rt, path) {
+        Ok(file) => file,
+        Err(e) => return eprintln!(rt; "{path}: {e}"),
+    };
+    let mut list = [0u8; 65536];
+    let n = read_full(&mut file, &mut list)?;
+    print(rt, replay_all(&list[..n]))
 }
 
 // Each list of data/, a line for each.
-fn main() {
-    replay_file(b"integer.bin");
-    replay_file(b"floats.bin");
-    replay_file(b"levels.bin");
+fn main(rt: HostRuntime) -> io::Result<()> {
+    replay_file(&rt, "integer.bin")?;
+    replay_file(&rt, "floats.bin")?;
+    replay_file(&rt, "levels.bin")
 }

@@ -1,7 +1,7 @@
 // A pyramid file on standard input: what its section 0 says, and the samples that opening it for its own width and point gives.
 #![tactic(auto)]
 
-ghost use Rattle.std.specs.Prelude.{◌/◌, ◌≤◌, length};
+ghost use Rattle.std.specs.Prelude.{◌/◌, ◌≤◌, length, IfOk};
 ghost use Rattle.base_samples.specs.Integers.{Width};
 ghost use Rattle.file_open.specs.Opens.{OpenGives, own_width, own_point};
 
@@ -9,7 +9,8 @@ use base_samples::integers::get;
 use base_signs::{Number, signed};
 use file_open::head::{Head, head_in};
 use file_open::open::{OpenAnswer, open, own_point, own_width};
-use libc::{STDIN_FILENO, STDOUT_FILENO};
+use std::io;
+use std::io::Read;
 
 // The longest input.
 const MOST: usize = 65536;
@@ -17,49 +18,66 @@ const MOST: usize = 65536;
 // The number of an input that is longer.
 const TOO_LONG: u32 = 6;
 
-// A word before a number, and the number.
-fn print_named(name: &[u8], n: u64) {
-    io::write_all(STDOUT_FILENO, name);
-    io::print_decimal(STDOUT_FILENO, n);
-}
-
-fn end_line() {
-    io::write_all(STDOUT_FILENO, b"\n");
-}
-
-fn print_refused(number: u32) {
-    print_named(b"refused ", number as u64);
-    end_line();
-}
-
-fn print_number(v: Number) {
-    if v.negative {
-        io::write_all(STDOUT_FILENO, b"-");
+// The bytes of the input, to the front of a buffer: as many as there are, or as it holds.
+fn read_full(input: &mut impl Read, buf: &mut [u8]) -> io::Result<usize>
+    ensures { IfOk result (λ n. n ≤ length buf.new) }
+{
+    let mut n = 0;
+    for _ in 0..u64::MAX {
+        if n == buf.len() {
+            break;
+        }
+        let got = input.read(&mut buf[n..])?;
+        if got == 0 {
+            break;
+        }
+        n += got;
     }
-    io::print_decimal(STDOUT_FILENO, v.size);
-    end_line();
+    Ok(n)
+}
+
+// A word before a number, and the number.
+fn print_named(rt: &impl Print, name: &[u8], n: u64) -> io::Result<()> {
+    rt.write_all(name)?;
+    rt.print(n)
+}
+
+fn end_line(rt: &impl Print) -> io::Result<()> {
+    rt.write_all(b"\n")
+}
+
+fn print_refused(rt: &impl Print, number: u32) -> io::Result<()> {
+    print_named(rt, b"refused ", number as u64)?;
+    end_line(rt)
+}
+
+fn print_number(rt: &impl Print, v: Number) -> io::Result<()> {
+    if v.negative {
+        rt.write_all(b"-")?;
+    }
+    rt.print(v.size)?;
+    end_line(rt)
 }
 
 // What section 0 says; an old file has no rate, 0.
-fn print_head(h: Head, rate: u32) {
-    print_named(b"point ", h.point as u64);
-    print_named(b" width ", h.width as u64);
-    print_named(b" samples ", h.samples as u64);
-    print_named(b" levels ", h.levels as u64);
-    print_named(b" rate ", rate as u64);
-    end_line();
+fn print_head(rt: &impl Print, h: Head, rate: u32) -> io::Result<()> {
+    print_named(rt, b"point ", h.point as u64)?;
+    print_named(rt, b" width ", h.width as u64)?;
+    print_named(rt, b" samples ", h.samples as u64)?;
+    print_named(rt, b" levels ", h.levels as u64)?;
+    print_named(rt, b" rate ", rate as u64)?;
+    end_line(rt)
 }
 
 // The first n samples of k bytes, a line for each.
-fn print_samples(k: usize, s: &[u8], n: usize)
+fn print_samples(rt: &impl Print, k: usize, s: &[u8], n: usize) -> io::Result<()>
     requires width { Width k }
     requires n_in_bounds { n ≤ length s.now / k }
 {
-    let mut i = 0;
-    while i < n {
-        print_number(signed(k, get(k, s, i)));
-        i += 1;
+    for i in 0..n {
+        print_number(rt, signed(k, get(k, s, i)))?;
     }
+    Ok(())
 }
 
 // The file s, opened for the width and the point that its section 0 says, and for 1 and 0 where it is too short to say.
@@ -70,30 +88,34 @@ fn open_own(s: &[u8], out: &mut [u8], one: &mut [u8], two: &mut [u8]) -> OpenAns
 }
 
 // What opening the file s gives, by way of three areas.
-fn show(s: &[u8], out: &mut [u8], one: &mut [u8], two: &mut [u8]) {
+fn show(
+    rt: &impl Print,
+    s: &[u8],
+    out: &mut [u8],
+    one: &mut [u8],
+    two: &mut [u8],
+) -> io::Result<()> {
     let opened = open_own(s, out, one, two);
     let r = opened.answer;
     if r.number != 0 {
-        print_refused(r.number);
-        return;
+        return print_refused(rt, r.number);
     }
     let h = head_in(s);
-    print_head(h, opened.rate);
-    print_named(b"level ", r.first);
-    print_named(b" count ", r.second);
-    end_line();
-    print_samples(h.width, out, r.second as usize);
+    print_head(rt, h, opened.rate)?;
+    print_named(rt, b"level ", r.first)?;
+    print_named(rt, b" count ", r.second)?;
+    end_line(rt)?;
+    print_samples(rt, h.width, out, r.second as usize)
 }
 
-fn main() {
+fn main(rt: HostRuntime) -> io::Result<()> {
     let mut input = [0u8; 65537];
-    let n = io::read_full(STDIN_FILENO, &mut input);
+    let n = read_full(&mut rt.reader(), &mut input)?;
     if MOST < n {
-        print_refused(TOO_LONG);
-        return;
+        return print_refused(&rt, TOO_LONG);
     }
-    let mut out = io::large_buffer();
-    let mut one = io::large_buffer();
-    let mut two = io::large_buffer();
-    show(&input[..n], &mut out, &mut one, &mut two);
+    let mut out = [0u8; MOST];
+    let mut one = [0u8; MOST];
+    let mut two = [0u8; MOST];
+    show(&rt, &input[..n], &mut out, &mut one, &mut two)
 }
