@@ -8,7 +8,7 @@ use lib.Ieee.{Float, nan, Format}
 use lib.ListN.{length, get_or, take, length-map, get_or-map}
 use lib.Seq.{take-suc, take_all}
 use Rattle.base_samples.specs.Floats.{width, decode_floats, encode_floats}
-use Rattle.base_samples.proofs.Words.{length-tabulate, holds}
+use Rattle.base_samples.proofs.Words.{length-tabulate}
 use Rattle.base_samples.proofs.FloatLaws.{length-decode_floats}
 use Rattle.filter_floats.specs.Steps.{lift, odds, evens, scaled, Step, oddly, evenly, scaling, step_a, step_d, run_a, run_d}
 use Rattle.filter_floats.specs.Loops.{Stored, StoredBands, Ran}

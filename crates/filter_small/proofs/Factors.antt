@@ -1,5 +1,4 @@
 -- The factors of 9/7 are at most 2 in size, forward and with signs changed.
-use Prim.Native.Nat.{ℕ, ◌*◌, ◌≤◌}
 use native.Mathlib.Omega.{arith}
 use lib.Ieee.{Float, nan, inf, fin, Format, binary32, binary64, neg, round}
 use Rattle.filter_floats.specs.Filters.{Set, decimal, rounded, factors32, factors64, factors_of, turned}

@@ -1,0 +1,11 @@
+-- `dwt97_forward_update_even_f64` meets its contract. The invariant: the first i approximations are new, and left is the detail before the next.
+use Prim.Native.Nat.{◌-◌}
+use lib.Ieee.{binary64}
+use Rattle.filter_floats.proofs.BandTurns.{EvensTo}
+use Rattle.filter_floats.proofs.double.dwt97_forward_update_even_f64.Given as goal
+
+abbrev pub invariant-loop-i : goal.invariant-loop-i
+invariant-loop-i l = EvensTo binary64 l.c l.initial.a l.d l.i l.left l.a
+
+abbrev pub decreases-loop-i : goal.decreases-loop-i
+decreases-loop-i l = l.nd - l.i

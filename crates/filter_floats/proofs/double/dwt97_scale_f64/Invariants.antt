@@ -1,0 +1,11 @@
+-- `dwt97_scale_f64` meets its contract. The invariant: the first i floats are new.
+use Prim.Native.Nat.{◌-◌}
+use lib.Ieee.{binary64}
+use Rattle.filter_floats.proofs.BandTurns.{ScaledTo}
+use Rattle.filter_floats.proofs.double.dwt97_scale_f64.Given as goal
+
+abbrev pub invariant-loop-i : goal.invariant-loop-i
+invariant-loop-i l = ScaledTo binary64 l.k l.initial.s l.i l.s
+
+abbrev pub decreases-loop-i : goal.decreases-loop-i
+decreases-loop-i l = l.n - l.i

@@ -1,9 +1,0 @@
--- `put_f32` meets its contract: both ways of writing leave the same bytes.
-use borrow.Author.Rules.{rules}
-use Rattle.filter_small.proofs.single.put_f32.Statement.{statement}
-use Rattle.filter_small.proofs.single.put_f32.Tie as tie
-
-pub put-f32-spec : {M : Type 1} → statement M
-put-f32-spec =
-    tie.close
-    (tie.spec (λ c κs. let p = c.before.before.before.requires in (p.0, p.1 c.before.if1.true)) (λ c κs. search rules) (λ c. search rules) (λ c. search rules) (λ c. search rules) (λ c. search rules))

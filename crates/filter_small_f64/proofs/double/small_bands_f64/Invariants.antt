@@ -1,0 +1,10 @@
+-- `small_bands_f64` meets its contract: the invariant says it of the floats before p of both, unless some sum was too large.
+use Prim.Native.Nat.{ℕ, ◌-◌, ◌%◌, ◌≤◌, ◌<◌}
+use Rattle.base_samples.specs.Words.{word_at}
+use Rattle.filter_small_f64.proofs.double.small_bands_f64.Given as goal
+
+abbrev pub invariant-loop-p : goal.invariant-loop-p
+invariant-loop-p l = l.any < 0x8000_0000_0000_0000 → ((q : ℕ) → l.i ≤ q → q < l.p → word_at 8 l.a q % 0x8000_0000_0000_0000 < 0x7000_0000_0000_0000) × ((q : ℕ) → l.i ≤ q → q < l.p → word_at 8 l.d q % 0x8000_0000_0000_0000 < 0x7000_0000_0000_0000)
+
+abbrev pub decreases-loop-p : goal.decreases-loop-p
+decreases-loop-p l = l.j - l.p
