@@ -5,7 +5,7 @@ use mathlib.Core.Path.{◌≡◌, refl, sym, ap, subst, ◌∙◌}
 use Prim.Native.Nat.{ℕ, ◌*◌, ◌/◌, ◌%◌, ◌^◌, ◌≤◌, ◌<◌}
 use native.Mathlib.Nat.{mod-eq_of_lt}
 use native.Mathlib.Omega.{arith}
-use lib.Dec.{T, lit<, ltb, ltb→lt, lt→ltb, not_T}
+use lib.Dec.{T, lit<, ltb→lt, lt→ltb, not_T}
 use lib.ListN.{length, get_or, length-map}
 use lib.Ieee.{Float, nan, inf, fin, Format, binary32, binary64, hid, ones, top, is_nan, nan_bits, of_bits, to_bits, fits, ne, div}
 use lib.Ieee.Bits.{nan_bits_is, nan_bits_above, of_bits-to_bits, to_bits-of_bits, to_bits-lt, of_bits-fits}

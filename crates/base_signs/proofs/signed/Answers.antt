@@ -1,0 +1,13 @@
+-- `signed` meets its contract: the lower half of the words, and the upper.
+use borrow.Author.Rules.{rules}
+use native.Mathlib.Omega.{arith}
+use Rattle.base_signs.proofs.Signs.{lower, upper}
+use Rattle.base_signs.proofs.signed.Goals as goal
+
+pub returns-then-u-middle : goal.returns-then-u-middle
+returns-then-u-middle c = (lower _ _ _ c.half-middle.ensures c.if-u-middle.true, search rules)
+
+pub returns : goal.returns
+returns c =
+    let st = c in
+    (upper st.requires.width _ _ c.half-middle.ensures c.if-u-middle.false st.requires.word_bound, omega (arith, c.half-middle.ensures, st.requires.width.most))
