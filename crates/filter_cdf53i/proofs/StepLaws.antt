@@ -1,6 +1,6 @@
 -- The lifting steps on words, once over the width: 4 Q words stand for the numbers from -2 Q to 2 Q - 1. The code adds 2 Q to a word modulo 4 Q:
 -- its bias, which is its number plus 2 Q. So floor((x + z) / 2) + 2 Q is half the sum of two biases, a division of naturals.
-use Rattle.std.proofs.Common.{◌≡◌, ℕ, ◌+◌, ◌-◌, ◌*◌, ◌/◌, ◌%◌, ◌^◌, ◌<◌, pos, ◌+ℤ◌, ◌-ℤ◌, sym, refl, ap, ◌∙◌, mod-lt, arith}
+use Rattle.std.proofs.Common.{◌≡◌, ℕ, ◌+◌, ◌*◌, ◌/◌, ◌%◌, ◌^◌, ◌<◌, pos, ◌+ℤ◌, ◌-ℤ◌, sym, refl, ap, ◌∙◌, mod-lt, arith}
 use native.Mathlib.Nat.{mod-add-mod}
 use lib.Bits.{bit_and, bit_xor, xor_add_and}
 use lib.Signed.{shr_z}

@@ -1,7 +1,7 @@
 -- Figures of notes and spans, computed: document 01's column, and document 02's spans of C-13.
 use mathlib.Core.Path.{◌≡◌, refl}
 use Rattle.base_answers.specs.declared.err.Refusal.TheVariants.{Done, TooLong, NoSuchPlace}
-use Rattle.base_lengths.specs.Levels.{after_levels, count_at, depth_within, depth_from}
+use Rattle.base_lengths.specs.Levels.{after_levels, depth_within, depth_from}
 use Rattle.view_spans.specs.declared.Band.TheVariants.{Approx, Details}
 use Rattle.view_spans.specs.Spans.{span_of}
 use Rattle.view_notes.specs.Notes.{say_column, say_span}

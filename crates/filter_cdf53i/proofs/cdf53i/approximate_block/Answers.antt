@@ -1,0 +1,12 @@
+-- `approximate_block` meets its contract: details, then approximations.
+use Rattle.std.proofs.Common.{◌∙◌, arith}
+use Rattle.filter_cdf53i.proofs.WordTurns.{details-read}
+use Rattle.filter_cdf53i.proofs.cdf53i.approximate_block.Goals as goal
+
+pub returns : goal.returns
+returns c =
+    record {
+      front = c.approxs_from.ensures;
+      left = c.get.ensures.0 ∙ details-read c.requires.unmirrored.input.width c.args.x.now c.args.i c.args.n c.details_from.ensures (omega arith);
+      small = c.get.ensures.1;
+    }

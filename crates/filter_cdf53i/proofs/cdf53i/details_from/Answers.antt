@@ -1,0 +1,24 @@
+-- `details_from` meets its contract. The invariant: the first j + 1 details of the block are stored.
+use Rattle.std.proofs.Common.{refl, ap, ◌∙◌, arith}
+use Rattle.base_samples.proofs.Fronts.{front-none, front-more}
+use Rattle.filter_cdf53i.specs.Bands.{detail_word, details_from}
+use Rattle.filter_cdf53i.proofs.WordTurns.{front-now}
+use Rattle.filter_cdf53i.proofs.cdf53i.details_from.Goals as goal
+
+pub loop-j-init : goal.loop-j-init
+unfolding details_from
+loop-j-init c =
+    let a = c.args in
+    let most = c.requires.enough_words.most in
+    let f = front-more (front-none (details_from a.k a.x.now a.i) c.requires.enough_words.holds) refl (omega arith) (c.requires.e_value.0 ∙ ap (detail_word a.k a.x.now) (omega arith)) c.put.ensures in
+    (omega arith, refl, omega (arith, f.holds.count), front-now f)
+
+pub loop-j-preserved : goal.loop-j-preserved
+unfolding details_from detail_word
+loop-j-preserved c =
+    let a = c.args in
+    let l = c.loop-j in
+    let lt = c.loop-j-test.true in
+    let most = l.invariant.2 in
+    let f = front-more l.invariant.3 refl (omega arith) (c.detail_at.ensures.0 ∙ ap (detail_word a.k a.x.now) (omega arith)) c.put-in-loop-j.ensures in
+    (omega arith, omega (arith, f.holds.size, l.invariant.3.holds.size), omega (arith, f.holds.count), front-now f)
