@@ -9,5 +9,4 @@ returns-then-u-middle c = (lower _ _ _ c.half-middle.ensures c.if-u-middle.true,
 
 pub returns : goal.returns
 returns c =
-    let st = c in
-    (upper st.requires.width _ _ c.half-middle.ensures c.if-u-middle.false st.requires.word_bound, omega (arith, c.half-middle.ensures, st.requires.width.most))
+    (upper c.requires.width _ _ c.half-middle.ensures c.if-u-middle.false c.requires.word_bound, omega (arith, c.half-middle.ensures, c.requires.width.most))

@@ -12,17 +12,15 @@ use Rattle.base_lengths.proofs.checks.check_forward.Goals as goal
 pub returns-then-is_done : goal.returns-then-is_done
 unfolding say_forward
 returns-then-is_done c =
-    let w = c in
-    let a = w.args in
+    let a = c.args in
     c.forward_lengths.ensures
     ∙ sym (then-rest (ragged a.k a.input ∷ ragged a.k a.approx ∷ ragged a.k a.details ∷ []) (forward_checks a.w (a.input / a.k) (a.approx / a.k) (a.details / a.k)) (Done 0 0) (refl, (refl, (refl, tt)))
-    (sym (ap done w.check_whole-said.ensures) ∙ sym c.is_done.ensures ∙ c.if-is_done.true))
+    (sym (ap done c.check_whole-said.ensures) ∙ sym c.is_done.ensures ∙ c.if-is_done.true))
 
 pub returns : goal.returns
 unfolding say_forward
 returns c =
-    let w = c in
-    let a = w.args in
-    w.check_whole-said.ensures
+    let a = c.args in
+    c.check_whole-said.ensures
     ∙ sym (then-stop (ragged a.k a.input ∷ ragged a.k a.approx ∷ ragged a.k a.details ∷ []) (forward_checks a.w (a.input / a.k) (a.approx / a.k) (a.details / a.k)) (Done 0 0)
-    (sym (ap done w.check_whole-said.ensures) ∙ sym c.is_done.ensures ∙ c.if-is_done.false))
+    (sym (ap done c.check_whole-said.ensures) ∙ sym c.is_done.ensures ∙ c.if-is_done.false))

@@ -8,7 +8,7 @@ use Rattle.base_samples.proofs.integers.get.Goals as goal
 
 pub returns-then-k-eq1 : goal.returns-then-k-eq1
 unfolding word_at le_at
-returns-then-k-eq1 c = rw (c.if-k-eq1.true, one-mul) (omega arith, omega (arith, c.shared_slice_known-then-k-eq1-1.given c.args.i))
+returns-then-k-eq1 c = rw (c.if-k-eq1.true, one-mul) (omega arith, omega (arith, c.type_inv.s c.args.i))
 
 pub returns-then-k-eq2 : goal.returns-then-k-eq2
 unfolding word_at

@@ -16,4 +16,4 @@ returns-then-k-eq2 c = rw c.if-k-eq2.true c.write_u16.ensures
 
 pub returns : goal.returns
 unfolding put_at
-returns c = let e = c in rw (four e.requires.width e.if-k-eq1.false e.if-k-eq2.false) c.write_u32.ensures
+returns c = rw (four c.requires.width c.if-k-eq1.false c.if-k-eq2.false) c.write_u32.ensures
