@@ -19,9 +19,10 @@ DECLARED = re.compile(r"^\s*(?:(?:unfoldable|abbrev|pub|private|record|data) )*(
 CAMEL = re.compile(r"^[a-z]+[a-z0-9']*(?:[A-Z][a-z0-9']*)+$")
 
 
-# of std's words that stood in lemma names, and of a lemma that would fall together with a definition
+# of std's words that stood in lemma names, of a definition that would be called as a tactic is, and of a lemma that would be called
+# as a definition is
 OTHERS = {"getD": "get_or"}
-LEMMAS = {"get_d_sets": "get_or-sets", "get_d_tabulate": "get_or-tabulate", "get_d_words": "get_or-words"}
+LEMMAS = {"first_of": "first_refusal", "get_d_sets": "get_or-sets", "get_d_tabulate": "get_or-tabulate", "get_d_words": "get_or-words"}
 FALLS = {"there_and_back": "back-low-high"}  # the law of one level, beside the definition thereAndBack
 FALLS_IN = ("crates/filter_cdf53i/proofs/Round.antt", "crates/law_levels/proofs/Undone.antt")
 
@@ -41,7 +42,7 @@ antt = sorted(glob.glob("crates/*/specs/**/*.antt", recursive=True) + glob.glob(
 rt = sorted(glob.glob("crates/*/src/**/*.rt", recursive=True))
 edits = sorted(glob.glob("crates/*/must-fail/*.edit"))
 pages = [p for p in glob.glob("*.md") + glob.glob("docs/**/*.md", recursive=True) + ["tests/names.allow"] if os.path.exists(p)]
-pages = [p for p in sorted(pages) if os.path.basename(p) not in ("PORT.md", "PORT-OTHER.md")]
+pages = [p for p in sorted(pages) if os.path.basename(p) not in ("PORT.md", "PORT-OTHER.md") and "landings" not in p]
 
 table = {"rightA": "right_a", "rightD": "right_d", "highBytes": "high_bytes"}  # parameters of modules; the rest is found
 for path in antt:

@@ -1,4 +1,4 @@
--- A call that makes its checks in a row says `first_of` of their list: one link for each check that passes, and one for the check that refuses.
+-- A call that makes its checks in a row says `first_refusal` of their list: one link for each check that passes, and one for the check that refuses.
 use mathlib.Core.Bool.{Bool, true, false, cond, not}
 use mathlib.Core.Path.{◌≡◌, sym, ap, ◌∙◌}
 use Prim.Native.Nat.{ℕ}

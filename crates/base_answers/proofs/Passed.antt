@@ -10,7 +10,7 @@ use lib.Dec.{T, ltb, eqb}
 use Rattle.base_answers.specs.declared.err.Refusal.{Refusal}
 use Rattle.base_answers.specs.declared.err.Refusal.TheVariants.{Done}
 use Rattle.base_answers.specs.Answers.{says, done}
-use Rattle.base_answers.specs.Checks.{Check, first_of}
+use Rattle.base_answers.specs.Checks.{Check, first_refusal}
 
 -- a test that passes does not refuse
 pub off : {A : Type 0} {t : Bool} → t ≡ false → t ≡ true → A
@@ -35,15 +35,15 @@ Passing [] = Unit {0}
 Passing (p ∷ rest) = (p.0 ≡ false) × Passing rest
 
 -- a first part that does not say n has passed where the list says n, and the rest says it
-pub passed-before : (n : ℕ) (l m : List Check) (s : Refusal) → Without n l → says n (first_of (l ++ m) s) ≡ true → Passing l × (says n (first_of m s) ≡ true)
+pub passed-before : (n : ℕ) (l m : List Check) (s : Refusal) → Without n l → says n (first_refusal (l ++ m) s) ≡ true → Passing l × (says n (first_refusal m s) ≡ true)
 passed-before n [] m s r h = (tt, h)
 passed-before n (p ∷ l) m s r h =
-    let q = passed n p.0 p.1 (first_of (l ++ m) s) r.0 h in
+    let q = passed n p.0 p.1 (first_refusal (l ++ m) s) r.0 h in
     let o = passed-before n l m s r.1 q.1 in
     ((q.0, o.0), o.1)
 
-pub passing : (l : List Check) (s : Refusal) → Refusing l → done (first_of l s) ≡ true → Passing l
-passing l s r h = (passed-before 0 l [] s r (ap (λ (m : List Check). done (first_of m s)) (append-nil l) ∙ h)).0
+pub passing : (l : List Check) (s : Refusal) → Refusing l → done (first_refusal l s) ≡ true → Passing l
+passing l s r h = (passed-before 0 l [] s r (ap (λ (m : List Check). done (first_refusal m s)) (append-nil l) ∙ h)).0
 
 -- of two lists, both
 pub both-refuse : (l m : List Check) → Refusing l → Refusing m → Refusing (l ++ m)
@@ -59,38 +59,38 @@ pass-both [] m h g = g
 pass-both (p ∷ l) m h g = (h.0, pass-both l m h.1 g)
 
 -- and a call whose checks all pass says s
-pub through : (l : List Check) (s : Refusal) → Passing l → first_of l s ≡ s
+pub through : (l : List Check) (s : Refusal) → Passing l → first_refusal l s ≡ s
 through [] s h = refl
-through (p ∷ rest) s h = ap (λ t. cond t p.1 (first_of rest s)) h.0 ∙ through rest s h.1
+through (p ∷ rest) s h = ap (λ t. cond t p.1 (first_refusal rest s)) h.0 ∙ through rest s h.1
 
 -- checks that all pass leave the rest to decide; where one refuses, it has decided, however the list would have ended
-pub pass_on : (l m : List Check) (e : Refusal) → Passing l → first_of (l ++ m) e ≡ first_of m e
+pub pass_on : (l m : List Check) (e : Refusal) → Passing l → first_refusal (l ++ m) e ≡ first_refusal m e
 pass_on [] m e h = refl
-pass_on (p ∷ l) m e h = ap (λ t. cond t p.1 (first_of (l ++ m) e)) h.0 ∙ pass_on l m e h.1
+pass_on (p ∷ l) m e h = ap (λ t. cond t p.1 (first_refusal (l ++ m) e)) h.0 ∙ pass_on l m e h.1
 
-pub stop-there : (l m : List Check) (d e : Refusal) → done d ≡ true → done (first_of l d) ≡ false → first_of (l ++ m) e ≡ first_of l d
+pub stop-there : (l m : List Check) (d e : Refusal) → done d ≡ true → done (first_refusal l d) ≡ false → first_refusal (l ++ m) e ≡ first_refusal l d
 stop-there [] m d e z h = off h z
 stop-there (p ∷ l) m d e z h = pick p.0 (λ g. stop-there l m d e z g) h
   where
-    pick : (t : Bool) → (done (first_of l d) ≡ false → first_of (l ++ m) e ≡ first_of l d) → done (cond t p.1 (first_of l d)) ≡ false → cond t p.1 (first_of (l ++ m) e) ≡ cond t p.1 (first_of l d)
+    pick : (t : Bool) → (done (first_refusal l d) ≡ false → first_refusal (l ++ m) e ≡ first_refusal l d) → done (cond t p.1 (first_refusal l d)) ≡ false → cond t p.1 (first_refusal (l ++ m) e) ≡ cond t p.1 (first_refusal l d)
     pick true f h = refl
     pick false f h = f h
 
-pub other-end : (l : List Check) (d e : Refusal) → done d ≡ true → done (first_of l d) ≡ false → first_of l e ≡ first_of l d
-other-end l d e z h = ap (λ (m : List Check). first_of m e) (sym (append-nil l)) ∙ stop-there l [] d e z h
+pub other-end : (l : List Check) (d e : Refusal) → done d ≡ true → done (first_refusal l d) ≡ false → first_refusal l e ≡ first_refusal l d
+other-end l d e z h = ap (λ (m : List Check). first_refusal m e) (sym (append-nil l)) ∙ stop-there l [] d e z h
 
 -- the same of a first part that ends with 0, 0
-pub then-rest : (l m : List Check) (s : Refusal) → Refusing l → done (first_of l (Done 0 0)) ≡ true → first_of (l ++ m) s ≡ first_of m s
+pub then-rest : (l m : List Check) (s : Refusal) → Refusing l → done (first_refusal l (Done 0 0)) ≡ true → first_refusal (l ++ m) s ≡ first_refusal m s
 then-rest l m s r h = pass_on l m s (passing l (Done 0 0) r h)
 
-pub then-stop : (l m : List Check) (s : Refusal) → done (first_of l (Done 0 0)) ≡ false → first_of (l ++ m) s ≡ first_of l (Done 0 0)
+pub then-stop : (l m : List Check) (s : Refusal) → done (first_refusal l (Done 0 0)) ≡ false → first_refusal (l ++ m) s ≡ first_refusal l (Done 0 0)
 then-stop l m s h = stop-there l m (Done 0 0) s refl h
 
 -- r is what the first part says: where it passes, the whole list says what the rest says; where it refuses, the whole list says r
-pub say-rest : (l m : List Check) (s : Refusal) {r t : Refusal} → Refusing l → r ≡ first_of l (Done 0 0) → done r ≡ true → t ≡ first_of m s → t ≡ first_of (l ++ m) s
+pub say-rest : (l m : List Check) (s : Refusal) {r t : Refusal} → Refusing l → r ≡ first_refusal l (Done 0 0) → done r ≡ true → t ≡ first_refusal m s → t ≡ first_refusal (l ++ m) s
 say-rest l m s q e h g = g ∙ sym (then-rest l m s q (sym (ap done e) ∙ h))
 
-pub say-stop : (l m : List Check) (s : Refusal) {r : Refusal} → r ≡ first_of l (Done 0 0) → done r ≡ false → r ≡ first_of (l ++ m) s
+pub say-stop : (l m : List Check) (s : Refusal) {r : Refusal} → r ≡ first_refusal l (Done 0 0) → done r ≡ false → r ≡ first_refusal (l ++ m) s
 say-stop l m s e h = e ∙ sym (then-stop l m s (sym (ap done e) ∙ h))
 
 -- what a byte length that is not ragged tells

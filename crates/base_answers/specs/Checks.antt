@@ -10,9 +10,9 @@ abbrev pub Check : Type 0
 Check = Bool × Refusal
 
 -- "first one wins"; s is what a call says that passes them all
-abbrev pub first_of : List Check → Refusal → Refusal
-first_of [] s = s
-first_of (p ∷ rest) s = cond p.0 p.1 (first_of rest s)
+abbrev pub first_refusal : List Check → Refusal → Refusal
+first_refusal [] s = s
+first_refusal (p ∷ rest) s = cond p.0 p.1 (first_refusal rest s)
 
 -- "a byte length of samples that isn't a multiple of the width is 9 (0, length)"
 abbrev pub ragged : ℕ → ℕ → Check

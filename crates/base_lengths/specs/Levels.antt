@@ -2,7 +2,7 @@
 use Rattle.std.specs.Prelude.{cond, [], ◌∷◌, ℕ, zero, suc, ◌≤◌, ltb, eqb}
 use Rattle.base_answers.specs.declared.err.Refusal.{Refusal}
 use Rattle.base_answers.specs.declared.err.Refusal.TheVariants.{Done, TooLong}
-use Rattle.base_answers.specs.Checks.{first_of}
+use Rattle.base_answers.specs.Checks.{first_refusal}
 use Rattle.base_lengths.specs.declared.Wavelet.{Wavelet}
 use Rattle.base_lengths.specs.Lengths.{most_samples, approx_length, smallest_of}
 
@@ -44,4 +44,4 @@ levels_of l = cond (eqb l 0) 1 l
 
 -- "asking the depth is refused only with 6"
 abbrev pub say_depth : Wavelet → ℕ → Refusal
-say_depth w n = first_of ((ltb most_samples n, TooLong) ∷ []) (Done (depth_of w n) 0)
+say_depth w n = first_refusal ((ltb most_samples n, TooLong) ∷ []) (Done (depth_of w n) 0)

@@ -1,6 +1,6 @@
 // The checks of one level, on byte lengths, for every filter. Document 01, "Order of checks", and document 02, C-16.
 ghost use Rattle.std.specs.Prelude.{◌≡◌, [], ◌∷◌, ◌<◌};
-ghost use Rattle.base_answers.specs.Checks.{first_of, ragged, two_areas};
+ghost use Rattle.base_answers.specs.Checks.{first_refusal, ragged, two_areas};
 ghost use Rattle.base_lengths.specs.Calls.{forward_bands, inverse_bands, forward_checks, inverse_checks, say_forward, say_inverse};
 
 use crate::{MOST_SAMPLES, Wavelet, approx_length, details_length, dwt_size, smallest};
@@ -9,7 +9,7 @@ use base_answers::err::{Refusal, is_done};
 // Three byte lengths, each a whole number of samples of k bytes.
 pub fn check_whole(k: usize, x: usize, y: usize, z: usize) -> Refusal
     requires { 0 < k }
-    ensures { result ≡ first_of (ragged k x ∷ ragged k y ∷ ragged k z ∷ []) (Refusal.Done 0 0) }
+    ensures { result ≡ first_refusal (ragged k x ∷ ragged k y ∷ ragged k z ∷ []) (Refusal.Done 0 0) }
 {
     if x % k != 0 {
         return Refusal::BadCount(0, x);
@@ -25,7 +25,7 @@ pub fn check_whole(k: usize, x: usize, y: usize, z: usize) -> Refusal
 
 // Two work areas against what is needed of each.
 pub fn two_areas(u: usize, v: usize, need: usize) -> Refusal
-    ensures { result ≡ first_of (two_areas u v need) (Refusal.Done 0 0) }
+    ensures { result ≡ first_refusal (two_areas u v need) (Refusal.Done 0 0) }
 {
     if u < need {
         return Refusal::NoRoom(u, need);
@@ -38,7 +38,7 @@ pub fn two_areas(u: usize, v: usize, need: usize) -> Refusal
 
 // The lent bands of a forward level of n samples.
 pub fn forward_bands(n: usize, a: usize, d: usize) -> Refusal
-    ensures { result ≡ first_of (forward_bands n a d) (Refusal.Done 0 0) }
+    ensures { result ≡ first_refusal (forward_bands n a d) (Refusal.Done 0 0) }
 {
     if a != approx_length(n) {
         return Refusal::ApproxSizeNotMatches(a, n);
@@ -51,7 +51,7 @@ pub fn forward_bands(n: usize, a: usize, d: usize) -> Refusal
 
 // The bands of an inverse level to n samples.
 pub fn inverse_bands(w: Wavelet, n: usize, a: usize, d: usize) -> Refusal
-    ensures { result ≡ first_of (inverse_bands w n a d) (Refusal.Done 0 0) }
+    ensures { result ≡ first_refusal (inverse_bands w n a d) (Refusal.Done 0 0) }
 {
     let size = dwt_size(w, n);
     if a != size.approx {
@@ -65,7 +65,7 @@ pub fn inverse_bands(w: Wavelet, n: usize, a: usize, d: usize) -> Refusal
 
 // Forward by samples: n of the input, a and d of the lent bands.
 fn forward_lengths(w: Wavelet, n: usize, a: usize, d: usize) -> Refusal
-    ensures { result ≡ first_of (forward_checks w n a d) (Refusal.Done 0 0) }
+    ensures { result ≡ first_refusal (forward_checks w n a d) (Refusal.Done 0 0) }
 {
     if MOST_SAMPLES < n {
         return Refusal::TooLong;
@@ -79,7 +79,7 @@ fn forward_lengths(w: Wavelet, n: usize, a: usize, d: usize) -> Refusal
 
 // Inverse by samples: a and d of the bands, n of the lent output.
 fn inverse_lengths(w: Wavelet, a: usize, d: usize, n: usize) -> Refusal
-    ensures { result ≡ first_of (inverse_checks w a d n) (Refusal.Done 0 0) }
+    ensures { result ≡ first_refusal (inverse_checks w a d n) (Refusal.Done 0 0) }
 {
     if MOST_SAMPLES < a {
         return Refusal::TooLong;

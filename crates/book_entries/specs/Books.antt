@@ -4,7 +4,7 @@ use Rattle.std.specs.Prelude.{Bool, true, cond, not, ◌&&◌, List, [], ◌∷�
 use Rattle.std.proofs.Math.Seq.{slice}
 use Rattle.base_answers.specs.declared.err.Refusal.TheVariants.{Done}
 use Rattle.base_answers.specs.Answers.{done}
-use Rattle.base_answers.specs.Checks.{first_of}
+use Rattle.base_answers.specs.Checks.{first_refusal}
 use Rattle.base_samples.specs.Le.{le_at}
 use Rattle.file_open.specs.Files.{section_of, is_count, common_size, file_size}
 use Rattle.file_open.specs.Opens.{head_in, field_checks}
@@ -101,7 +101,7 @@ size_at i es = size_by (get_or es i [])
 
 -- what some file begins with: what opening asks of the count and the fields, for their own width and point; the rate is not among them
 abbrev pub is_head : List ℕ → Bool
-is_head e = let h = head_in e in is_count (le_at 4 e 0) && done (first_of (field_checks h h.width h.point) (Done 0 0))
+is_head e = let h = head_in e in is_count (le_at 4 e 0) && done (first_refusal (field_checks h h.width h.point) (Done 0 0))
 
 -- an entry is what some file begins with, and none of the entries es behind it has its point
 abbrev pub is_only : List ℕ → List (List ℕ) → Bool

@@ -2,7 +2,7 @@
 use Rattle.std.specs.Prelude.{true, not, List, [], ◌∷◌, ◌++◌, ◌≡◌, ℕ, ◌+◌, ◌≤◌, ◌<◌, ltb, leb, length}
 use Rattle.base_answers.specs.declared.err.Refusal.{Refusal}
 use Rattle.base_answers.specs.declared.err.Refusal.TheVariants.{Done, TooLong, BadCount, CutShort, BookFull, AlreadyHeld, NotHeld}
-use Rattle.base_answers.specs.Checks.{Check, first_of, tight}
+use Rattle.base_answers.specs.Checks.{Check, first_refusal, tight}
 use Rattle.file_open.specs.Opens.{level_in, file_checks, own_width}
 use Rattle.book_entries.specs.Books.{most, entry_size, data_at, entries_in, free_in, slot_of, is_held, place_at, size_at, could_be}
 
@@ -26,7 +26,7 @@ pub record Book (b : List ℕ) : Type 0 where
 -- ---- a fresh book
 
 unfoldable pub say_fresh : List ℕ → Refusal
-say_fresh b = first_of (space_checks (length b)) (Done 0 0)
+say_fresh b = first_refusal (space_checks (length b)) (Done 0 0)
 
 -- ---- adding
 
@@ -39,7 +39,7 @@ abbrev pub room_checks : List ℕ → ℕ → ℕ → List Check
 room_checks b p n = (is_held p (entries_in b), AlreadyHeld) ∷ (leb most (length (entries_in b)), BookFull) ∷ (ltb (free_in b) n, BookFull) ∷ []
 
 unfoldable pub say_add : List ℕ → ℕ → List ℕ → Refusal
-say_add b p s = first_of (book_checks b ++ (whole_checks s p ++ room_checks b p (length s))) (Done 0 0)
+say_add b p s = first_refusal (book_checks b ++ (whole_checks s p ++ room_checks b p (length s))) (Done 0 0)
 
 -- what laying a file in a book needs: the bytes of an entry, an entry that is free, and room
 pub record Addable (b s : List ℕ) : Type 0 where
@@ -58,12 +58,12 @@ unfoldable pub say_find : List ℕ → ℕ → Refusal
 say_find b p =
     let es = entries_in b in
     let i = slot_of p es in
-    first_of (held_checks b p) (Done (data_at + place_at i es) (size_at i es))
+    first_refusal (held_checks b p) (Done (data_at + place_at i es) (size_at i es))
 
 unfoldable pub say_withdraw : List ℕ → ℕ → Refusal
-say_withdraw b p = first_of (held_checks b p) (Done 0 0)
+say_withdraw b p = first_refusal (held_checks b p) (Done 0 0)
 
 -- ---- how much room is left, and how many points are held
 
 unfoldable pub say_room : List ℕ → Refusal
-say_room b = first_of (book_checks b) (Done (free_in b) (length (entries_in b)))
+say_room b = first_refusal (book_checks b) (Done (free_in b) (length (entries_in b)))

@@ -1,7 +1,7 @@
 // The checks of every book call, in document 02's order.
 ghost use Rattle.std.specs.Prelude.{◌≡◌, suc, ◌≤◌, ◌<◌, length, drop};
 ghost use Rattle.std.proofs.Math.Seq.{slice};
-ghost use Rattle.base_answers.specs.Checks.{first_of};
+ghost use Rattle.base_answers.specs.Checks.{first_refusal};
 ghost use Rattle.book_entries.specs.Books.{most, data_at, entry_at, entries_in, is_head, is_only, are_entries, all_zero, could_be};
 ghost use Rattle.book_entries.specs.Checks.{Book, space_checks, book_checks, whole_checks, room_checks, held_checks, say_add};
 
@@ -90,7 +90,7 @@ fn could_be(b: &[u8]) -> bool
 
 // An area of n bytes.
 pub fn check_space(n: usize) -> Refusal
-    ensures { result ≡ first_of (space_checks n) (Refusal.Done 0 0) }
+    ensures { result ≡ first_refusal (space_checks n) (Refusal.Done 0 0) }
 {
     if MOST_AREA < n {
         return Refusal::TooLong;
@@ -103,7 +103,7 @@ pub fn check_space(n: usize) -> Refusal
 
 // A book, in an area that has room for one.
 pub fn check_book(b: &[u8]) -> Refusal
-    ensures { result ≡ first_of (book_checks b.now) (Refusal.Done 0 0) }
+    ensures { result ≡ first_refusal (book_checks b.now) (Refusal.Done 0 0) }
 {
     let space = check_space(b.len());
     if !is_done(space) {
@@ -117,7 +117,7 @@ pub fn check_book(b: &[u8]) -> Refusal
 
 // A book that holds point p.
 pub fn check_held(b: &[u8], p: usize) -> Refusal
-    ensures { result ≡ first_of (held_checks b.now p) (Refusal.Done 0 0) }
+    ensures { result ≡ first_refusal (held_checks b.now p) (Refusal.Done 0 0) }
 {
     let book = check_book(b);
     if !is_done(book) {
@@ -132,7 +132,7 @@ pub fn check_held(b: &[u8], p: usize) -> Refusal
 
 // A whole file for point p: only a whole one gives level 0.
 fn check_whole_file(s: &[u8], p: usize) -> Refusal
-    ensures { result ≡ first_of (whole_checks s.now p) (Refusal.Done 0 0) }
+    ensures { result ≡ first_refusal (whole_checks s.now p) (Refusal.Done 0 0) }
 {
     let file = check_file(s, own_width(s), p);
     if !is_done(file) {
@@ -147,7 +147,7 @@ fn check_whole_file(s: &[u8], p: usize) -> Refusal
 // Room for a file of n bytes for point p, in a book.
 fn check_room(b: &[u8], p: usize, n: usize) -> Refusal
     requires { Book b.now }
-    ensures { result ≡ first_of (room_checks b.now p n) (Refusal.Done 0 0) }
+    ensures { result ≡ first_refusal (room_checks b.now p n) (Refusal.Done 0 0) }
 {
     let h = held(b);
     if slot_of(b, p, 0, h) < h {

@@ -12,7 +12,7 @@ use Rattle.base_answers.specs.declared.err.Answer.{Answer}
 use Rattle.base_answers.specs.declared.err.Refusal.{Refusal}
 use Rattle.base_answers.specs.declared.err.Refusal.TheVariants.{Done, NoRate}
 use Rattle.base_answers.specs.Answers.{answer_of, done, say}
-use Rattle.base_answers.specs.Checks.{Check, first_of, ragged, tight, two_areas}
+use Rattle.base_answers.specs.Checks.{Check, first_refusal, ragged, tight, two_areas}
 use Rattle.base_answers.proofs.Chain.{by, stop}
 use Rattle.base_answers.proofs.Endings.{is-done, not_done}
 use Rattle.base_answers.proofs.Passed.{Passing, passing, pass-both, pass_on, other-end, then-stop, through, roomy}
@@ -42,11 +42,11 @@ own-filter Cdf97F32 i = absurd i
 own-filter Cdf97F64 i = absurd i
 
 module _ (f : Filter) (i : Integers f) (l n : ℕ) where
-  size-says : say_size (width_of f) n l ≡ first_of (depth_checks f l n) (Done (file_size new_size (width_of f) (levels_of l) n) 0)
+  size-says : say_size (width_of f) n l ≡ first_refusal (depth_checks f l n) (Done (file_size new_size (width_of f) (levels_of l) n) 0)
   unfolding say_size
   size-says =
       let e = Done (file_size new_size (width_of f) (levels_of l) n) 0 in
-      sym (by _ (ap not (common f i).width) (ap (λ (g : Filter). first_of (depth_checks g l n) e) (sym (own-filter f i))))
+      sym (by _ (ap not (common f i).width) (ap (λ (g : Filter). first_refusal (depth_checks g l n) e) (sym (own-filter f i))))
 
   size-passes : done (say_size (width_of f) n l) ≡ true → Passing (depth_checks f l n)
   size-passes h = passing (depth_checks f l n) (Done (file_size new_size (width_of f) (levels_of l) n) 0) (depth-refuse f l n) (sym (ap done size-says) ∙ h)
@@ -76,7 +76,7 @@ module _ (f : Filter) (i : Integers f) (l n y : ℕ) (some : 0 < y) (x b u v : L
   abbrev writing : Refusal
   writing = say_write f l y (length x) (length b) (length u) (length v)
 
-  write-says : writing ≡ first_of (depth ++ rooms) (Done 0 0)
+  write-says : writing ≡ first_refusal (depth ++ rooms) (Done 0 0)
   unfolding say_write
   write-says =
       pass_on (ragged k (length x) ∷ ragged k (length u) ∷ ragged k (length v) ∷ (eqb y 0, NoRate) ∷ []) (write_checks f l (length x / k) (length b) (length u / k) (length v / k)) (Done 0 0)

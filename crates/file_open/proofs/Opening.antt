@@ -12,7 +12,7 @@ use lib.Dec.{ltb, eqb}
 use lib.ListN.{length, drop}
 use Rattle.base_answers.specs.declared.err.Refusal.TheVariants.{Done, NoRoom}
 use Rattle.base_answers.specs.Answers.{answer_of, done}
-use Rattle.base_answers.specs.Checks.{ragged, Check, first_of}
+use Rattle.base_answers.specs.Checks.{ragged, Check, first_refusal}
 use Rattle.base_answers.proofs.Chain.{same}
 use Rattle.base_answers.proofs.Endings.{call-decides}
 use Rattle.base_answers.proofs.Passed.{off, Refusing, Passing, passing, both-refuse, both-pass, whole, roomy, right, through, pass_on, stop-there}
@@ -172,11 +172,11 @@ module _ (s : List ℕ) (w p : ℕ) where
   pub file-restorable : done (say_file s w p) ≡ true → Restorable s w
   file-restorable h = restorable (file-passes h)
 
-  pub file-rest : (m : List Check) (e : Refusal) → done (say_file s w p) ≡ true → first_of (file_checks s w p ++ m) e ≡ first_of m e
+  pub file-rest : (m : List Check) (e : Refusal) → done (say_file s w p) ≡ true → first_refusal (file_checks s w p ++ m) e ≡ first_refusal m e
   file-rest m e h = pass_on (file_checks s w p) m e (file-passes h)
 
   -- a file that is refused: that is what is said
-  pub file-stop : (m : List Check) (e : Refusal) → done (say_file s w p) ≡ false → first_of (file_checks s w p ++ m) e ≡ say_file s w p
+  pub file-stop : (m : List Check) (e : Refusal) → done (say_file s w p) ≡ false → first_refusal (file_checks s w p ++ m) e ≡ say_file s w p
   unfolding say_file
   file-stop m e h = stop-there (file_checks s w p) m (Done (level_in s) (count_in s)) e refl h
 
@@ -199,7 +199,7 @@ whole-areas-pass w o u v h = pick (is_width w) refl
     pick false e = tt
 
 -- what is said of room is done or 7, and tells the count
-rooms-by : (w c o u v l : ℕ) (P : Refusal → Type 0) → ((have : ℕ) → P (NoRoom have c)) → P (Done l c) → P (first_of (rooms_for w c o u v) (Done l c))
+rooms-by : (w c o u v l : ℕ) (P : Refusal → Type 0) → ((have : ℕ) → P (NoRoom have c)) → P (Done l c) → P (first_refusal (rooms_for w c o u v) (Done l c))
 rooms-by w c o u v l P tight full = pick (ltb (o / w) c) (ltb (u / w) c) (ltb (v / w) c)
   where
     pick : (a b d : Bool) → P (cond a (NoRoom (o / w) c) (cond b (NoRoom (u / w) c) (cond d (NoRoom (v / w) c) (Done l c))))
@@ -208,10 +208,10 @@ rooms-by w c o u v l P tight full = pick (ltb (o / w) c) (ltb (u / w) c) (ltb (v
     pick false false true = tight (v / w)
     pick false false false = full
 
-pub rooms-say : (w c o u v l : ℕ) → let r = answer_of (first_of (rooms_for w c o u v) (Done l c)) in (r.number ≡ 0) ⊎ (r.number ≡ 7)
+pub rooms-say : (w c o u v l : ℕ) → let r = answer_of (first_refusal (rooms_for w c o u v) (Done l c)) in (r.number ≡ 0) ⊎ (r.number ≡ 7)
 rooms-say w c o u v l = rooms-by w c o u v l (λ r. ((answer_of r).number ≡ 0) ⊎ ((answer_of r).number ≡ 7)) (λ _. inr refl) (inl refl)
 
-pub rooms-count : (w c o u v l : ℕ) → (answer_of (first_of (rooms_for w c o u v) (Done l c))).second ≡ c
+pub rooms-count : (w c o u v l : ℕ) → (answer_of (first_refusal (rooms_for w c o u v) (Done l c))).second ≡ c
 rooms-count w c o u v l = rooms-by w c o u v l (λ r. (answer_of r).second ≡ c) (λ _. refl) refl
 
 -- what all checks leave: the levels can be restored, and there is room

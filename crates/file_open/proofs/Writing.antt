@@ -15,7 +15,7 @@ use lib.Seq.{take_at, drop_at, drop-drop}
 use Rattle.base_answers.specs.declared.err.Refusal.{Refusal}
 use Rattle.base_answers.specs.declared.err.Refusal.TheVariants.{Done, NoRate}
 use Rattle.base_answers.specs.Answers.{done}
-use Rattle.base_answers.specs.Checks.{first_of, ragged}
+use Rattle.base_answers.specs.Checks.{first_refusal, ragged}
 use Rattle.base_answers.proofs.Passed.{passing, roomy}
 use Rattle.base_samples.specs.Le.{le_bytes, stored}
 use Rattle.base_samples.proofs.Words.{holds}
@@ -169,7 +169,7 @@ file-laid f l n p r m x b b₁ y hr e em q ey =
 
 -- the checks, at k bytes a sample
 pub say-width : (f : Filter) (l r x b u v k : ℕ) {z : Refusal} → k ≡ width_of f
-    → z ≡ first_of (ragged k x ∷ ragged k u ∷ ragged k v ∷ (eqb r 0, NoRate) ∷ write_checks f l (x / k) b (u / k) (v / k)) (Done 0 0) → z ≡ say_write f l r x b u v
+    → z ≡ first_refusal (ragged k x ∷ ragged k u ∷ ragged k v ∷ (eqb r 0, NoRate) ∷ write_checks f l (x / k) b (u / k) (v / k)) (Done 0 0) → z ≡ say_write f l r x b u v
 unfolding say_write
 say-width f l r x b u v k e h = rw e at h
 

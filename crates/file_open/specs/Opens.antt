@@ -5,7 +5,7 @@ use Rattle.base_answers.specs.declared.err.Answer.{Answer}
 use Rattle.base_answers.specs.declared.err.Refusal.{Refusal}
 use Rattle.base_answers.specs.declared.err.Refusal.TheVariants.{Done, MinFilterSize, BufferWasTooSmallForLevel, TooLong, OtherWidth, BadCount, CutShort, OtherPoint, Trailing, NoSuchPlace, NoRate}
 use Rattle.base_answers.specs.Answers.{done}
-use Rattle.base_answers.specs.Checks.{Check, first_of, ragged, tight, two_areas, Call}
+use Rattle.base_answers.specs.Checks.{Check, first_refusal, ragged, tight, two_areas, Call}
 use Rattle.base_lengths.specs.declared.Wavelet.TheVariants.{Cdf53}
 use Rattle.base_lengths.specs.Lengths.{most_samples}
 use Rattle.base_lengths.specs.Levels.{count_at, depth_of}
@@ -100,7 +100,7 @@ count_in s = count_at (level_in s) (head_in s).samples
 
 -- "it returns level and count": what is said of the file alone
 unfoldable pub say_file : List ℕ → ℕ → ℕ → Refusal
-say_file s w p = first_of (file_checks s w p) (Done (level_in s) (count_in s))
+say_file s w p = first_refusal (file_checks s w p) (Done (level_in s) (count_in s))
 
 -- the samples of that level
 unfoldable pub samples_in : List ℕ → List ℕ
@@ -120,7 +120,7 @@ rooms_for w c o u v = tight (o / w) c ∷ two_areas (u / w) (v / w) c
 
 -- the areas, the file, and the room for what it gives back
 unfoldable pub say_open : List ℕ → ℕ → ℕ → ℕ → ℕ → ℕ → Refusal
-say_open s w p o u v = first_of (area_checks w o u v ++ (file_checks s w p ++ rooms_for w (count_in s) o u v)) (Done (level_in s) (count_in s))
+say_open s w p o u v = first_refusal (area_checks w o u v ++ (file_checks s w p ++ rooms_for w (count_in s) o u v)) (Done (level_in s) (count_in s))
 
 -- the answer r, and the output and the work areas that opening leaves: "output past the count is unchanged"
 abbrev pub Open : List ℕ → ℕ → ℕ → List ℕ → List ℕ → List ℕ → Answer → List ℕ → List ℕ → List ℕ → Type 0
@@ -180,7 +180,7 @@ start_of s h j = end_by (way_to s h j) - length_of h j
 unfoldable pub say_section : List ℕ → ℕ → ℕ → ℕ → Refusal
 say_section s w p j =
     let h = head_in s in
-    first_of (head_checks s w p ++ (number_checks j h.levels ++ section_checks (way_to s h j) (length s))) (Done (start_of s h j) (length_of h j))
+    first_refusal (head_checks s w p ++ (number_checks j h.levels ++ section_checks (way_to s h j) (length s))) (Done (start_of s h j) (length_of h j))
 
 -- what the call hands back; "when refused, .. an empty stretch"
 unfoldable pub section_in : List ℕ → ℕ → ℕ → ℕ → List ℕ

@@ -4,7 +4,7 @@ use Rattle.std.specs.Prelude.{List, ◌∷◌, ◌++◌, ℕ, ◌/◌, eqb, leng
 use Rattle.base_answers.specs.declared.err.Answer.{Answer}
 use Rattle.base_answers.specs.declared.err.Refusal.{Refusal}
 use Rattle.base_answers.specs.declared.err.Refusal.TheVariants.{Done, NoRate}
-use Rattle.base_answers.specs.Checks.{Check, first_of, ragged, tight, two_areas, Call}
+use Rattle.base_answers.specs.Checks.{Check, first_refusal, ragged, tight, two_areas, Call}
 use Rattle.base_lengths.specs.Levels.{levels_of}
 use Rattle.levels_filter.specs.declared.filter.Filter.{Filter}
 use Rattle.levels_filter.specs.Filters.{width_of}
@@ -17,7 +17,7 @@ write_checks f l n b u v = depth_checks f l n ++ (tight b (file_size new_size (w
 
 -- by byte lengths: the file area may have any
 unfoldable pub say_write : Filter → ℕ → ℕ → ℕ → ℕ → ℕ → ℕ → Refusal
-say_write f l r x b u v = first_of (ragged (width_of f) x ∷ ragged (width_of f) u ∷ ragged (width_of f) v ∷ (eqb r 0, NoRate) ∷ write_checks f l (x / width_of f) b (u / width_of f) (v / width_of f)) (Done 0 0)
+say_write f l r x b u v = first_refusal (ragged (width_of f) x ∷ ragged (width_of f) u ∷ ragged (width_of f) v ∷ (eqb r 0, NoRate) ∷ write_checks f l (x / width_of f) b (u / width_of f) (v / width_of f)) (Done 0 0)
 
 -- the answer a, and the file area b' and the work areas that writing the samples x for point p and rate r leaves
 abbrev pub Write : Filter → ℕ → ℕ → ℕ → List ℕ → List ℕ → List ℕ → List ℕ → Answer → List ℕ → List ℕ → List ℕ → Type 0

@@ -1,6 +1,6 @@
 // Opening a file of either kind: the checks in the documents' order, then the levels that a cut left.
 ghost use Rattle.std.specs.Prelude.{◌≡◌, ◌≤◌, ◌<◌, length};
-ghost use Rattle.base_answers.specs.Checks.{first_of};
+ghost use Rattle.base_answers.specs.Checks.{first_refusal};
 ghost use Rattle.base_samples.specs.Integers.{is_width};
 ghost use Rattle.file_open.specs.Opens.{filter_of, head_in, Read, start_checks, field_checks, rate_checks, head_checks, way_in, way_checks, whole_details, say_file, area_checks, rooms_for, say_open, OpenGives, own_width, own_point};
 
@@ -61,7 +61,7 @@ pub fn filter_of(w: usize) -> Filter
 
 // The length of the file, and the count of section 0, which says how long section 0 is.
 pub fn check_start(s: &[u8]) -> Refusal
-    ensures { result ≡ first_of (start_checks s.now) (Refusal.Done 0 0) }
+    ensures { result ≡ first_refusal (start_checks s.now) (Refusal.Done 0 0) }
 {
     if MOST_BYTES < s.len() {
         return Refusal::TooLong;
@@ -81,7 +81,7 @@ pub fn check_start(s: &[u8]) -> Refusal
 
 // What section 0 says against what is asked: the width, the samples and levels, the point.
 pub fn check_fields(h: Head, w: usize, p: usize) -> Refusal
-    ensures { result ≡ first_of (field_checks h w p) (Refusal.Done 0 0) }
+    ensures { result ≡ first_refusal (field_checks h w p) (Refusal.Done 0 0) }
 {
     if h.width != w {
         return Refusal::OtherWidth(h.width, w);
@@ -110,7 +110,7 @@ pub fn check_fields(h: Head, w: usize, p: usize) -> Refusal
 // A new file stores a rate.
 fn check_rate(s: &[u8]) -> Refusal
     requires { (head_in s.now).body ≤ length s.now }
-    ensures { result ≡ first_of (rate_checks s.now) (Refusal.Done 0 0) }
+    ensures { result ≡ first_refusal (rate_checks s.now) (Refusal.Done 0 0) }
 {
     if is_new(s) {
         if rate_in(s) == 0 {
@@ -122,7 +122,7 @@ fn check_rate(s: &[u8]) -> Refusal
 
 // All of section 0.
 pub fn check_head(s: &[u8], w: usize, p: usize) -> Refusal
-    ensures { result ≡ first_of (head_checks s.now w p) (Refusal.Done 0 0) }
+    ensures { result ≡ first_refusal (head_checks s.now w p) (Refusal.Done 0 0) }
 {
     let start = check_start(s);
     if !is_done(start) {
@@ -145,7 +145,7 @@ fn way_in(s: &[u8], h: Head) -> Way
 
 // A wrong count, a cut in section 1, or bytes after the last section, of a file of b bytes.
 fn check_way(way: Way, b: usize) -> Refusal
-    ensures { result ≡ first_of (way_checks way b) (Refusal.Done 0 0) }
+    ensures { result ≡ first_refusal (way_checks way b) (Refusal.Done 0 0) }
 {
     match way {
         Way::Went(p) => {
@@ -182,7 +182,7 @@ fn whole_details(way: Way, l: usize) -> usize
 
 // The lent areas are whole samples; a width that is none has no sample size.
 fn check_areas(w: usize, o: usize, u: usize, v: usize) -> Refusal
-    ensures { result ≡ first_of (area_checks w o u v) (Refusal.Done 0 0) }
+    ensures { result ≡ first_refusal (area_checks w o u v) (Refusal.Done 0 0) }
 {
     if is_width(w) {
         return check_whole(w, o, u, v);
@@ -193,7 +193,7 @@ fn check_areas(w: usize, o: usize, u: usize, v: usize) -> Refusal
 // Room for count samples in the output and in both work areas.
 fn check_rooms(w: usize, count: usize, o: usize, u: usize, v: usize) -> Refusal
     requires { 0 < w }
-    ensures { result ≡ first_of (rooms_for w count o u v) (Refusal.Done 0 0) }
+    ensures { result ≡ first_refusal (rooms_for w count o u v) (Refusal.Done 0 0) }
 {
     if o / w < count {
         return Refusal::NoRoom(o / w, count);

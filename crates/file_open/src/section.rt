@@ -1,7 +1,7 @@
 // Looking a section up by its number: a part of the caller's own file.
 ghost use Rattle.std.specs.Prelude.{◌≡◌, ◌+◌, ◌-◌, ◌≤◌, ◌<◌, length};
 ghost use Rattle.base_answers.specs.Answers.{answer_of};
-ghost use Rattle.base_answers.specs.Checks.{first_of};
+ghost use Rattle.base_answers.specs.Checks.{first_refusal};
 ghost use Rattle.file_open.specs.Walks.{last_count};
 ghost use Rattle.file_open.specs.Opens.{Read, samples_to, way_to, section_checks, number_checks, count_of, length_of, start_of, say_section, section_in, section_at};
 
@@ -14,7 +14,7 @@ use base_lengths::{count_at, details_length};
 // A section's number, of l levels.
 fn check_number(j: usize, l: usize) -> Refusal
     requires { l ≤ 255 }
-    ensures { result ≡ first_of (number_checks j l) (Refusal.Done 0 0) }
+    ensures { result ≡ first_refusal (number_checks j l) (Refusal.Done 0 0) }
 {
     if j == 0 {
         return Refusal::NoSuchPlace(j, l + 1);
@@ -70,7 +70,7 @@ pub fn length_of(h: Head, j: usize) -> usize
 fn found(s: &[u8], h: Head, j: usize) -> Refusal
     requires read { Read h × (h.body ≤ length s.now) }
     requires le_j { (1 ≤ j) × (j ≤ h.levels + 1) }
-    ensures { result ≡ first_of (section_checks (way_to s.now h j) (length s.now)) (Refusal.Done (start_of s.now h j) (length_of h j)) }
+    ensures { result ≡ first_refusal (section_checks (way_to s.now h j) (length s.now)) (Refusal.Done (start_of s.now h j) (length_of h j)) }
 {
     let size = length_of(h, j);
     let way = way_to(s, h, j);

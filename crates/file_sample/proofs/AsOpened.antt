@@ -15,7 +15,7 @@ use Rattle.base_answers.specs.declared.err.Answer.{Answer}
 use Rattle.base_answers.specs.declared.err.Refusal.{Refusal}
 use Rattle.base_answers.specs.declared.err.Refusal.TheVariants.{Done}
 use Rattle.base_answers.specs.Answers.{say, answer_of, done}
-use Rattle.base_answers.specs.Checks.{Check, first_of, ragged}
+use Rattle.base_answers.specs.Checks.{Check, first_refusal, ragged}
 use Rattle.base_answers.proofs.Endings.{is-done, not_done, left-done}
 use Rattle.base_answers.proofs.Passed.{Passing, pass_on, through}
 use Rattle.base_samples.specs.Words.{word_at}
@@ -52,9 +52,9 @@ one-past : (b : Bool) (x y : Refusal) (n : ℕ) → ((answer_of x).number ≡ n 
 one-past true x y n h q = absurd (h q)
 one-past false x y n h q = (refl, q)
 
-past-never : (n : ℕ) (l m : List Check) (e : Refusal) → Never n l → (answer_of (first_of (l ++ m) e)).number ≡ n → Passing l
+past-never : (n : ℕ) (l m : List Check) (e : Refusal) → Never n l → (answer_of (first_refusal (l ++ m) e)).number ≡ n → Passing l
 past-never n [] m e h q = tt
-past-never n (p ∷ l) m e h q = let r = one-past p.0 p.1 (first_of (l ++ m) e) n h.0 q in (r.0, past-never n l m e h.1 r.1)
+past-never n (p ∷ l) m e h q = let r = one-past p.0 p.1 (first_refusal (l ++ m) e) n h.0 q in (r.0, past-never n l m e h.1 r.1)
 
 -- 7 is said of areas alone
 areas-never : (w o u v : ℕ) → Never 7 (area_checks w o u v)
@@ -100,10 +100,10 @@ module _ (s : List ℕ) (w p : ℕ) where
       rooms : List Check
       rooms = rooms_for w (count_in s) o u v
 
-      e : first_of (area_checks w o u v ++ (file_checks s w p ++ rooms)) (Done (level_in s) (count_in s)) ≡ first_of (file_checks s w p ++ rooms) (Done (level_in s) (count_in s))
+      e : first_refusal (area_checks w o u v ++ (file_checks s w p ++ rooms)) (Done (level_in s) (count_in s)) ≡ first_refusal (file_checks s w p ++ rooms) (Done (level_in s) (count_in s))
       e = pass_on (area_checks w o u v) (file_checks s w p ++ rooms) (Done (level_in s) (count_in s)) a
 
-      pick : (b : Bool) → done (say_file s w p) ≡ b → (done (say_file s w p) ≡ false) × (first_of (area_checks w o u v ++ (file_checks s w p ++ rooms)) (Done (level_in s) (count_in s)) ≡ say_file s w p)
+      pick : (b : Bool) → done (say_file s w p) ≡ b → (done (say_file s w p) ≡ false) × (first_refusal (area_checks w o u v ++ (file_checks s w p ++ rooms)) (Done (level_in s) (count_in s)) ≡ say_file s w p)
       pick false q = (q, e ∙ file-stop s w p rooms (Done (level_in s) (count_in s)) q)
       pick true q =
           let f = e ∙ file-rest s w p rooms (Done (level_in s) (count_in s)) q in

@@ -11,7 +11,7 @@ use lib.ListN.{length}
 use Rattle.base_answers.specs.declared.err.Refusal.{Refusal}
 use Rattle.base_answers.specs.declared.err.Refusal.TheVariants.{Done, TooLong, CutShort, Trailing}
 use Rattle.base_answers.specs.Answers.{done}
-use Rattle.base_answers.specs.Checks.{first_of}
+use Rattle.base_answers.specs.Checks.{first_refusal}
 use Rattle.base_answers.proofs.Chain.{stop}
 use Rattle.base_answers.proofs.Passed.{Passing, off}
 use Rattle.base_order.proofs.Order.{lt-or-le}
@@ -56,8 +56,8 @@ module _ (s : List ℕ) (w p : ℕ) (k : Passing (head_checks s w p)) where
   body = (head-passes s w p k).there
 
   -- of a walk v
-  walked : (v : Way) → way_in s h ≡ v → reason_of s w p ≡ reason_by true h b (first_of (way_checks v b) (Done (h.levels - whole_details v h.levels) (count_in s)))
-  walked v e = reason-passed s w p k ∙ ap (λ u. reason_by true h b (first_of (way_checks u b) (Done (h.levels - whole_details u h.levels) (count_in s)))) e
+  walked : (v : Way) → way_in s h ≡ v → reason_of s w p ≡ reason_by true h b (first_refusal (way_checks v b) (Done (h.levels - whole_details v h.levels) (count_in s)))
+  walked v e = reason-passed s w p k ∙ ap (λ u. reason_by true h b (first_refusal (way_checks u b) (Done (h.levels - whole_details u h.levels) (count_in s)))) e
 
   pub reason-wrong : (j found : ℕ) → way_in s (head_in s) ≡ Wrong j found → reason_of s w p ≡ because 9 j (place_of (head_in s) j) (wanted_of (head_in s) j) found
   reason-wrong j found e = walked (Wrong j found) e

@@ -12,7 +12,7 @@ use Rattle.base_answers.specs.declared.err.Answer.{Answer}
 use Rattle.base_answers.specs.declared.err.Refusal.{Refusal}
 use Rattle.base_answers.specs.declared.err.Refusal.TheVariants.{Done}
 use Rattle.base_answers.specs.Answers.{answer_of, say, done}
-use Rattle.base_answers.specs.Checks.{first_of}
+use Rattle.base_answers.specs.Checks.{first_refusal}
 use Rattle.base_answers.proofs.Passed.{Passing, passing, pass_on, through, off}
 use Rattle.base_lengths.proofs.Counts.{count-at-le}
 use Rattle.file_open.specs.declared.head.Head.{Head}
@@ -100,7 +100,7 @@ module _ (s : List ℕ) (w p : ℕ) {r : Reason} (why : r ≡ reason_of s w p) w
     abbrev said : Refusal
     said = say_open s w p (length o) (length u) (length v)
 
-    past : said ≡ first_of (file_checks s w p ++ rooms_for w (count_in s) (length o) (length u) (length v)) (Done (level_in s) (count_in s))
+    past : said ≡ first_refusal (file_checks s w p ++ rooms_for w (count_in s) (length o) (length u) (length v)) (Done (level_in s) (count_in s))
     unfolding say_open
     past =
         pass_on (area_checks w (length o) (length u) (length v)) (file_checks s w p ++ rooms_for w (count_in s) (length o) (length u) (length v)) (Done (level_in s) (count_in s))
@@ -112,7 +112,7 @@ module _ (s : List ℕ) (w p : ℕ) {r : Reason} (why : r ≡ reason_of s w p) w
         let e = past ∙ file-stop s w p (rooms_for w (count_in s) (length o) (length u) (length v)) (Done (level_in s) (count_in s)) (refuses n) in
         opens.call.answer ∙ ap answer_of e ∙ file-told s w p (refuses n) ∙ sym (ap answer_by why)
 
-    rest : r.number ≡ 0 → a.answer ≡ answer_of (first_of (rooms_for w (count_in s) (length o) (length u) (length v)) (Done (level_in s) (count_in s)))
+    rest : r.number ≡ 0 → a.answer ≡ answer_of (first_refusal (rooms_for w (count_in s) (length o) (length u) (length v)) (Done (level_in s) (count_in s)))
     rest z =
         opens.call.answer
         ∙ ap answer_of (past ∙ file-rest s w p (rooms_for w (count_in s) (length o) (length u) (length v)) (Done (level_in s) (count_in s)) (eq-eqb (answer_of (say_file s w p)).number 0 (sym number_is ∙ z)))

@@ -10,7 +10,7 @@ use lib.ListN.{length}
 use Rattle.base_answers.specs.declared.err.Refusal.{Refusal}
 use Rattle.base_answers.specs.declared.err.Refusal.TheVariants.{Done, MinFilterSize, BufferWasTooSmallForLevel, TooLong, OtherWidth, BadCount, CutShort, OtherPoint, Trailing, NoRate}
 use Rattle.base_answers.specs.Answers.{says, done}
-use Rattle.base_answers.specs.Checks.{Check, first_of}
+use Rattle.base_answers.specs.Checks.{Check, first_refusal}
 use Rattle.base_answers.proofs.Passed.{Passing, through, other-end, both-pass, pass-both, off}
 use Rattle.base_samples.specs.Le.{le_at}
 use Rattle.file_open.specs.declared.head.Head.{Head}
@@ -49,15 +49,15 @@ module _ (s : List ℕ) (w p : ℕ) where
   later = field_checks (head_in s) w p ++ rate_checks s
 
   abbrev pub say_way : Refusal
-  say_way = first_of (way_checks (way_in s (head_in s)) (length s)) (Done (level_in s) (count_in s))
+  say_way = first_refusal (way_checks (way_in s (head_in s)) (length s)) (Done (level_in s) (count_in s))
 
-  file-by : say_file s w p ≡ first_of (start_checks s) (first_of later say_way)
+  file-by : say_file s w p ≡ first_refusal (start_checks s) (first_refusal later say_way)
   unfolding say_file
   file-by = first-append (head_checks s w p) (way_checks (way_in s (head_in s)) (length s)) (Done (level_in s) (count_in s)) ∙ first-append (start_checks s) later say_way
 
   -- where the start refuses, the opener says that
   pub start-stops : done (say_start s) ≡ false → say_file s w p ≡ say_start s
-  start-stops h = file-by ∙ other-end (start_checks s) (Done 0 0) (first_of later say_way) refl h
+  start-stops h = file-by ∙ other-end (start_checks s) (Done 0 0) (first_refusal later say_way) refl h
 
   pub reason-early : done (say_start s) ≡ false → reason_of s w p ≡ reason_by false (head_in s) (length s) (say_start s)
   unfolding reason_of
@@ -68,9 +68,9 @@ module _ (s : List ℕ) (w p : ℕ) where
   reason-later h = ap (λ t. reason_by t (head_in s) (length s) (say_file s w p)) h
 
   -- where the start passes, what stands behind it
-  pub reason-start : Passing (start_checks s) → reason_of s w p ≡ reason_by true (head_in s) (length s) (first_of later say_way)
+  pub reason-start : Passing (start_checks s) → reason_of s w p ≡ reason_by true (head_in s) (length s) (first_refusal later say_way)
   reason-start q =
-      reason-later (ap done (through (start_checks s) (Done 0 0) q)) ∙ ap (λ r. reason_by true (head_in s) (length s) r) (file-by ∙ through (start_checks s) (first_of later say_way) q)
+      reason-later (ap done (through (start_checks s) (Done 0 0) q)) ∙ ap (λ r. reason_by true (head_in s) (length s) r) (file-by ∙ through (start_checks s) (first_refusal later say_way) q)
 
   -- where all of section 0 passes, what the walk says
   pub reason-passed : Passing (head_checks s w p) → reason_of s w p ≡ reason_by true (head_in s) (length s) say_way
@@ -81,11 +81,11 @@ module _ (s : List ℕ) (w p : ℕ) where
   -- where the start passes, what holds of each refusal behind it, and of the walk where all of section 0 passes
   pub later-by : (P : Refusal → Type 0) → Passing (start_checks s) → Every P later → (Passing (head_checks s w p) → P say_way) → P (say_file s w p)
   later-by P q each way =
-      subst P (sym (file-by ∙ through (start_checks s) (first_of later say_way) q)) (first_by P later say_way each (λ r. way (pass-both (start_checks s) later q r)))
+      subst P (sym (file-by ∙ through (start_checks s) (first_refusal later say_way) q)) (first_by P later say_way each (λ r. way (pass-both (start_checks s) later q r)))
 
 -- ---- the cases
 
-way-each : (P : Refusal → Type 0) (v : Way) (b : ℕ) (e : Refusal) → ((a : ℕ) → P (CutShort a)) → ((a c : ℕ) → P (BadCount a c)) → ((a : ℕ) → P (Trailing a)) → P e → P (first_of (way_checks v b) e)
+way-each : (P : Refusal → Type 0) (v : Way) (b : ℕ) (e : Refusal) → ((a : ℕ) → P (CutShort a)) → ((a c : ℕ) → P (BadCount a c)) → ((a : ℕ) → P (Trailing a)) → P e → P (first_refusal (way_checks v b) e)
 way-each P (Went q) b e cut count more end = first_by P (way_checks (Went q) b) e ((λ _. more (b - q)), tt) (λ _. end)
 way-each P (Short j) b e cut count more end = first_by P (way_checks (Short j) b) e ((λ _. cut b), tt) (λ _. end)
 way-each P (Wrong j found) b e cut count more end = first_by P (way_checks (Wrong j found) b) e ((λ _. count j found), tt) (λ _. end)
@@ -97,7 +97,7 @@ pub says-each : (s : List ℕ) (w p : ℕ) (P : Refusal → Type 0) → ((a c : 
 says-each s w p P end least level long width count cut point more rate =
     let h = head_in s in
     subst P (sym (file-by s w p))
-    (first_by P (start_checks s) (first_of (later s w p) (say_way s w p)) ((λ _. long), ((λ _. cut _), ((λ _. count _ _), ((λ _. cut _), tt))))
+    (first_by P (start_checks s) (first_refusal (later s w p) (say_way s w p)) ((λ _. long), ((λ _. cut _), ((λ _. count _ _), ((λ _. cut _), tt))))
     (λ _. first_by P (later s w p) (say_way s w p) ((λ _. width _ _), ((λ _. width _ _), ((λ _. least _ _), ((λ _. long), ((λ _. level), ((λ _. level), ((λ _. point _ _), ((λ _. rate), tt))))))))
     (λ _. way-each P (way_in s h) (length s) (Done (level_in s) (count_in s)) cut count more (end (level_in s) (count_in s)))))
 
@@ -140,7 +140,7 @@ pub way_by : (s : List ℕ) (h : Head) (c : ℕ) (P : Refusal → Type 0) → h.
     → (way_in s h ≡ Short 1 → P (CutShort (length s)))
     → ((j : ℕ) → way_in s h ≡ Short j → 2 ≤ j → P (Done (h.levels - (j - 2)) c))
     → ((j found : ℕ) → way_in s h ≡ Wrong j found → P (BadCount j found))
-    → P (first_of (way_checks (way_in s h) (length s)) (Done (h.levels - whole_details (way_in s h) h.levels) c))
+    → P (first_refusal (way_checks (way_in s h) (length s)) (Done (h.levels - whole_details (way_in s h) h.levels) c))
 way_by s h c P body trailing whole first cut wrong = pick (way_in s h) refl
   where
     went : (q : ℕ) → way_in s h ≡ Went q → (t : Bool) → ltb q (length s) ≡ t → P (cond t (Trailing (length s - q)) (Done (h.levels - h.levels) c))
@@ -154,7 +154,7 @@ way_by s h c P body trailing whole first cut wrong = pick (way_in s h) refl
     short j e true g = first (e ∙ ap (λ i. Short i) (eqb-true j 1 g))
     short j e false g = cut j e (omega (arith, (way-stops s h body j (Short j) e refl).some, eqb-false j 1 g))
 
-    pick : (v : Way) → way_in s h ≡ v → P (first_of (way_checks v (length s)) (Done (h.levels - whole_details v h.levels) c))
+    pick : (v : Way) → way_in s h ≡ v → P (first_refusal (way_checks v (length s)) (Done (h.levels - whole_details v h.levels) c))
     pick (Went q) e = went q e (ltb q (length s)) refl
     pick (Short j) e = short j e (eqb j 1) refl
     pick (Wrong j found) e = wrong j found e

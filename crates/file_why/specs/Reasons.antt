@@ -4,7 +4,7 @@ use Rattle.std.specs.Prelude.{Bool, true, cond, List, ◌≡◌, ℕ, zero, suc,
 use Rattle.base_answers.specs.declared.err.Refusal.{Refusal}
 use Rattle.base_answers.specs.declared.err.Refusal.TheVariants.{Done, MinFilterSize, ApproxSizeNotMatches, OutputSizeIsNotValid, BufferWasTooSmallForLevel, ZeroedBaseSize, TooLong, NoRoom, OtherWidth, BadCount, CutShort, OtherPoint, Trailing, NoSuchPlace, BookFull, AlreadyHeld, NotHeld, DetailsSizeNotMatches, NoRate}
 use Rattle.base_answers.specs.Answers.{answer_of, says, done}
-use Rattle.base_answers.specs.Checks.{first_of}
+use Rattle.base_answers.specs.Checks.{first_refusal}
 use Rattle.base_lengths.specs.declared.Wavelet.TheVariants.{Cdf53}
 use Rattle.base_lengths.specs.Lengths.{most_samples}
 use Rattle.base_lengths.specs.Levels.{depth_of}
@@ -67,7 +67,7 @@ reason_by there h b (DetailsSizeNotMatches a c) = because 17 0 0 0 0
 
 -- the first checks of the opener: the file is not too long, and section 0 is there
 abbrev pub say_start : List ℕ → Refusal
-say_start s = first_of (start_checks s) (Done 0 0)
+say_start s = first_refusal (start_checks s) (Done 0 0)
 
 -- the reason is that of what the opener says of the file alone
 unfoldable pub reason_of : List ℕ → ℕ → ℕ → Reason

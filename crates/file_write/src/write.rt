@@ -1,6 +1,6 @@
 // Writing a file: a head, and then the bands of all levels, each after its count.
 ghost use Rattle.std.specs.Prelude.{◌++◌, ◌≡◌, ◌*◌, ◌≤◌, ◌<◌, length, drop};
-ghost use Rattle.base_answers.specs.Checks.{first_of};
+ghost use Rattle.base_answers.specs.Checks.{first_refusal};
 ghost use Rattle.levels_filter.specs.Filters.{Integers, width_of};
 ghost use Rattle.levels_filter.specs.Calls.{Ready};
 ghost use Rattle.file_open.specs.Files.{new_size, file_size, file_of};
@@ -42,7 +42,7 @@ fn lay_file(
 
 // By samples: n of the signal, u and v of the work areas; b bytes of the file area.
 fn write_lengths(f: Filter, levels: usize, n: usize, b: usize, u: usize, v: usize) -> Refusal
-    ensures { result ≡ first_of (write_checks f levels n b u v) (Refusal.Done 0 0) }
+    ensures { result ≡ first_refusal (write_checks f levels n b u v) (Refusal.Done 0 0) }
 {
     let said = check_depth(f, levels, n);
     if !is_done(said) {

@@ -11,7 +11,7 @@ use lib.ListN.{length, take, drop, replicate, length-replicate, drop_of_length-l
 use lib.Seq.{take_at}
 use Rattle.base_answers.specs.declared.err.Refusal.TheVariants.{Done}
 use Rattle.base_answers.specs.Answers.{done}
-use Rattle.base_answers.specs.Checks.{first_of}
+use Rattle.base_answers.specs.Checks.{first_refusal}
 use Rattle.base_answers.proofs.Passed.{Passing, passing, roomy}
 use Rattle.base_lengths.specs.declared.Wavelet.TheVariants.{Cdf53}
 use Rattle.base_lengths.specs.Lengths.{most_samples}
@@ -71,7 +71,7 @@ module _ (e : List ℕ) (he : is_head e ≡ true) (be : Bytes e) (long : length 
   x = replicate (w * n) 0
 
   -- what the entry says can be recorded
-  counted : (is_count (le_at 4 e 0) ≡ true) × (done (first_of (field_checks (head_in e) w p) (Done 0 0)) ≡ true)
+  counted : (is_count (le_at 4 e 0) ≡ true) × (done (first_refusal (field_checks (head_in e) w p) (Done 0 0)) ≡ true)
   counted = (and-eq-true_iff (is_count (le_at 4 e 0)) _).0 he
 
   fields : Passing (field_checks (head_in e) w p)

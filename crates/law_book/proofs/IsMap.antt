@@ -11,7 +11,7 @@ use lib.ListN.{length}
 use Rattle.base_answers.specs.declared.err.Answer.{Answer}
 use Rattle.base_answers.specs.declared.err.Refusal.TheVariants.{Done, BookFull, AlreadyHeld}
 use Rattle.base_answers.specs.Answers.{say, answer_of}
-use Rattle.base_answers.specs.Checks.{first_of}
+use Rattle.base_answers.specs.Checks.{first_refusal}
 use Rattle.base_answers.proofs.Passed.{Passing, pass_on}
 use Rattle.base_samples.specs.Le.{Bytes}
 use Rattle.book_entries.specs.Books.{most, data_at}
@@ -65,7 +65,7 @@ is-map b h long short r b₀ f cs l rs b' ran =
 
 -- what its checks leave to the map
 left-to-map : (b : List ℕ) → Standing b → (p : ℕ) (s : List ℕ) → Passing (whole_checks s p) → (r : Answer) (b' : List ℕ) → Add b p s r b'
-    → r ≡ answer_of (first_of (map_checks (length b - data_at) (map_in b) p (length s)) (Done 0 0))
+    → r ≡ answer_of (first_refusal (map_checks (length b - data_at) (map_in b) p (length s)) (Done 0 0))
 left-to-map b st p s c r b' a = a.answer ∙ ap answer_of (add-says b st p s ∙ pass_on (whole_checks s p) (map_checks (length b - data_at) (map_in b) p (length s)) (Done 0 0) c)
 
 -- it is taken, or refused with 15 or 14

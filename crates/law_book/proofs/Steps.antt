@@ -11,7 +11,7 @@ use Rattle.base_answers.specs.declared.err.Answer.{Answer}
 use Rattle.base_answers.specs.declared.err.Refusal.{Refusal}
 use Rattle.base_answers.specs.declared.err.Refusal.TheVariants.{Done, BookFull, AlreadyHeld, NotHeld}
 use Rattle.base_answers.specs.Answers.{say, answer_of, done}
-use Rattle.base_answers.specs.Checks.{first_of, left}
+use Rattle.base_answers.specs.Checks.{first_refusal, left}
 use Rattle.base_answers.proofs.Passed.{Passing, passing, both-refuse, both-pass, pass_on, through}
 use Rattle.base_samples.specs.Le.{Bytes}
 use Rattle.book_entries.specs.Books.{most, entry_size, data_at, entries_in, data_in, free_in, slot_of, is_held, place_at, size_at}
@@ -60,8 +60,8 @@ module _ (b : List ℕ) (st : Standing b) where
   unfolding say_add
   add-says p s =
       pass_on (book_checks b) (whole_checks s p ++ room_checks b p (length s)) (Done 0 0) (checks-pass b st)
-      ∙ ap (λ (t : Bool). first_of (whole_checks s p ++ ((t, AlreadyHeld) ∷ (leb most (length es), BookFull) ∷ (ltb (free_in b) (length s), BookFull) ∷ [])) (Done 0 0)) (sym (map-has b st p))
-      ∙ ap₂ (λ (c t : ℕ). first_of (whole_checks s p ++ ((has p hs, AlreadyHeld) ∷ (leb most c, BookFull) ∷ (ltb (n - t) (length s), BookFull) ∷ [])) (Done 0 0))
+      ∙ ap (λ (t : Bool). first_refusal (whole_checks s p ++ ((t, AlreadyHeld) ∷ (leb most (length es), BookFull) ∷ (ltb (free_in b) (length s), BookFull) ∷ [])) (Done 0 0)) (sym (map-has b st p))
+      ∙ ap₂ (λ (c t : ℕ). first_refusal (whole_checks s p ++ ((has p hs, AlreadyHeld) ∷ (leb most c, BookFull) ∷ (ltb (n - t) (length s), BookFull) ∷ [])) (Done 0 0))
       (sym (map-count b st)) (sym (map-total b st))
 
   -- a file that is taken: it is whole, its point is new, and there is room

@@ -5,7 +5,7 @@ use Rattle.base_answers.specs.declared.err.Answer.{Answer}
 use Rattle.base_answers.specs.declared.err.Refusal.{Refusal}
 use Rattle.base_answers.specs.declared.err.Refusal.TheVariants.{Done, BookFull, AlreadyHeld, NotHeld}
 use Rattle.base_answers.specs.Answers.{say, answer_of, done}
-use Rattle.base_answers.specs.Checks.{Check, first_of}
+use Rattle.base_answers.specs.Checks.{Check, first_refusal}
 use Rattle.base_samples.specs.Le.{Bytes}
 use Rattle.book_entries.specs.Books.{most, data_at, point_by, size_by, entries_in, data_in}
 use Rattle.book_entries.specs.Checks.{Book, whole_checks, say_find, say_room}
@@ -96,7 +96,7 @@ map_checks n hs p m = (has p hs, AlreadyHeld) ∷ (leb most (length hs), BookFul
 
 abbrev pub map_says : ℕ → Map → BookCall → Refusal
 map_says n hs fresh = Done 0 0
-map_says n hs (add p s) = first_of (whole_checks s p ++ map_checks n hs p (length s)) (Done 0 0)
+map_says n hs (add p s) = first_refusal (whole_checks s p ++ map_checks n hs p (length s)) (Done 0 0)
 map_says n hs (withdraw p) = cond (has p hs) (Done 0 0) NotHeld
 map_says n hs (find p) = cond (has p hs) (Done (place_for p hs) (length (file_for p hs))) NotHeld
 map_says n hs room = Done (n - map_total hs) (length hs)

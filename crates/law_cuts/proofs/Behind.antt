@@ -7,7 +7,7 @@ use borrow.Author.Tests.{lt-ltb}
 use lib.ListN.{length, take, length-append}
 use lib.Seq.{take_all}
 use Rattle.base_answers.specs.declared.err.Refusal.TheVariants.{Done, Trailing}
-use Rattle.base_answers.specs.Checks.{Check, first_of}
+use Rattle.base_answers.specs.Checks.{Check, first_refusal}
 use Rattle.base_answers.proofs.Chain.{stop}
 use Rattle.base_answers.proofs.Passed.{pass_on}
 use Rattle.levels_filter.specs.declared.filter.Filter.{Filter}
@@ -64,7 +64,7 @@ module _ {f : Filter} {l n p : ℕ} {x : List ℕ} (d : Recording f l n p x) {ra
       let ways = way_checks (way_in y (head_in y)) (length y) in
       ap (λ (s : List ℕ). say_open s k p o u v) (ap (λ (s : List ℕ). s ++ t) (parts d hr) ∙ append_assoc (head_of k l n p rate) (body_of f l n x) t)
       ∙ pass_on (area_checks k o u v) ((heads ++ ways) ++ rooms) end (whole-areas-pass k o u v (λ _. (a.output, a.first, a.second)))
-      ∙ ap (λ (m : List Check). first_of m end) (append_assoc heads ways rooms)
+      ∙ ap (λ (m : List Check). first_refusal m end) (append_assoc heads ways rooms)
       ∙ pass_on heads (ways ++ rooms) end (head-pass d hr rest (omega (arith, long)))
-      ∙ ap (λ (v : Way). first_of (way_checks v (length y) ++ rooms) end) way
+      ∙ ap (λ (v : Way). first_refusal (way_checks v (length y) ++ rooms) end) way
       ∙ sym (stop _ (lt-ltb (z + body_size k l n) (length y) (omega (arith, long))) (ap Trailing (omega (arith, long))))

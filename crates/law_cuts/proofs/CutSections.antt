@@ -13,7 +13,7 @@ use lib.Seq.{drop_at}
 use Rattle.base_answers.proofs.Passed.{pass_on}
 use Rattle.base_answers.specs.declared.err.Refusal.{Refusal}
 use Rattle.base_answers.specs.declared.err.Refusal.TheVariants.{Done, CutShort}
-use Rattle.base_answers.specs.Checks.{Check, first_of}
+use Rattle.base_answers.specs.Checks.{Check, first_refusal}
 use Rattle.base_order.proofs.Order.{lt-or-le}
 use Rattle.base_lengths.specs.Lengths.{approx_length, details_length}
 use Rattle.base_lengths.specs.Levels.{after_levels, count_at}
@@ -51,8 +51,8 @@ body-deeper f (suc i) j n x =
     ∙ append_assoc (body_of f j (count_at i (approx_length n)) (approx_at f i (low_of f x))) (rest_of f i (approx_length n) (low_of f x)) (section_of (details_length n) (high_of f x)))
 
 -- what refuses where a walk is short
-short-stops : (v : Way) (j b : ℕ) (s : Refusal) → v ≡ Short j → first_of (section_checks v b) s ≡ CutShort b
-short-stops v j b s e = ap (λ (w : Way). first_of (section_checks w b) s) e
+short-stops : (v : Way) (j b : ℕ) (s : Refusal) → v ≡ Short j → first_refusal (section_checks v b) s ≡ CutShort b
+short-stops v j b s e = ap (λ (w : Way). first_refusal (section_checks w b) s) e
 
 -- where the bytes of the last section start
 start-at : (z k j m : ℕ) → z + body_size k (suc j) m - k * details_length m ≡ z + body_size k j (approx_length m) + 4
@@ -116,7 +116,7 @@ module _ {z : ℕ} {f : Filter} {l n p : ℕ} {x s : List ℕ} (d : Filed z f l 
     start_is q some most up = ap₂ (λ (v : Way) (m : ℕ). end_by v - m) (went q some most up) (length-is q)
 
     -- section 0 and the number let by
-    by_number : (q : ℕ) → 1 ≤ q → q ≤ l + 1 → (m : List Check) (w : Refusal) → first_of (head_checks t k p ++ (number_checks q h.levels ++ m)) w ≡ first_of m w
+    by_number : (q : ℕ) → 1 ≤ q → q ≤ l + 1 → (m : List Check) (w : Refusal) → first_refusal (head_checks t k p ++ (number_checks q h.levels ++ m)) w ≡ first_refusal m w
     by_number q some most m w =
         let el = ap (λ (i : Head). i.levels) (d.head b c) in
         pass_on (head_checks t k p) (number_checks q h.levels ++ m) w (d.passes b c e)
@@ -127,7 +127,7 @@ module _ {z : ℕ} {f : Filter} {l n p : ℕ} {x s : List ℕ} (d : Filed z f l 
     unfolding say_section
     section-found q some most up =
         let end = Done (start_of t h q) (length_of h q) in
-        by_number q some most (section_checks (way_to t h q) (length t)) end ∙ ap (λ (v : Way). first_of (section_checks v (length t)) end) (went q some most up)
+        by_number q some most (section_checks (way_to t h q) (length t)) end ∙ ap (λ (v : Way). first_refusal (section_checks v (length t)) end) (went q some most up)
 
     -- "a cut at or before it is 10"
     pub section-cut : (q : ℕ) → 1 ≤ q → q ≤ l + 1 → b < size_through z k l n q → say_section t k p q ≡ CutShort b

@@ -11,7 +11,7 @@ use lib.ListN.{length, take, length-append}
 use lib.Seq.{length-take-le, take-append-add}
 use Rattle.base_answers.specs.declared.err.Refusal.{Refusal}
 use Rattle.base_answers.specs.declared.err.Refusal.TheVariants.{CutShort}
-use Rattle.base_answers.specs.Checks.{Check, first_of}
+use Rattle.base_answers.specs.Checks.{Check, first_refusal}
 use Rattle.base_answers.proofs.Chain.{by, stop, same}
 use Rattle.base_answers.proofs.Passed.{Passing, pass-both}
 use Rattle.base_order.proofs.Order.{lt-or-le}
@@ -150,7 +150,7 @@ module _ {f : Filter} {l n p : ℕ} {x : List ℕ} (d : Recording f l n p x) {ra
       subst (λ (t : List ℕ). Passing (head_checks t (width_of f) p)) (sym (cut-is b c)) (head-pass d hr rest short)
 
   -- cut in section 0: 10, whatever is checked after the start
-  pub early : (b : ℕ) → b < head_size rate → (m : List Check) (e : Refusal) → first_of (start_checks (take b s) ++ m) e ≡ CutShort b
+  pub early : (b : ℕ) → b < head_size rate → (m : List Check) (e : Refusal) → first_refusal (start_checks (take b s) ++ m) e ≡ CutShort b
   early b h m e =
       let t = take b s in
       let all = cut-long b (omega arith) in

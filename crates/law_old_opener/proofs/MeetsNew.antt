@@ -12,7 +12,7 @@ use Rattle.base_answers.specs.declared.err.Answer.{Answer}
 use Rattle.base_answers.specs.declared.err.Refusal.{Refusal}
 use Rattle.base_answers.specs.declared.err.Refusal.TheVariants.{Done, TooLong, BadCount, CutShort}
 use Rattle.base_answers.specs.Answers.{answer_of, done}
-use Rattle.base_answers.specs.Checks.{Check, first_of}
+use Rattle.base_answers.specs.Checks.{Check, first_refusal}
 use Rattle.base_answers.proofs.Chain.{by, stop}
 use Rattle.base_answers.proofs.Endings.{is-done, left-refused, spared-refused}
 use Rattle.base_answers.proofs.Passed.{Refusing, off, passed-before, pass_on}
@@ -34,29 +34,29 @@ use Rattle.law_old_opener.specs.Openers.{most_before, head_before, start_before,
 -- c bytes that begin with the count 14, as far as they go
 module _ (s : List ℕ) (c : ℕ) (size : length s ≡ c) (count : 4 ≤ c → le_at 4 s 0 ≡ new_count) (m : List Check) (e : Refusal) where
   -- whatever is checked after the start, it is not reached
-  over : most_before < c → first_of (start_before s ++ m) e ≡ TooLong
+  over : most_before < c → first_refusal (start_before s ++ m) e ≡ TooLong
   over h = sym (stop _ (lt-ltb most_before (length s) (omega arith)) refl)
 
-  under : c < 14 → first_of (start_before s ++ m) e ≡ CutShort c
+  under : c < 14 → first_refusal (start_before s ++ m) e ≡ CutShort c
   under h = sym (by _ (le-ltb most_before (length s) (omega arith)) (stop _ (lt-ltb (length s) 14 (omega arith)) (ap CutShort (sym size))))
 
-  wrong : 14 ≤ c → c ≤ most_before → first_of (start_before s ++ m) e ≡ BadCount 0 new_count
+  wrong : 14 ≤ c → c ≤ most_before → first_refusal (start_before s ++ m) e ≡ BadCount 0 new_count
   wrong a b =
       let n = count (omega arith) in
       sym (by _ (le-ltb most_before (length s) (omega arith)) (by _ (le-ltb (length s) 14 (omega arith)) (stop _ (ap (λ (q : ℕ). not (eqb q 10)) n) (ap (BadCount 0) (sym n)))))
 
   -- so it is refused
-  never : done (first_of (start_before s ++ m) e) ≡ false
+  never : done (first_refusal (start_before s ++ m) e) ≡ false
   never =
       ⊎_elim (λ (h : most_before < c). ap done (over h))
       (λ (h : c ≤ most_before). ⊎_elim (λ (g : c < 14). ap done (under g)) (λ (g : 14 ≤ c). ap done (wrong g h)) (lt-or-le c 14))
       (lt-or-le most_before c)
 
 -- a list that is refused behind a part that only refuses
-refused-past : (l m : List Check) (e : Refusal) → Refusing l → done (first_of m e) ≡ false → done (first_of (l ++ m) e) ≡ false
-refused-past l m e r h = pick (done (first_of (l ++ m) e)) refl
+refused-past : (l m : List Check) (e : Refusal) → Refusing l → done (first_refusal m e) ≡ false → done (first_refusal (l ++ m) e) ≡ false
+refused-past l m e r h = pick (done (first_refusal (l ++ m) e)) refl
   where
-    pick : (b : Bool) → done (first_of (l ++ m) e) ≡ b → b ≡ false
+    pick : (b : Bool) → done (first_refusal (l ++ m) e) ≡ b → b ≡ false
     pick true q = off h (passed-before 0 l m e r q).1
     pick false q = refl
 
@@ -70,7 +70,7 @@ old-meets s c size count w q o g h r o' g' h' call =
     let said = say_before s w q (length o) (length g) (length h) in
     let rest = (field_checks k w q ++ way_checks (way_in s k) (length s)) ++ rooms_for w (count_before s) (length o) (length g) (length h) in
     let start = start_before s ++ rest in
-    let past : WholeAreas w (length o) (length g) (length h) → said ≡ first_of start end = λ a. pass_on areas start end (whole-areas-pass w (length o) (length g) (length h) a) in
+    let past : WholeAreas w (length o) (length g) (length h) → said ≡ first_refusal start end = λ a. pass_on areas start end (whole-areas-pass w (length o) (length g) (length h) a) in
     let no : done said ≡ false = refused-past areas start end (area-refuses w (length o) (length g) (length h)) (never s c size count rest end) in
     record {
       nine = λ a u v. call.answer ∙ ap answer_of (past a ∙ wrong s c size count rest end u v);

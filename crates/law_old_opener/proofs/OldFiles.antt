@@ -13,7 +13,7 @@ use Rattle.base_answers.specs.declared.err.Answer.{Answer}
 use Rattle.base_answers.specs.declared.err.Refusal.{Refusal}
 use Rattle.base_answers.specs.declared.err.Refusal.TheVariants.{Done, TooLong, BadCount, CutShort, Trailing}
 use Rattle.base_answers.specs.Answers.{answer_of, done}
-use Rattle.base_answers.specs.Checks.{Check, first_of, left}
+use Rattle.base_answers.specs.Checks.{Check, first_refusal, left}
 use Rattle.base_answers.proofs.Chain.{by, stop, same}
 use Rattle.base_answers.proofs.Passed.{Passing, off, both-pass, pass_on, roomy}
 use Rattle.base_lengths.specs.Levels.{count_at}
@@ -37,7 +37,7 @@ use Rattle.law_cuts.proofs.Behind.{behind-file}
 use Rattle.law_old_opener.specs.Openers.{most_before, head_before, start_before, file_before, level_before, count_before, samples_before, say_before, OpenBefore}
 
 -- two lists after the same part
-same-part : (l m₁ m₂ : List Check) (e₁ e₂ : Refusal) → first_of m₁ e₁ ≡ first_of m₂ e₂ → first_of (l ++ m₁) e₁ ≡ first_of (l ++ m₂) e₂
+same-part : (l m₁ m₂ : List Check) (e₁ e₂ : Refusal) → first_refusal m₁ e₁ ≡ first_refusal m₂ e₂ → first_refusal (l ++ m₁) e₁ ≡ first_refusal (l ++ m₂) e₂
 same-part [] m₁ m₂ e₁ e₂ h = h
 same-part (p ∷ l) m₁ m₂ e₁ e₂ h = ap (λ (r : Refusal). cond p.0 p.1 r) (same-part l m₁ m₂ e₁ e₂ h)
 
@@ -58,10 +58,10 @@ way_long s k l n at (Wrong j found) e h c = off c.0 refl
 -- what both openers say, after the areas
 module _ (s : List ℕ) (w p o u v : ℕ) where
   abbrev says_now : Refusal
-  says_now = first_of (file_checks s w p ++ rooms_for w (count_in s) o u v) (Done (level_in s) (count_in s))
+  says_now = first_refusal (file_checks s w p ++ rooms_for w (count_in s) o u v) (Done (level_in s) (count_in s))
 
   abbrev said_before : Refusal
-  said_before = first_of (file_before s w p ++ rooms_for w (count_before s) o u v) (Done (level_before s) (count_before s))
+  said_before = first_refusal (file_before s w p ++ rooms_for w (count_before s) o u v) (Done (level_before s) (count_before s))
 
   alike : says_now ≡ said_before → say_open s w p o u v ≡ say_before s w p o u v
   unfolding say_open say_before
@@ -194,7 +194,7 @@ module _ (s : List ℕ) (count : le_at 4 s 0 ≡ old_count) where
     after h w p o u v =
         let m = whole_details (way_in s h) h.levels in
         let n = count_at (h.levels - m) h.samples in
-        first_of (field_checks h w p ++ (way_checks (way_in s h) (length s) ++ rooms_for w n o u v)) (Done (h.levels - m) n)
+        first_refusal (field_checks h w p ++ (way_checks (way_in s h) (length s) ++ rooms_for w n o u v)) (Done (h.levels - m) n)
 
     now-says : (w p o u v : ℕ) → says_now s w p o u v ≡ after (head_in s) w p o u v
     now-says w p o u v =

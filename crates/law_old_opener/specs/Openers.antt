@@ -5,7 +5,7 @@ use Rattle.base_answers.specs.declared.err.Answer.{Answer}
 use Rattle.base_answers.specs.declared.err.Refusal.{Refusal}
 use Rattle.base_answers.specs.declared.err.Refusal.TheVariants.{Done, TooLong, BadCount, CutShort}
 use Rattle.base_answers.specs.Answers.{say}
-use Rattle.base_answers.specs.Checks.{Check, first_of, Call}
+use Rattle.base_answers.specs.Checks.{Check, first_refusal, Call}
 use Rattle.base_lengths.specs.Levels.{count_at}
 use Rattle.base_samples.specs.Le.{le_at}
 use Rattle.file_open.specs.declared.head.Head.{Head}
@@ -44,7 +44,7 @@ samples_before s = let h = head_before s in restored_at h.width s (whole_details
 
 -- what it said, and what it left of the areas
 unfoldable pub say_before : List ℕ → ℕ → ℕ → ℕ → ℕ → ℕ → Refusal
-say_before s w p o u v = first_of (area_checks w o u v ++ (file_before s w p ++ rooms_for w (count_before s) o u v)) (Done (level_before s) (count_before s))
+say_before s w p o u v = first_refusal (area_checks w o u v ++ (file_before s w p ++ rooms_for w (count_before s) o u v)) (Done (level_before s) (count_before s))
 
 abbrev pub OpenBefore : List ℕ → ℕ → ℕ → List ℕ → List ℕ → List ℕ → Answer → List ℕ → List ℕ → List ℕ → Type 0
 OpenBefore s w p o u v = Call (say_before s w p (length o) (length u) (length v)) (w * count_before s) (samples_before s ++ drop (w * count_before s) o) o u v

@@ -9,7 +9,7 @@ use lib.Dec.{eqb}
 use Rattle.base_answers.specs.declared.err.Refusal.{Refusal}
 use Rattle.base_answers.specs.declared.err.Refusal.TheVariants.{Done, BadCount}
 use Rattle.base_answers.specs.Answers.{answer_of}
-use Rattle.base_answers.specs.Checks.{Check, first_of, ragged}
+use Rattle.base_answers.specs.Checks.{Check, first_refusal, ragged}
 use Rattle.base_answers.proofs.Chain.{same}
 use Rattle.base_answers.proofs.Passed.{off, Passing, pass_on}
 use Rattle.base_samples.specs.Le.{Bytes}
@@ -30,11 +30,11 @@ abbrev Never : Refusal → List Check → Type 0
 Never s [] = Unit {0}
 Never s (p ∷ rest) = (p.0 ≡ true → p.1 ≡ s → ⊥) × Never s rest
 
-never : (s e : Refusal) (l : List Check) → Never s l → (e ≡ s → ⊥) → first_of l e ≡ s → ⊥
+never : (s e : Refusal) (l : List Check) → Never s l → (e ≡ s → ⊥) → first_refusal l e ≡ s → ⊥
 never s e [] n h q = h q
 never s e (p ∷ rest) n h q = pick p.0 refl (never s e rest n.1 h) q
   where
-    pick : (t : Bool) → p.0 ≡ t → (first_of rest e ≡ s → ⊥) → cond t p.1 (first_of rest e) ≡ s → ⊥
+    pick : (t : Bool) → p.0 ≡ t → (first_refusal rest e ≡ s → ⊥) → cond t p.1 (first_refusal rest e) ≡ s → ⊥
     pick true z f q = n.0 z q
     pick false z f q = f q
 
@@ -71,7 +71,7 @@ module _ {k : ℕ} (w : Width k) where
   -- m are its own checks, behind those that both calls make
   module _ (b : List ℕ) (bytes : Bytes b) (y a d : ℕ) (m : List Check) (own : Never (BadCount 0 0) m) where
     abbrev tells : Refusal
-    tells = first_of (lent_checks k b y a d ++ m) (Done 0 0)
+    tells = first_refusal (lent_checks k b y a d ++ m) (Done 0 0)
 
     nine-only : LeftBy k b → tells ≡ BadCount 0 0 → ⊥
     nine-only l =
@@ -83,7 +83,7 @@ module _ {k : ℕ} (w : Width k) where
     nine-every true e q none = absurd (none (could-left b bytes e))
     nine-every false e q none =
         pass_on (ragged k y ∷ ragged k a ∷ ragged k d ∷ []) (state_check k b ∷ m) (Done 0 0) q
-        ∙ ap (λ t. cond (not t) (BadCount 0 0) (first_of m (Done 0 0))) e
+        ∙ ap (λ t. cond (not t) (BadCount 0 0) (first_refusal m (Done 0 0))) e
 
     nine : Nine k b y a d tells
     nine = record { only = λ e l. nine-only l e; every = λ ey ea ed. nine-every (could_be k b) refl (same _ _ ey, (same _ _ ea, (same _ _ ed, tt))) }

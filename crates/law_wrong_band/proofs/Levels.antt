@@ -12,7 +12,7 @@ use Rattle.base_answers.specs.declared.err.Answer.{Answer}
 use Rattle.base_answers.specs.declared.err.Refusal.{Refusal}
 use Rattle.base_answers.specs.declared.err.Refusal.TheVariants.{Done, ApproxSizeNotMatches, BadCount, DetailsSizeNotMatches}
 use Rattle.base_answers.specs.Answers.{answer_of, says}
-use Rattle.base_answers.specs.Checks.{Check, first_of}
+use Rattle.base_answers.specs.Checks.{Check, first_refusal}
 use Rattle.base_answers.proofs.Chain.{same}
 use Rattle.base_answers.proofs.Endings.{said-number}
 use Rattle.base_answers.proofs.Passed.{off, Without, Passing, passed-before, pass-both, whole, roomy, right}
@@ -69,7 +69,7 @@ deepest w Wrong a m ms h =
 level-at : (n : ℕ) (w : Wavelet) (Wrong : ℕ → ℕ → Type 0) (room : List Check)
     → ((a d : ℕ) → let m = a + d in says n (ApproxSizeNotMatches (expected_approx m) a) ≡ true → WrongApprox a d → Wrong a d)
     → ((a d : ℕ) → let m = a + d in says n (DetailsSizeNotMatches (expected_details w m) d) ≡ true → WrongDetails w a d → Wrong a d)
-    → Without n room → says n (Done 0 0) ≡ false → (a : ℕ) (ms : List ℕ) → says n (first_of (band_checks w a ms ++ room) (Done 0 0)) ≡ true → WrongAt w Wrong a ms
+    → Without n room → says n (Done 0 0) ≡ false → (a : ℕ) (ms : List ℕ) → says n (first_refusal (band_checks w a ms ++ room) (Done 0 0)) ≡ true → WrongAt w Wrong a ms
 unfolding band_checks
 level-at n w Wrong room p q o z a [] h = quiet n room o z h
 level-at n w Wrong room p q o z a (d ∷ ms) h =
@@ -93,7 +93,7 @@ back-names f a d ls o u v r o' u' v' h =
           let m = t.approx + t.details in
           named (before ++ band_checks w i t.deeper) (band_checks w m t.finer ++ room) t.approx (expected_approx m) t.details (expected_details w m) (expected_approx m, t.approx) (expected_details w m, t.details) r
           (λ b. pass-both before (band_checks w i t.deeper) (to b) (bands-pass w i t.deeper t.fits))
-          (h.answer ∙ ap (λ (l : List Check). answer_of (first_of l (Done 0 0))) (parts t));
+          (h.answer ∙ ap (λ (l : List Check). answer_of (first_refusal l (Done 0 0))) (parts t));
       says_two = λ g.
           let p = passed-before 2 before (band_checks w i ms ++ room) (Done 0 0) (refl, (refl, (refl, (refl, (refl, (refl, (refl, (refl, (refl, (refl, (refl, (refl, (refl, tt))))))))))))) (said-number 2 said r h.answer g) in
           (from p.0, level-at 2 w WrongApprox room (λ a d s h. h) (λ a d s. off refl s) (refl, (refl, (refl, tt))) refl i ms p.1);

@@ -10,15 +10,15 @@ use Rattle.base_answers.specs.declared.err.Answer.{Answer}
 use Rattle.base_answers.specs.declared.err.Refusal.{Refusal}
 use Rattle.base_answers.specs.declared.err.Refusal.TheVariants.{Done, ApproxSizeNotMatches, DetailsSizeNotMatches}
 use Rattle.base_answers.specs.Answers.{answer_of, says}
-use Rattle.base_answers.specs.Checks.{Check, first_of}
+use Rattle.base_answers.specs.Checks.{Check, first_refusal}
 use Rattle.base_answers.proofs.Chain.{by, stop, same, other}
 use Rattle.base_answers.proofs.Endings.{said-number}
 use Rattle.base_answers.proofs.Passed.{off, Without, Passing, passed-before, pass_on, right}
 use Rattle.law_wrong_band.specs.WrongBand.{Named, Names}
 
 -- which of the two says n, or that the rest does
-pub either : (n : ℕ) (b c : Bool) (x y : Refusal) (m : List Check) (e : Refusal) → says n (first_of ((b, x) ∷ (c, y) ∷ m) e) ≡ true
-    → ((b ≡ true) × (says n x ≡ true)) ⊎ (((b ≡ false) × (c ≡ true) × (says n y ≡ true)) ⊎ ((b ≡ false) × (c ≡ false) × (says n (first_of m e) ≡ true)))
+pub either : (n : ℕ) (b c : Bool) (x y : Refusal) (m : List Check) (e : Refusal) → says n (first_refusal ((b, x) ∷ (c, y) ∷ m) e) ≡ true
+    → ((b ≡ true) × (says n x ≡ true)) ⊎ (((b ≡ false) × (c ≡ true) × (says n y ≡ true)) ⊎ ((b ≡ false) × (c ≡ false) × (says n (first_refusal m e) ≡ true)))
 either n true c x y m e h = inl (refl, h)
 either n false true x y m e h = inr (inl (refl, refl, h))
 either n false false x y m e h = inr (inr (refl, refl, h))
@@ -28,15 +28,15 @@ pub differs : (x y : ℕ) → not (eqb x y) ≡ true → x ≡ y → ⊥
 differs x y h = eqb-false x y (not-true (eqb x y) h)
 
 -- a list in which no check says n, and that a done call ends, does not say n
-pub quiet : {A : Type 0} (n : ℕ) (m : List Check) → Without n m → says n (Done 0 0) ≡ false → says n (first_of m (Done 0 0)) ≡ true → A
-quiet n m o z h = off z (passed-before n m [] (Done 0 0) o (ap (λ (l : List Check). says n (first_of l (Done 0 0))) (append-nil m) ∙ h)).1
+pub quiet : {A : Type 0} (n : ℕ) (m : List Check) → Without n m → says n (Done 0 0) ≡ false → says n (first_refusal m (Done 0 0)) ≡ true → A
+quiet n m o z h = off z (passed-before n m [] (Done 0 0) o (ap (λ (l : List Check). says n (first_refusal l (Done 0 0))) (append-nil m) ∙ h)).1
 
 -- a level has a approximations and d details where `right_a` and `right_d` are right
 abbrev pub bands : (a right_a d right_d : ℕ) (p q : ℕ × ℕ) → List Check
 bands a right_a d right_d p q = (not (eqb a right_a), ApproxSizeNotMatches p.0 p.1) ∷ (not (eqb d right_d), DetailsSizeNotMatches q.0 q.1) ∷ []
 
 -- l is what is looked at before them
-pub named : {Before : Type 0} (l m : List Check) (a right_a d right_d : ℕ) (p q : ℕ × ℕ) (r : Answer) → (Before → Passing l) → r ≡ answer_of (first_of (l ++ (bands a right_a d right_d p q ++ m)) (Done 0 0))
+pub named : {Before : Type 0} (l m : List Check) (a right_a d right_d : ℕ) (p q : ℕ × ℕ) (r : Answer) → (Before → Passing l) → r ≡ answer_of (first_refusal (l ++ (bands a right_a d right_d p q ++ m)) (Done 0 0))
     → Named Before a right_a d right_d p q r
 named l m a right_a d right_d p q r to e =
     let rest = bands a right_a d right_d p q ++ m in
@@ -47,10 +47,10 @@ named l m a right_a d right_d p q r to e =
 
 -- and m after them; no check of either says 2 or 17
 pub names : {Before : Type 0} (l m : List Check) (a right_a d right_d : ℕ) (p q : ℕ × ℕ) (r : Answer) → (Before → Passing l) → (Passing l → Before) → Without 2 l → Without 17 l → Without 2 m → Without 17 m
-    → r ≡ answer_of (first_of (l ++ (bands a right_a d right_d p q ++ m)) (Done 0 0)) → Names Before a right_a d right_d p q r
+    → r ≡ answer_of (first_refusal (l ++ (bands a right_a d right_d p q ++ m)) (Done 0 0)) → Names Before a right_a d right_d p q r
 names l m a right_a d right_d p q r to from l2 l17 m2 m17 e =
     let rest = bands a right_a d right_d p q ++ m in
-    let s = first_of (l ++ rest) (Done 0 0) in
+    let s = first_refusal (l ++ rest) (Done 0 0) in
     let two = ApproxSizeNotMatches p.0 p.1 in
     let seventeen = DetailsSizeNotMatches q.0 q.1 in
     record {

@@ -10,7 +10,7 @@ use lib.Seq.{drop-cons, take_all}
 use Rattle.base_answers.specs.declared.err.Refusal.{Refusal}
 use Rattle.base_answers.specs.declared.err.Refusal.TheVariants.{Done}
 use Rattle.base_answers.specs.Answers.{done}
-use Rattle.base_answers.specs.Checks.{first_of}
+use Rattle.base_answers.specs.Checks.{first_refusal}
 use Rattle.base_answers.proofs.Passed.{Refusing, then-rest, say-stop}
 use Rattle.base_lengths.specs.declared.Wavelet.{Wavelet}
 use Rattle.base_lengths.specs.Calls.{Level}
@@ -35,23 +35,23 @@ unfolding total
 total-end ms i h = ap total (drop_of_length-le ms h)
 
 -- r is what the checks of length i say: they pass, or they refuse
-pub bands-more : (w : Wavelet) (n : ℕ) (ms : List ℕ) (i m : ℕ) {r : Refusal} → i < length ms → m ≡ get_or ms i 0 → r ≡ first_of (inverse_bands w (n + m) n m) (Done 0 0) → done r ≡ true
-    → first_of (band_checks w n (drop i ms)) (Done 0 0) ≡ first_of (band_checks w (n + m) (drop (i + 1) ms)) (Done 0 0)
+pub bands-more : (w : Wavelet) (n : ℕ) (ms : List ℕ) (i m : ℕ) {r : Refusal} → i < length ms → m ≡ get_or ms i 0 → r ≡ first_refusal (inverse_bands w (n + m) n m) (Done 0 0) → done r ≡ true
+    → first_refusal (band_checks w n (drop i ms)) (Done 0 0) ≡ first_refusal (band_checks w (n + m) (drop (i + 1) ms)) (Done 0 0)
 unfolding band_checks
 bands-more w n ms i m h e q t =
-    ap (λ (l : List ℕ). first_of (band_checks w n l) (Done 0 0)) (at_length ms i m h e)
+    ap (λ (l : List ℕ). first_refusal (band_checks w n l) (Done 0 0)) (at_length ms i m h e)
     ∙ then-rest (inverse_bands w (n + m) n m) (band_checks w (n + m) (drop (i + 1) ms)) (Done 0 0) (refl, (refl, tt)) (sym (ap done q) ∙ t)
 
-pub bands-stop : (w : Wavelet) (n : ℕ) (ms : List ℕ) (i m : ℕ) {r : Refusal} → i < length ms → m ≡ get_or ms i 0 → r ≡ first_of (inverse_bands w (n + m) n m) (Done 0 0) → done r ≡ false
-    → r ≡ first_of (band_checks w n (drop i ms)) (Done 0 0)
+pub bands-stop : (w : Wavelet) (n : ℕ) (ms : List ℕ) (i m : ℕ) {r : Refusal} → i < length ms → m ≡ get_or ms i 0 → r ≡ first_refusal (inverse_bands w (n + m) n m) (Done 0 0) → done r ≡ false
+    → r ≡ first_refusal (band_checks w n (drop i ms)) (Done 0 0)
 unfolding band_checks
 bands-stop w n ms i m h e q t =
     say-stop (inverse_bands w (n + m) n m) (band_checks w (n + m) (drop (i + 1) ms)) (Done 0 0) q t
-    ∙ sym (ap (λ (l : List ℕ). first_of (band_checks w n l) (Done 0 0)) (at_length ms i m h e))
+    ∙ sym (ap (λ (l : List ℕ). first_refusal (band_checks w n l) (Done 0 0)) (at_length ms i m h e))
 
-pub bands-end : (w : Wavelet) (n : ℕ) (ms : List ℕ) (i : ℕ) → length ms ≤ i → first_of (band_checks w n (drop i ms)) (Done 0 0) ≡ Done 0 0
+pub bands-end : (w : Wavelet) (n : ℕ) (ms : List ℕ) (i : ℕ) → length ms ≤ i → first_refusal (band_checks w n (drop i ms)) (Done 0 0) ≡ Done 0 0
 unfolding band_checks
-bands-end w n ms i h = ap (λ (l : List ℕ). first_of (band_checks w n l) (Done 0 0)) (drop_of_length-le ms h)
+bands-end w n ms i h = ap (λ (l : List ℕ). first_refusal (band_checks w n l) (Done 0 0)) (drop_of_length-le ms h)
 
 -- each of these checks refuses, where it does, with what no done call says
 pub bands-refuse : (w : Wavelet) (n : ℕ) (ms : List ℕ) → Refusing (band_checks w n ms)

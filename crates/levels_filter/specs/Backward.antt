@@ -3,7 +3,7 @@ use Rattle.std.specs.Prelude.{not, List, [], ◌∷◌, ◌++◌, ◌≡◌, ℕ
 use Rattle.base_answers.specs.declared.err.Answer.{Answer}
 use Rattle.base_answers.specs.declared.err.Refusal.{Refusal}
 use Rattle.base_answers.specs.declared.err.Refusal.TheVariants.{Done, ZeroedBaseSize, TooLong, BadCount}
-use Rattle.base_answers.specs.Checks.{Check, first_of, ragged, Call}
+use Rattle.base_answers.specs.Checks.{Check, first_refusal, ragged, Call}
 use Rattle.base_lengths.specs.declared.Wavelet.{Wavelet}
 use Rattle.base_lengths.specs.Lengths.{most_samples, approx_length, details_length, smallest_of}
 use Rattle.base_lengths.specs.Calls.{inverse_bands}
@@ -49,7 +49,7 @@ whole_checks k a d c n u v = ragged k a ∷ ragged k d ∷ ragged 4 c ∷ ragged
 -- what `multi_idwt` says, by byte lengths; ls is the slice of lengths, each a u32
 unfoldable pub say_back : Filter → ℕ → ℕ → List ℕ → ℕ → ℕ → ℕ → Refusal
 say_back f a d ls n u v =
-    first_of
+    first_refusal
     (whole_checks (width_of f) a d (length ls) n u v ++ back_checks f (a / width_of f) (d / width_of f) (words_of 4 ls) (n / width_of f) (u / width_of f) (v / width_of f))
     (Done 0 0)
 

@@ -4,7 +4,7 @@ use Rattle.base_answers.specs.declared.err.Answer.{Answer}
 use Rattle.base_answers.specs.declared.err.Refusal.{Refusal}
 use Rattle.base_answers.specs.declared.err.Refusal.TheVariants.{Done, MinFilterSize, OutputSizeIsNotValid, BufferWasTooSmallForLevel, TooLong}
 use Rattle.base_answers.specs.Answers.{answer_of}
-use Rattle.base_answers.specs.Checks.{Check, first_of, ragged, two_areas, left, Spared, Call}
+use Rattle.base_answers.specs.Checks.{Check, first_refusal, ragged, two_areas, left, Spared, Call}
 use Rattle.base_lengths.specs.Lengths.{most_samples, approx_length, details_length}
 use Rattle.base_lengths.specs.Calls.{Level, Forward, Inverse, forward_bands}
 use Rattle.base_lengths.specs.Levels.{count_at, depth_of, levels_of}
@@ -62,7 +62,7 @@ multi_checks f l n m u v = depth_checks f l n ++ room_checks n m u v
 -- the same by byte lengths
 unfoldable pub say_multi : Filter → ℕ → ℕ → ℕ → ℕ → ℕ → Refusal
 say_multi f l n m u v =
-    first_of (ragged (width_of f) n ∷ ragged (width_of f) m ∷ ragged (width_of f) u ∷ ragged (width_of f) v
+    first_refusal (ragged (width_of f) n ∷ ragged (width_of f) m ∷ ragged (width_of f) u ∷ ragged (width_of f) v
     ∷ multi_checks f l (n / width_of f) (m / width_of f) (u / width_of f) (v / width_of f))
     (Done 0 0)
 
@@ -80,7 +80,7 @@ dwt_checks f l n a d u v =
 
 unfoldable pub say_dwt : Filter → ℕ → ℕ → ℕ → ℕ → ℕ → ℕ → Refusal
 say_dwt f l n a d u v =
-    first_of (ragged (width_of f) n ∷ ragged (width_of f) a ∷ ragged (width_of f) d ∷ ragged (width_of f) u ∷ ragged (width_of f) v
+    first_refusal (ragged (width_of f) n ∷ ragged (width_of f) a ∷ ragged (width_of f) d ∷ ragged (width_of f) u ∷ ragged (width_of f) v
     ∷ dwt_checks f l (n / width_of f) (a / width_of f) (d / width_of f) (u / width_of f) (v / width_of f))
     (Done 0 0)
 

@@ -1,6 +1,6 @@
 // What the drivers share: the levels and the room that are asked for, and where bands stand and how many bytes they are.
 ghost use Rattle.std.specs.Prelude.{◌≡◌, ◌*◌, ◌<◌, ◌≤◌, ◌^◌};
-ghost use Rattle.base_answers.specs.Checks.{first_of};
+ghost use Rattle.base_answers.specs.Checks.{first_refusal};
 ghost use Rattle.base_lengths.specs.Lengths.{most_samples};
 ghost use Rattle.levels_filter.specs.Filters.{width_of};
 ghost use Rattle.levels_filter.specs.Pyramids.{count_size, laid_size};
@@ -54,7 +54,7 @@ fn too_short(f: Filter, n: usize) -> Refusal
 
 // The levels asked for of n samples.
 pub fn check_depth(f: Filter, levels: usize, n: usize) -> Refusal
-    ensures { result ≡ first_of (depth_checks f levels n) (Refusal.Done 0 0) }
+    ensures { result ≡ first_refusal (depth_checks f levels n) (Refusal.Done 0 0) }
 {
     if MOST_SAMPLES < n {
         return Refusal::TooLong;
@@ -70,7 +70,7 @@ pub fn check_depth(f: Filter, levels: usize, n: usize) -> Refusal
 
 // Room for n samples: m of the output, u and v of the work areas.
 pub fn check_room(n: usize, m: usize, u: usize, v: usize) -> Refusal
-    ensures { result ≡ first_of (room_checks n m u v) (Refusal.Done 0 0) }
+    ensures { result ≡ first_refusal (room_checks n m u v) (Refusal.Done 0 0) }
 {
     if m != n {
         return Refusal::OutputSizeIsNotValid(m, n);

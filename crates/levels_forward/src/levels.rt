@@ -1,6 +1,6 @@
 // `multi_dwt`: the checks, and then the bands without counts.
 ghost use Rattle.std.specs.Prelude.{◌≡◌};
-ghost use Rattle.base_answers.specs.Checks.{first_of};
+ghost use Rattle.base_answers.specs.Checks.{first_refusal};
 ghost use Rattle.levels_filter.specs.Calls.{multi_checks, say_multi, Multi};
 
 use crate::bands::lay_bands;
@@ -12,7 +12,7 @@ use levels_filter::levels::{check_depth, check_room};
 
 // By samples: n of the signal, m of the output, u and v of the work areas.
 fn multi_lengths(f: Filter, levels: usize, n: usize, m: usize, u: usize, v: usize) -> Refusal
-    ensures { result ≡ first_of (multi_checks f levels n m u v) (Refusal.Done 0 0) }
+    ensures { result ≡ first_refusal (multi_checks f levels n m u v) (Refusal.Done 0 0) }
 {
     let said = check_depth(f, levels, n);
     if is_done(said) {

@@ -1,6 +1,6 @@
 // `multi_idwt`: the levels back, from the deepest, written once over the filter. Ported from the macros of osclet's src/cdf53i.rs and src/cdf53f.rs.
 ghost use Rattle.std.specs.Prelude.{[], ◌∷◌, ◌++◌, ◌≡◌, ◌+◌, ◌*◌, ◌/◌, ◌<◌, ◌≤◌, ◌^◌, length, take, drop, get_or};
-ghost use Rattle.base_answers.specs.Checks.{first_of, ragged};
+ghost use Rattle.base_answers.specs.Checks.{first_refusal, ragged};
 ghost use Rattle.base_lengths.specs.Calls.{Level};
 ghost use Rattle.base_samples.specs.Words.{words_of};
 ghost use Rattle.levels_filter.specs.Filters.{width_of, wavelet_of, back_of};
@@ -42,7 +42,7 @@ fn total_of(lengths: &[u8]) -> usize
 
 // The limits, and that there are approximations and lengths: a and d of the bands, count lengths, n of the output.
 fn back_sizes(a: usize, d: usize, count: usize, n: usize) -> Refusal
-    ensures { result ≡ first_of (size_checks a d count n) (Refusal.Done 0 0) }
+    ensures { result ≡ first_refusal (size_checks a d count n) (Refusal.Done 0 0) }
 {
     if MOST_SAMPLES < n {
         return Refusal::TooLong;
@@ -68,7 +68,7 @@ fn back_sizes(a: usize, d: usize, count: usize, n: usize) -> Refusal
 // All levels, from the deepest: what one restores is the next one's approximations.
 fn band_lengths(w: Wavelet, a: usize, lengths: &[u8]) -> Refusal
     requires { a + total (words_of 4 lengths.now) < 2 ^ 63 }
-    ensures { result ≡ first_of (band_checks w a (words_of 4 lengths.now)) (Refusal.Done 0 0) }
+    ensures { result ≡ first_refusal (band_checks w a (words_of 4 lengths.now)) (Refusal.Done 0 0) }
 {
     let count = lengths.len() / 4;
     let mut n = a;
@@ -96,7 +96,7 @@ fn back_lengths(
     u: usize,
     v: usize,
 ) -> Refusal
-    ensures { result ≡ first_of (back_checks f a d (words_of 4 lengths.now) n u v) (Refusal.Done 0 0) }
+    ensures { result ≡ first_refusal (back_checks f a d (words_of 4 lengths.now) n u v) (Refusal.Done 0 0) }
 {
     let said = back_sizes(a, d, lengths.len() / 4, n);
     if !is_done(said) {
@@ -116,7 +116,7 @@ fn back_lengths(
 // Byte lengths of what is read: samples of k bytes, and lengths of 4.
 fn whole_bands(k: usize, a: usize, d: usize, lengths: usize) -> Refusal
     requires { 0 < k }
-    ensures { result ≡ first_of (ragged k a ∷ ragged k d ∷ ragged 4 lengths ∷ []) (Refusal.Done 0 0) }
+    ensures { result ≡ first_refusal (ragged k a ∷ ragged k d ∷ ragged 4 lengths ∷ []) (Refusal.Done 0 0) }
 {
     if a % k != 0 {
         return Refusal::BadCount(0, a);

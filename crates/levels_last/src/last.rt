@@ -1,6 +1,6 @@
 // `dwt`: the last level's two bands. The levels above it make approximations alone, from one work area to the other.
 ghost use Rattle.std.specs.Prelude.{◌≡◌, ◌+◌, ◌-◌, ◌*◌, length, take, drop};
-ghost use Rattle.base_answers.specs.Checks.{first_of};
+ghost use Rattle.base_answers.specs.Checks.{first_refusal};
 ghost use Rattle.base_lengths.specs.Lengths.{approx_length};
 ghost use Rattle.base_lengths.specs.Levels.{count_at};
 ghost use Rattle.levels_filter.specs.Filters.{width_of, low_of};
@@ -86,7 +86,7 @@ fn dwt_lengths(
     u: usize,
     v: usize,
 ) -> Refusal
-    ensures { result ≡ first_of (dwt_checks f levels n a d u v) (Refusal.Done 0 0) }
+    ensures { result ≡ first_refusal (dwt_checks f levels n a d u v) (Refusal.Done 0 0) }
 {
     if MOST_SAMPLES < n {
         return Refusal::TooLong;

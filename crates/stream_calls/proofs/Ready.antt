@@ -10,7 +10,7 @@ use lib.ListN.{length}
 use Rattle.base_answers.specs.declared.err.Refusal.{Refusal}
 use Rattle.base_answers.specs.declared.err.Refusal.TheVariants.{Done}
 use Rattle.base_answers.specs.Answers.{done}
-use Rattle.base_answers.specs.Checks.{Check, first_of}
+use Rattle.base_answers.specs.Checks.{Check, first_refusal}
 use Rattle.base_answers.proofs.Passed.{Refusing, Passing, passing, both-pass, through, say-rest, say-stop, whole, roomy}
 use Rattle.base_lengths.specs.Lengths.{most_samples, approx_length, details_length}
 use Rattle.base_lengths.proofs.OneLevel.{whole-passes}
@@ -28,11 +28,11 @@ use Rattle.stream_calls.proofs.States.{could-be, passes}
 
 -- r is what l says, and t whether that is done: where it is not, the two together say r, and else what m says
 pub record Split (l m : List Check) (r : Refusal) (t : Bool) : Type 0 where
-  pub stops : not t ≡ true → r ≡ first_of (l ++ m) (Done 0 0)
+  pub stops : not t ≡ true → r ≡ first_refusal (l ++ m) (Done 0 0)
   pub passed : not t ≡ false → Passing l
-  pub goes : not t ≡ false → {z : Refusal} → z ≡ first_of m (Done 0 0) → z ≡ first_of (l ++ m) (Done 0 0)
+  pub goes : not t ≡ false → {z : Refusal} → z ≡ first_refusal m (Done 0 0) → z ≡ first_refusal (l ++ m) (Done 0 0)
 
-pub split : (l m : List Check) {r : Refusal} {t : Bool} → Refusing l → r ≡ first_of l (Done 0 0) → t ≡ done r → Split l m r t
+pub split : (l m : List Check) {r : Refusal} {t : Bool} → Refusing l → r ≡ first_refusal l (Done 0 0) → t ≡ done r → Split l m r t
 split l m {t = t} x e told =
     record {
       stops = λ h. say-stop l m (Done 0 0) e (sym told ∙ not-true t h);
@@ -61,10 +61,10 @@ module _ (k : ℕ) (b : List ℕ) (y a d : ℕ) where
 
   -- a call with its own checks m behind those: from "done" to the facts, and back
   module _ (m : List Check) where
-    ready : Refusing m → done (first_of (l ++ m) (Done 0 0)) ≡ true → Lent k b y a d × Passing m
+    ready : Refusing m → done (first_refusal (l ++ m) (Done 0 0)) ≡ true → Lent k b y a d × Passing m
     ready x h = let q = both-pass l m (passing (l ++ m) (Done 0 0) (refl, (refl, (refl, (refl, x)))) h) in (lent_of q.0, q.1)
 
-    says-done : Lent k b y a d → Passing m → first_of (l ++ m) (Done 0 0) ≡ Done 0 0
+    says-done : Lent k b y a d → Passing m → first_refusal (l ++ m) (Done 0 0) ≡ Done 0 0
     says-done h q =
         through (l ++ m) (Done 0 0)
         (whole-passes k _ y h.piece, (whole-passes k _ a h.approx, (whole-passes k _ d h.details, (ap not (passes b h.long h.state), q))))

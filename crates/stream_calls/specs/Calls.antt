@@ -4,7 +4,7 @@ use Rattle.base_answers.specs.declared.err.Answer.{Answer}
 use Rattle.base_answers.specs.declared.err.Refusal.{Refusal}
 use Rattle.base_answers.specs.declared.err.Refusal.TheVariants.{Done, MinFilterSize, TooLong, BadCount}
 use Rattle.base_answers.specs.Answers.{answer_of}
-use Rattle.base_answers.specs.Checks.{Check, first_of, ragged, tight, left, in_front}
+use Rattle.base_answers.specs.Checks.{Check, first_refusal, ragged, tight, left, in_front}
 use Rattle.base_lengths.specs.declared.Wavelet.TheVariants.{Cdf53}
 use Rattle.base_lengths.specs.Lengths.{most_samples, approx_length, details_length, smallest_of}
 use Rattle.filter_cdf53i.specs.Bands.{low, high}
@@ -37,7 +37,7 @@ abbrev pub piece_checks : ℕ → ℕ → ℕ → ℕ → ℕ → List Check
 piece_checks k t y a d = let n = t + y / k in (ltb most_samples n, TooLong) ∷ band_checks (a / k) (d / k) (fixed t) (fixed n) (fixed n)
 
 unfoldable pub say_piece : ℕ → List ℕ → ℕ → ℕ → ℕ → Refusal
-say_piece k b y a d = first_of (lent_checks k b y a d ++ piece_checks k (state_in b).total y a d) (Done 0 0)
+say_piece k b y a d = first_refusal (lent_checks k b y a d ++ piece_checks k (state_in b).total y a d) (Done 0 0)
 
 abbrev pub Piece : ℕ → List ℕ → List ℕ → List ℕ → List ℕ → Answer → List ℕ → List ℕ → List ℕ → Type 0
 Piece k b y a d =
@@ -56,7 +56,7 @@ finish_checks k t a d =
     (ltb t (smallest_of Cdf53), MinFilterSize t (smallest_of Cdf53)) ∷ band_checks (a / k) (d / k) (fixed t) (approx_length t) (details_length t)
 
 unfoldable pub say_finish : ℕ → List ℕ → ℕ → ℕ → Refusal
-say_finish k b a d = first_of (lent_checks k b 0 a d ++ finish_checks k (state_in b).total a d) (Done 0 0)
+say_finish k b a d = first_refusal (lent_checks k b 0 a d ++ finish_checks k (state_in b).total a d) (Done 0 0)
 
 abbrev pub Finish : ℕ → List ℕ → List ℕ → List ℕ → Answer → List ℕ → List ℕ → List ℕ → Type 0
 Finish k b a d =

@@ -1,6 +1,6 @@
 // The checks of the two calls, in the order of documents 01 and 02.
 ghost use Rattle.std.specs.Prelude.{◌≡◌, ◌≤◌};
-ghost use Rattle.base_answers.specs.Checks.{first_of};
+ghost use Rattle.base_answers.specs.Checks.{first_refusal};
 ghost use Rattle.base_samples.specs.Integers.{Width};
 ghost use Rattle.stream_calls.specs.Calls.{lent_checks, band_checks, say_piece, say_finish};
 
@@ -13,7 +13,7 @@ use stream_pieces::recorder::fixed;
 // What both calls ask: whole lengths in bytes, of a piece and of the two areas, and a state that calls can have left.
 fn check_lent(k: usize, b: &[u8], y: usize, a: usize, d: usize) -> Refusal
     requires { Width k }
-    ensures { result ≡ first_of (lent_checks k b.now y a d) (Refusal.Done 0 0) }
+    ensures { result ≡ first_refusal (lent_checks k b.now y a d) (Refusal.Done 0 0) }
 {
     let whole = check_whole(k, y, a, d);
     if !is_done(whole) {
@@ -28,7 +28,7 @@ fn check_lent(k: usize, b: &[u8], y: usize, a: usize, d: usize) -> Refusal
 // The room for what comes after the first m of each band, up to so many of each.
 fn check_bands(a: usize, d: usize, m: usize, lows: usize, highs: usize) -> Refusal
     requires { (m ≤ lows) × (m ≤ highs) }
-    ensures { result ≡ first_of (band_checks a d m lows highs) (Refusal.Done 0 0) }
+    ensures { result ≡ first_refusal (band_checks a d m lows highs) (Refusal.Done 0 0) }
 {
     if a < lows - m {
         return Refusal::NoRoom(a, lows - m);

@@ -12,7 +12,7 @@ use Rattle.base_answers.specs.declared.err.Answer.{Answer}
 use Rattle.base_answers.specs.declared.err.Refusal.{Refusal}
 use Rattle.base_answers.specs.declared.err.Refusal.TheVariants.{Done, NoSuchPlace}
 use Rattle.base_answers.specs.Answers.{answer_of, done}
-use Rattle.base_answers.specs.Checks.{first_of}
+use Rattle.base_answers.specs.Checks.{first_refusal}
 use Rattle.base_order.proofs.Order.{lt-or-le}
 use Rattle.base_answers.proofs.Passed.{Passing, passing, both-pass, pass-both, through, say-rest, say-stop}
 use Rattle.base_answers.proofs.Chain.{by, stop}
@@ -41,22 +41,22 @@ passes n l q =
     record { some = some; few = ltb-false most_samples n q.0; wide = within-depth n l some (ltb-false (depth_of Cdf53 n) l q.1.1.0) }
 
 -- a call that asks for its level first: r is what the level's checks said, and b whether they passed
-module _ (n l : ℕ) {r : Refusal} {b : Bool} (e : r ≡ first_of (level_checks n l) (Done 0 0)) (d : b ≡ done r) where
+module _ (n l : ℕ) {r : Refusal} {b : Bool} (e : r ≡ first_refusal (level_checks n l) (Done 0 0)) (d : b ≡ done r) where
   pub drawn : not b ≡ false → Drawn n l
   drawn h = passes n l (passing (level_checks n l) (Done 0 0) (refl, (refl, (refl, tt))) (sym (ap done e) ∙ sym d ∙ not-false b h))
 
   -- where it ends: at the level, at the place, or with what it has to say
   module _ (place limit : ℕ) (z : Refusal) where
-    past : {t : Refusal} → not b ≡ false → t ≡ first_of (place_checks place limit) z → t ≡ first_of (note_checks n l place limit) z
+    past : {t : Refusal} → not b ≡ false → t ≡ first_refusal (place_checks place limit) z → t ≡ first_refusal (note_checks n l place limit) z
     past h g = say-rest (level_checks n l) (place_checks place limit) z (refl, (refl, (refl, tt))) e (sym d ∙ not-false b h) g
 
-    pub level-stops : not b ≡ true → r ≡ first_of (note_checks n l place limit) z
+    pub level-stops : not b ≡ true → r ≡ first_refusal (note_checks n l place limit) z
     level-stops h = say-stop (level_checks n l) (place_checks place limit) z e (sym d ∙ not-true b h)
 
-    pub place-stops : (m : ℕ) → m ≡ limit → not b ≡ false → m ≤ place → NoSuchPlace place m ≡ first_of (note_checks n l place limit) z
+    pub place-stops : (m : ℕ) → m ≡ limit → not b ≡ false → m ≤ place → NoSuchPlace place m ≡ first_refusal (note_checks n l place limit) z
     place-stops m q h g = past h (stop z (ap not (le-ltb place limit (omega arith))) (ap (NoSuchPlace place) q))
 
-    pub place-passes : {t : Refusal} → not b ≡ false → place < limit → t ≡ z → t ≡ first_of (note_checks n l place limit) z
+    pub place-passes : {t : Refusal} → not b ≡ false → place < limit → t ≡ z → t ≡ first_refusal (note_checks n l place limit) z
     place-passes h g q = past h (by (NoSuchPlace place limit) (ap not (lt-ltb place limit g)) q)
 
 -- two to the level fits, and to one level more
@@ -84,13 +84,13 @@ level-passes n l few some deep = (le-ltb most_samples n few, (ne_eqb l 0 (λ z. 
 
 module _ (n l place limit : ℕ) (z : Refusal) where
   -- and a place below the limit
-  note-says : Passing (level_checks n l) → place < limit → first_of (note_checks n l place limit) z ≡ z
+  note-says : Passing (level_checks n l) → place < limit → first_refusal (note_checks n l place limit) z ≡ z
   note-says h g = through (note_checks n l place limit) z (pass-both (level_checks n l) (place_checks place limit) h (ap not (lt-ltb place limit g), tt))
 
   -- what a done call has passed, and its answer q
-  note-told : (q : Answer) → q ≡ answer_of (first_of (note_checks n l place limit) z) → q.number ≡ 0 → Passing (level_checks n l) × (place < limit) × (q ≡ answer_of z)
+  note-told : (q : Answer) → q ≡ answer_of (first_refusal (note_checks n l place limit) z) → q.number ≡ 0 → Passing (level_checks n l) × (place < limit) × (q ≡ answer_of z)
   note-told q e t =
-      let v = passing (note_checks n l place limit) z (refl, (refl, (refl, (refl, tt)))) (is-done (first_of (note_checks n l place limit) z) q e t) in
+      let v = passing (note_checks n l place limit) z (refl, (refl, (refl, (refl, tt)))) (is-done (first_refusal (note_checks n l place limit) z) q e t) in
       let b = both-pass (level_checks n l) (place_checks place limit) v in
       (b.0, ltb-true place limit (not-false _ b.1.0), e ∙ ap answer_of (through (note_checks n l place limit) z v))
 

@@ -3,7 +3,7 @@
 use Rattle.std.specs.Prelude.{List, [], ◌∷◌, ◌++◌, ℕ, ◌/◌, ◌^◌, ◌≤◌, ◌<◌, ltb, eqb}
 use Rattle.base_answers.specs.declared.err.Refusal.{Refusal}
 use Rattle.base_answers.specs.declared.err.Refusal.TheVariants.{Done, TooLong, NoSuchPlace}
-use Rattle.base_answers.specs.Checks.{Check, first_of, outside}
+use Rattle.base_answers.specs.Checks.{Check, first_refusal, outside}
 use Rattle.base_lengths.specs.declared.Wavelet.TheVariants.{Cdf53}
 use Rattle.base_lengths.specs.Lengths.{most_samples}
 use Rattle.base_lengths.specs.Levels.{depth_of}
@@ -32,11 +32,11 @@ note_checks n l place limit = level_checks n l ++ place_checks place limit
 
 -- "a depth or column is the first"; sample s is one of n
 unfoldable pub say_column : ℕ → ℕ → ℕ → Refusal
-say_column n l s = first_of (note_checks n l s n) (Done (column_of l s) 0)
+say_column n l s = first_refusal (note_checks n l s n) (Done (column_of l s) 0)
 
 -- "a span is both"; coefficient p is one of its band's, "13 as before, now for details too"
 unfoldable pub say_span : Band → ℕ → ℕ → ℕ → Refusal
-say_span b n l p = first_of (note_checks n l p (band_count b l n)) (Done (span_of b n l p).0 (span_of b n l p).1)
+say_span b n l p = first_refusal (note_checks n l p (band_count b l n)) (Done (span_of b n l p).0 (span_of b n l p).1)
 
 -- what the checks of a level leave: a level, not too many samples, and more of them than show at one approximation
 pub record Drawn (n l : ℕ) : Type 0 where

@@ -1,7 +1,7 @@
 // Notes stand at samples, drawn columns at coefficients. Document 01, "Notes and their spans"; document 02, C-13.
 ghost use Rattle.std.specs.Prelude.{◌≡◌, ◌+◌, ◌-◌, ◌^◌, ◌<◌};
 ghost use Rattle.base_answers.specs.Answers.{answer_of};
-ghost use Rattle.base_answers.specs.Checks.{first_of};
+ghost use Rattle.base_answers.specs.Checks.{first_refusal};
 ghost use Rattle.view_spans.specs.Spans.{reach_of, clipped_ends, span_of, band_count};
 ghost use Rattle.view_notes.specs.Notes.{column_of, level_checks, say_column, say_span, Drawn};
 
@@ -93,7 +93,7 @@ fn band_count(b: Band, level: usize, n: usize) -> usize
 
 // A level of a recording, from 1 to its depth.
 fn check_level(n: usize, level: usize) -> Refusal
-    ensures { result ≡ first_of (level_checks n level) (Refusal.Done 0 0) }
+    ensures { result ≡ first_refusal (level_checks n level) (Refusal.Done 0 0) }
 {
     if MOST_SAMPLES < n {
         return Refusal::TooLong;

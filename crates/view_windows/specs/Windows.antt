@@ -5,7 +5,7 @@ use Rattle.std.specs.Borrow.{Bor}
 use Rattle.base_answers.specs.declared.err.Refusal.{Refusal}
 use Rattle.base_answers.specs.declared.err.Refusal.TheVariants.{Done, NoSuchPlace}
 use Rattle.base_answers.specs.Answers.{done}
-use Rattle.base_answers.specs.Checks.{Check, first_of, ragged}
+use Rattle.base_answers.specs.Checks.{Check, first_refusal, ragged}
 use Rattle.view_windows.specs.declared.window.SampleWidth.{SampleWidth}
 use Rattle.view_windows.specs.declared.window.SampleWidth.TheVariants.{One, Two, Four, Eight}
 
@@ -27,7 +27,7 @@ stretch_checks m start count = (eqb count 0, NoSuchPlace start m) ∷ (ltb m (st
 -- the same by byte lengths, after "this 9 comes before all else (.. approximations before details ..)"; done: place and length, in bytes
 unfoldable pub say_window : ℕ → ℕ → ℕ → ℕ → ℕ → ℕ → Refusal
 say_window k a d band start count =
-    first_of (ragged k a ∷ ragged k d ∷ stretch_checks (band_of band a d / k) start count) (Done (k * start) (k * count))
+    first_refusal (ragged k a ∷ ragged k d ∷ stretch_checks (band_of band a d / k) start count) (Done (k * start) (k * count))
 
 -- the stretch of the band; "when refused, .. an empty stretch"
 unfoldable pub window_in : ℕ → List ℕ → List ℕ → ℕ → ℕ → ℕ → List ℕ

@@ -1,7 +1,7 @@
 // A stretch of one of two lent bands: the part itself, or where it stands. Document 01, "The pyramid file".
 ghost use Rattle.std.specs.Prelude.{◌≡◌, ◌*◌, ◌^◌, ◌<◌, length};
 ghost use Rattle.base_answers.specs.Answers.{answer_of};
-ghost use Rattle.base_answers.specs.Checks.{first_of};
+ghost use Rattle.base_answers.specs.Checks.{first_refusal};
 ghost use Rattle.view_windows.specs.Windows.{bytes_each, band_of, stretch_checks, say_window, window_in, window_at};
 
 use base_answers::err::{Answer, Refusal, numbers};
@@ -42,7 +42,7 @@ fn asked<'a>(band: u32, approx: &'a [u8], details: &'a [u8]) -> &'a [u8]
 // So many samples from a start, of m samples: start + count may not fit, so that it is never formed.
 fn check_stretch(k: usize, m: usize, start: usize, count: usize) -> Refusal
     requires { k * m < 2 ^ 64 }
-    ensures { result ≡ first_of (stretch_checks m start count) (Refusal.Done (k * start) (k * count)) }
+    ensures { result ≡ first_refusal (stretch_checks m start count) (Refusal.Done (k * start) (k * count)) }
 {
     if count == 0 {
         return Refusal::NoSuchPlace(start, m);

@@ -5,7 +5,7 @@ use Prim.Native.Nat.{ℕ}
 use Rattle.base_answers.specs.declared.err.Refusal.{Refusal}
 use Rattle.base_answers.specs.declared.err.Refusal.TheVariants.{Done}
 use Rattle.base_answers.specs.Answers.{answer_of, done}
-use Rattle.base_answers.specs.Checks.{first_of}
+use Rattle.base_answers.specs.Checks.{first_refusal}
 use Rattle.base_answers.proofs.Chain.{by, stop}
 use Rattle.base_answers.proofs.Passed.{Passing, passing, through, roomy, other-end}
 use Rattle.base_lengths.specs.Lengths.{most_samples}
@@ -23,14 +23,14 @@ use Rattle.file_head.specs.Heads.{say_size}
 use Rattle.file_head.proofs.size.Goals as goal
 
 -- past the width: what the rest of the list says, of the filter that the code asks
-past : (w n l : ℕ) (f : Filter) {z : Refusal} → is_width w ≡ true → f ≡ filter_of w → z ≡ first_of (depth_checks f l n) (Done (file_size new_size w (levels_of l) n) 0) → answer_of z ≡ answer_of (say_size w n l)
+past : (w n l : ℕ) (f : Filter) {z : Refusal} → is_width w ≡ true → f ≡ filter_of w → z ≡ first_refusal (depth_checks f l n) (Done (file_size new_size w (levels_of l) n) 0) → answer_of z ≡ answer_of (say_size w n l)
 unfolding say_size
 past w n l f known ef q =
     let e = Done (file_size new_size w (levels_of l) n) 0 in
-    ap answer_of (by _ (ap not known) (q ∙ ap (λ (g : Filter). first_of (depth_checks g l n) e) ef))
+    ap answer_of (by _ (ap not known) (q ∙ ap (λ (g : Filter). first_refusal (depth_checks g l n) e) ef))
 
 -- the levels passed
-passes : (f : Filter) (l n : ℕ) {r : Refusal} → r ≡ first_of (depth_checks f l n) (Done 0 0) → done r ≡ true → Passing (depth_checks f l n)
+passes : (f : Filter) (l n : ℕ) {r : Refusal} → r ≡ first_refusal (depth_checks f l n) (Done 0 0) → done r ≡ true → Passing (depth_checks f l n)
 passes f l n e d = passing (depth_checks f l n) (Done 0 0) (depth-refuse f l n) (sym (ap done e) ∙ d)
 
 pub returns-then-not-is_width : goal.returns-then-not-is_width

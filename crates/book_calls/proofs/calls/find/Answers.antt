@@ -8,7 +8,7 @@ use lib.ListN.{length}
 use Rattle.base_answers.specs.declared.err.Refusal.{Refusal}
 use Rattle.base_answers.specs.declared.err.Refusal.TheVariants.{Done}
 use Rattle.base_answers.specs.Answers.{answer_of, done}
-use Rattle.base_answers.specs.Checks.{first_of}
+use Rattle.base_answers.specs.Checks.{first_refusal}
 use Rattle.base_answers.proofs.Passed.{Passing, passing, through, other-end}
 use Rattle.book_entries.specs.Books.{data_at, size_by, entries_in, slot_of, place_at, size_at}
 use Rattle.book_entries.specs.Checks.{Book, held_checks, say_find}
@@ -17,7 +17,7 @@ use Rattle.book_entries.proofs.Passed.{held-refuses, held-passes, held_below}
 use Rattle.book_calls.proofs.calls.find.Goals as goal
 
 -- the checks pass: it is a book, and holds the point
-passes : (b : List ℕ) (p : ℕ) {r : Refusal} → r ≡ first_of (held_checks b p) (Done 0 0) → done r ≡ true → Passing (held_checks b p)
+passes : (b : List ℕ) (p : ℕ) {r : Refusal} → r ≡ first_refusal (held_checks b p) (Done 0 0) → done r ≡ true → Passing (held_checks b p)
 passes b p e h = passing (held_checks b p) (Done 0 0) (held-refuses b p) (sym (ap done e) ∙ h)
 
 known : (b : List ℕ) (p : ℕ) → Passing (held_checks b p) → Book b × (slot_of p (entries_in b) < length (entries_in b))

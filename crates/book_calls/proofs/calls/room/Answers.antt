@@ -8,7 +8,7 @@ use lib.ListN.{length}
 use Rattle.base_answers.specs.declared.err.Refusal.{Refusal}
 use Rattle.base_answers.specs.declared.err.Refusal.TheVariants.{Done}
 use Rattle.base_answers.specs.Answers.{answer_of, done}
-use Rattle.base_answers.specs.Checks.{first_of}
+use Rattle.base_answers.specs.Checks.{first_refusal}
 use Rattle.base_answers.proofs.Passed.{Passing, passing, through, other-end}
 use Rattle.book_entries.specs.Books.{data_at}
 use Rattle.book_entries.specs.Checks.{book_checks, say_room}
@@ -18,7 +18,7 @@ use Rattle.book_entries.proofs.Passed.{book-refuses, book-passes}
 use Rattle.book_calls.proofs.calls.room.Goals as goal
 
 -- the checks pass: it is a book
-passes : (b : List ℕ) {r : Refusal} → r ≡ first_of (book_checks b) (Done 0 0) → done r ≡ true → Passing (book_checks b)
+passes : (b : List ℕ) {r : Refusal} → r ≡ first_refusal (book_checks b) (Done 0 0) → done r ≡ true → Passing (book_checks b)
 passes b e h = passing (book_checks b) (Done 0 0) (book-refuses b) (sym (ap done e) ∙ h)
 
 pub returns-then-not-is_done : goal.returns-then-not-is_done

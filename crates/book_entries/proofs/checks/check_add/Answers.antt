@@ -7,7 +7,7 @@ use lib.ListN.{length}
 use Rattle.base_answers.specs.declared.err.Refusal.{Refusal}
 use Rattle.base_answers.specs.declared.err.Refusal.TheVariants.{Done}
 use Rattle.base_answers.specs.Answers.{done}
-use Rattle.base_answers.specs.Checks.{Check, first_of}
+use Rattle.base_answers.specs.Checks.{Check, first_refusal}
 use Rattle.base_answers.proofs.Passed.{say-rest, say-stop}
 use Rattle.book_entries.specs.Checks.{book_checks, whole_checks, room_checks, say_add}
 use Rattle.book_entries.proofs.Passed.{book-refuses, whole-refuses}
@@ -18,7 +18,7 @@ abbrev rest : List ℕ → ℕ → List ℕ → List Check
 rest b p s = whole_checks s p ++ room_checks b p (length s)
 
 -- past the book
-past : (b s : List ℕ) (p : ℕ) {r z : Refusal} → r ≡ first_of (book_checks b) (Done 0 0) → done r ≡ true → z ≡ first_of (rest b p s) (Done 0 0) → z ≡ say_add b p s
+past : (b s : List ℕ) (p : ℕ) {r z : Refusal} → r ≡ first_refusal (book_checks b) (Done 0 0) → done r ≡ true → z ≡ first_refusal (rest b p s) (Done 0 0) → z ≡ say_add b p s
 unfolding say_add
 past b s p e h q = say-rest (book_checks b) (rest b p s) (Done 0 0) (book-refuses b) e h q
 

@@ -5,7 +5,7 @@ use mathlib.Core.Path.{◌≡◌, sym, ap, ◌∙◌}
 use Prim.Native.Nat.{ℕ}
 use Rattle.base_answers.specs.declared.err.Refusal.TheVariants.{Done}
 use Rattle.base_answers.specs.Answers.{done}
-use Rattle.base_answers.specs.Checks.{first_of}
+use Rattle.base_answers.specs.Checks.{first_refusal}
 use Rattle.base_samples.specs.Le.{le_at}
 use Rattle.file_open.specs.declared.head.Head.{Head}
 use Rattle.file_open.specs.Files.{is_count}
@@ -21,7 +21,7 @@ tested b i en et = ap is_count (count-read b i ∙ sym en) ∙ sym et
 
 -- what the fields say
 abbrev fields : Head → Bool
-fields h = done (first_of (field_checks h h.width h.point) (Done 0 0))
+fields h = done (first_refusal (field_checks h h.width h.point) (Done 0 0))
 
 pub returns-then-not-is_count : goal.returns-then-not-is_count
 returns-then-not-is_count c = no _ (tested c.args.b.now c.args.i c.read_u32-count.ensures c.is_count.ensures ∙ c.if-not-is_count.true)

@@ -8,7 +8,7 @@ use lib.ListN.{length}
 use Rattle.base_answers.specs.declared.err.Refusal.{Refusal}
 use Rattle.base_answers.specs.declared.err.Refusal.TheVariants.{Done}
 use Rattle.base_answers.specs.Answers.{done}
-use Rattle.base_answers.specs.Checks.{first_of}
+use Rattle.base_answers.specs.Checks.{first_refusal}
 use Rattle.base_answers.proofs.Passed.{Passing, passing, through, say-rest, say-stop, other-end}
 use Rattle.base_lengths.specs.Levels.{count_at}
 use Rattle.file_open.specs.declared.head.Head.{Head}
@@ -18,22 +18,22 @@ use Rattle.file_open.proofs.Opening.{Headed, head-refuses, head-passes, way-refu
 use Rattle.file_open.proofs.open.check_file.Goals as goal
 
 -- past section 0: the whole list says what the way says
-past : (s : List ℕ) (w p : ℕ) {y z : Refusal} → y ≡ first_of (head_checks s w p) (Done 0 0) → done y ≡ true
-    → z ≡ first_of (way_checks (way_in s (head_in s)) (length s)) (Done (level_in s) (count_in s)) → z ≡ say_file s w p
+past : (s : List ℕ) (w p : ℕ) {y z : Refusal} → y ≡ first_refusal (head_checks s w p) (Done 0 0) → done y ≡ true
+    → z ≡ first_refusal (way_checks (way_in s (head_in s)) (length s)) (Done (level_in s) (count_in s)) → z ≡ say_file s w p
 unfolding say_file
 past s w p e d q = say-rest (head_checks s w p) (way_checks (way_in s (head_in s)) (length s)) (Done (level_in s) (count_in s)) (head-refuses s w p) e d q
 
 -- what section 0 tells
-headed : (s : List ℕ) (w p : ℕ) {y : Refusal} → y ≡ first_of (head_checks s w p) (Done 0 0) → done y ≡ true → Headed s w
+headed : (s : List ℕ) (w p : ℕ) {y : Refusal} → y ≡ first_refusal (head_checks s w p) (Done 0 0) → done y ≡ true → Headed s w
 headed s w p e d = head-passes s w p (passing (head_checks s w p) (Done 0 0) (head-refuses s w p) (sym (ap done e) ∙ d))
 
 -- what the way is checked to be
-checked : (s : List ℕ) (v : Way) (h : Head) {r : Refusal} → r ≡ first_of (way_checks v (length s)) (Done 0 0) → v ≡ way_in s h → h ≡ head_in s
-    → r ≡ first_of (way_checks (way_in s (head_in s)) (length s)) (Done 0 0)
-checked s v h e ev eh = e ∙ ap (λ (u : Way). first_of (way_checks u (length s)) (Done 0 0)) (ev ∙ ap (λ (i : Head). way_in s i) eh)
+checked : (s : List ℕ) (v : Way) (h : Head) {r : Refusal} → r ≡ first_refusal (way_checks v (length s)) (Done 0 0) → v ≡ way_in s h → h ≡ head_in s
+    → r ≡ first_refusal (way_checks (way_in s (head_in s)) (length s)) (Done 0 0)
+checked s v h e ev eh = e ∙ ap (λ (u : Way). first_refusal (way_checks u (length s)) (Done 0 0)) (ev ∙ ap (λ (i : Head). way_in s i) eh)
 
 -- it passes
-passes : (s : List ℕ) {r : Refusal} → r ≡ first_of (way_checks (way_in s (head_in s)) (length s)) (Done 0 0) → done r ≡ true → Passing (way_checks (way_in s (head_in s)) (length s))
+passes : (s : List ℕ) {r : Refusal} → r ≡ first_refusal (way_checks (way_in s (head_in s)) (length s)) (Done 0 0) → done r ≡ true → Passing (way_checks (way_in s (head_in s)) (length s))
 passes s e d = passing (way_checks (way_in s (head_in s)) (length s)) (Done 0 0) (way-refuses (way_in s (head_in s)) (length s)) (sym (ap done e) ∙ d)
 
 -- the detail sections that are whole, as the code has them, are some of all

@@ -7,7 +7,7 @@ use Rattle.base_answers.specs.declared.err.Answer.{Answer}
 use Rattle.base_answers.specs.declared.err.Refusal.{Refusal}
 use Rattle.base_answers.specs.declared.err.Refusal.TheVariants.{Done}
 use Rattle.base_answers.specs.Answers.{answer_of, done}
-use Rattle.base_answers.specs.Checks.{Check, first_of}
+use Rattle.base_answers.specs.Checks.{Check, first_refusal}
 use Rattle.base_answers.proofs.Passed.{passing, through, say-rest, say-stop, other-end}
 use Rattle.base_samples.proofs.IntegerLaws.{width-of}
 use Rattle.file_open.specs.Opens.{file_checks, level_in, count_in, say_file, area_checks, rooms_for, say_open}
@@ -19,16 +19,16 @@ abbrev rest : List ℕ → ℕ → ℕ → ℕ → ℕ → ℕ → List Check
 rest s w p o u v = file_checks s w p ++ rooms_for w (count_in s) o u v
 
 -- past the areas: the whole list says what the rest says
-past : (s : List ℕ) (w p o u v : ℕ) {y z : Refusal} → y ≡ first_of (area_checks w o u v) (Done 0 0) → done y ≡ true → z ≡ first_of (rest s w p o u v) (Done (level_in s) (count_in s)) → z ≡ say_open s w p o u v
+past : (s : List ℕ) (w p o u v : ℕ) {y z : Refusal} → y ≡ first_refusal (area_checks w o u v) (Done 0 0) → done y ≡ true → z ≡ first_refusal (rest s w p o u v) (Done (level_in s) (count_in s)) → z ≡ say_open s w p o u v
 unfolding say_open
 past s w p o u v e d q = say-rest (area_checks w o u v) (rest s w p o u v) (Done (level_in s) (count_in s)) (area-refuses w o u v) e d q
 
 -- the rooms, for the count that is said of a file that is taken
-rooms : (s : List ℕ) (w p o u v : ℕ) (a : Answer) {f r : Refusal} → f ≡ say_file s w p → done (say_file s w p) ≡ true → a ≡ answer_of f → r ≡ first_of (rooms_for w a.second o u v) (Done 0 0)
-    → r ≡ first_of (rooms_for w (count_in s) o u v) (Done 0 0)
+rooms : (s : List ℕ) (w p o u v : ℕ) (a : Answer) {f r : Refusal} → f ≡ say_file s w p → done (say_file s w p) ≡ true → a ≡ answer_of f → r ≡ first_refusal (rooms_for w a.second o u v) (Done 0 0)
+    → r ≡ first_refusal (rooms_for w (count_in s) o u v) (Done 0 0)
 rooms s w p o u v a ef d ea e =
     let count : a.second ≡ count_in s = ap (λ (r : Answer). r.second) (ea ∙ ap answer_of (ef ∙ file-says s w p d)) in
-    e ∙ ap (λ (n : ℕ). first_of (rooms_for w n o u v) (Done 0 0)) count
+    e ∙ ap (λ (n : ℕ). first_refusal (rooms_for w n o u v) (Done 0 0)) count
 
 -- the file is taken
 taken : (s : List ℕ) (w p : ℕ) {f : Refusal} → f ≡ say_file s w p → done f ≡ true → done (say_file s w p) ≡ true

@@ -7,7 +7,7 @@ use lib.ListN.{length}
 use Rattle.base_answers.specs.declared.err.Refusal.{Refusal}
 use Rattle.base_answers.specs.declared.err.Refusal.TheVariants.{Done}
 use Rattle.base_answers.specs.Answers.{done}
-use Rattle.base_answers.specs.Checks.{Check, first_of}
+use Rattle.base_answers.specs.Checks.{Check, first_refusal}
 use Rattle.base_answers.proofs.Passed.{say-rest, say-stop}
 use Rattle.file_open.specs.declared.head.Head.{Head}
 use Rattle.file_open.specs.Opens.{head_in, head_checks, way_to, section_checks, number_checks, start_of, length_of, say_section}
@@ -18,12 +18,12 @@ abbrev there : List ℕ → ℕ → Refusal
 there s j = Done (start_of s (head_in s) j) (length_of (head_in s) j)
 
 -- past section 0: the whole list says what the rest says
-past1 : (s : List ℕ) (w p j : ℕ) (m : List Check) {y z : Refusal} → y ≡ first_of (head_checks s w p) (Done 0 0) → done y ≡ true → z ≡ first_of m (there s j) → z ≡ first_of (head_checks s w p ++ m) (there s j)
+past1 : (s : List ℕ) (w p j : ℕ) (m : List Check) {y z : Refusal} → y ≡ first_refusal (head_checks s w p) (Done 0 0) → done y ≡ true → z ≡ first_refusal m (there s j) → z ≡ first_refusal (head_checks s w p ++ m) (there s j)
 past1 s w p j m e d q = say-rest (head_checks s w p) m (there s j) (head-refuses s w p) e d q
 
 -- the number, of the levels that section 0 says
-number : (s : List ℕ) (j : ℕ) (h : Head) {r : Refusal} → r ≡ first_of (number_checks j h.levels) (Done 0 0) → h ≡ head_in s → r ≡ first_of (number_checks j (head_in s).levels) (Done 0 0)
-number s j h e eh = e ∙ ap (λ (l : ℕ). first_of (number_checks j l) (Done 0 0)) (ap (λ (i : Head). i.levels) eh)
+number : (s : List ℕ) (j : ℕ) (h : Head) {r : Refusal} → r ≡ first_refusal (number_checks j h.levels) (Done 0 0) → h ≡ head_in s → r ≡ first_refusal (number_checks j (head_in s).levels) (Done 0 0)
+number s j h e eh = e ∙ ap (λ (l : ℕ). first_refusal (number_checks j l) (Done 0 0)) (ap (λ (i : Head). i.levels) eh)
 
 pub returns-then-not-is_done : goal.returns-then-not-is_done
 unfolding say_section

@@ -8,7 +8,7 @@ use lib.Dec.{eqb}
 use Rattle.base_answers.specs.declared.err.Refusal.{Refusal}
 use Rattle.base_answers.specs.declared.err.Refusal.TheVariants.{Done, NoRate}
 use Rattle.base_answers.specs.Answers.{done}
-use Rattle.base_answers.specs.Checks.{Check, first_of, ragged}
+use Rattle.base_answers.specs.Checks.{Check, first_refusal, ragged}
 use Rattle.base_answers.proofs.Chain.{by, stop}
 use Rattle.base_answers.proofs.Passed.{say-rest, say-stop}
 use Rattle.levels_filter.specs.declared.filter.Filter.{Filter}
@@ -32,7 +32,7 @@ returns-then-not-is_done c =
     (say-stop (front k a.signal a.one a.two) (rest a.f a.levels a.rate k a.signal a.file a.one a.two) (Done 0 0) c.check_whole-said.ensures (sym c.is_done.ensures ∙ c.if-not-is_done.true))
 
 -- past the byte lengths: the whole list says what the rest says
-past : (f : Filter) (l r x b u v k : ℕ) {y z : Refusal} → k ≡ width_of f → y ≡ first_of (front k x u v) (Done 0 0) → done y ≡ true → z ≡ first_of (rest f l r k x b u v) (Done 0 0) → z ≡ say_write f l r x b u v
+past : (f : Filter) (l r x b u v k : ℕ) {y z : Refusal} → k ≡ width_of f → y ≡ first_refusal (front k x u v) (Done 0 0) → done y ≡ true → z ≡ first_refusal (rest f l r k x b u v) (Done 0 0) → z ≡ say_write f l r x b u v
 past f l r x b u v k ek e d q = say-width f l r x b u v k ek (say-rest (front k x u v) (rest f l r k x b u v) (Done 0 0) (refl, (refl, (refl, tt))) e d q)
 
 pub returns-then-rate-eq0 : goal.returns-then-rate-eq0

@@ -6,7 +6,7 @@ use native.Mathlib.Omega.{arith}
 use Rattle.base_answers.specs.declared.err.Refusal.{Refusal}
 use Rattle.base_answers.specs.declared.err.Refusal.TheVariants.{Done}
 use Rattle.base_answers.specs.Answers.{done}
-use Rattle.base_answers.specs.Checks.{first_of}
+use Rattle.base_answers.specs.Checks.{first_refusal}
 use Rattle.base_answers.proofs.Passed.{passing, roomy}
 use Rattle.base_lengths.specs.Lengths.{most_samples}
 use Rattle.base_lengths.specs.Levels.{depth_of, levels_of}
@@ -18,7 +18,7 @@ use Rattle.levels_filter.proofs.Cuts.{few-levels}
 use Rattle.file_write.proofs.write.write_lengths.Goals as goal
 
 -- within the limit, and the levels fit a byte
-within : (f : Filter) (l n : ℕ) {r : Refusal} → r ≡ first_of (depth_checks f l n) (Done 0 0) → done r ≡ true → (n ≤ most_samples) × (levels_of l < 256)
+within : (f : Filter) (l n : ℕ) {r : Refusal} → r ≡ first_refusal (depth_checks f l n) (Done 0 0) → done r ≡ true → (n ≤ most_samples) × (levels_of l < 256)
 within f l n e d =
     let p = passing (depth_checks f l n) (Done 0 0) (depth-refuse f l n) (sym (ap done e) ∙ d) in
     let m = roomy most_samples n p.0 in

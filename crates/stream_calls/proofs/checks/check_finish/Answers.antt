@@ -7,7 +7,7 @@ use Prim.Native.Nat.{ℕ}
 use Rattle.base_answers.specs.declared.err.Refusal.{Refusal}
 use Rattle.base_answers.specs.declared.err.Refusal.TheVariants.{Done}
 use Rattle.base_answers.specs.Answers.{done}
-use Rattle.base_answers.specs.Checks.{first_of}
+use Rattle.base_answers.specs.Checks.{first_refusal}
 use Rattle.base_answers.proofs.Chain.{by, stop}
 use Rattle.stream_calls.specs.StateBytes.{state_in}
 use Rattle.stream_calls.specs.Calls.{lent_checks, finish_checks, say_finish}
@@ -15,7 +15,7 @@ use Rattle.stream_calls.proofs.Ready.{Split, split, lent_of}
 use Rattle.stream_calls.proofs.checks.check_finish.Goals as goal
 
 -- r is what the checks of both calls say, and t whether that is done
-past : (k : ℕ) (b : List ℕ) (a d : ℕ) {r : Refusal} {t : Bool} → r ≡ first_of (lent_checks k b 0 a d) (Done 0 0) → t ≡ done r
+past : (k : ℕ) (b : List ℕ) (a d : ℕ) {r : Refusal} {t : Bool} → r ≡ first_refusal (lent_checks k b 0 a d) (Done 0 0) → t ≡ done r
     → Split (lent_checks k b 0 a d) (finish_checks k (state_in b).total a d) r t
 past k b a d said told = split _ _ (refl, (refl, (refl, (refl, tt)))) said told
 

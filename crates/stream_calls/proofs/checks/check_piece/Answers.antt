@@ -8,7 +8,7 @@ use native.Mathlib.Omega.{arith}
 use Rattle.base_answers.specs.declared.err.Refusal.{Refusal}
 use Rattle.base_answers.specs.declared.err.Refusal.TheVariants.{Done}
 use Rattle.base_answers.specs.Answers.{done}
-use Rattle.base_answers.specs.Checks.{first_of}
+use Rattle.base_answers.specs.Checks.{first_refusal}
 use Rattle.base_answers.proofs.Chain.{by, stop}
 use Rattle.base_lengths.specs.Lengths.{most_samples}
 use Rattle.stream_calls.specs.StateBytes.{state_in}
@@ -17,7 +17,7 @@ use Rattle.stream_calls.proofs.Ready.{Split, split, Lent, lent_of}
 use Rattle.stream_calls.proofs.checks.check_piece.Goals as goal
 
 -- r is what the checks of both calls say, and t whether that is done
-module _ (k : ℕ) (b : List ℕ) (y a d : ℕ) {r : Refusal} {t : Bool} (said : r ≡ first_of (lent_checks k b y a d) (Done 0 0)) (told : t ≡ done r) where
+module _ (k : ℕ) (b : List ℕ) (y a d : ℕ) {r : Refusal} {t : Bool} (said : r ≡ first_refusal (lent_checks k b y a d) (Done 0 0)) (told : t ≡ done r) where
   past : Split (lent_checks k b y a d) (piece_checks k (state_in b).total y a d) r t
   past = split _ _ (refl, (refl, (refl, (refl, tt)))) said told
 
