@@ -7,7 +7,7 @@ usage() {
     cat <<'END'
 usage: ./install.sh [--library FILE] PREFIX
 
-Proves the library (about 10 minutes the first time, about one after that; each crate is said as it is proved), then lays down
+Proves the library (some minutes the first time, less after that; each crate is said as it is proved), then lays down
   PREFIX/include/beksanour.h            the calls, and the manual of each
   PREFIX/lib/libbeksanour.a             the library, to be linked into a program
   PREFIX/lib/libbeksanour.so.VERSION    the same as a shared library, and its two links
