@@ -1,19 +1,19 @@
 // Stored answers of the Rust, with document 02's 17, asked of the calls behind the desk's functions again. data/README says how a list of them is laid out.
 #![tactic(auto)]
 
-ghost use Rattle.std.specs.Prelude.{◌+◌, ◌≤◌, ◌<◌, ◌≡◌, length, take, IfOk};
+ghost use Rattle.std.specs.Prelude.{◌+◌, ◌≤◌, ◌<◌, ◌≡◌, length, take, IfSome};
 
 use base_answers::err::Answer;
+use base_input::read_full;
 use base_samples::le::{read_u16, read_u32};
 use levels_filter::filter::{Filter, execute_forward, execute_inverse};
 use levels_forward::levels::multi_dwt;
 use levels_inverse::back::multi_idwt;
 use levels_last::last::dwt;
-use std::io::Read;
 use std::rt::Files;
 use std::{fs, io};
 
-// A record gone through: where the next one starts, or 0 where it does not fit; whether the call says and leaves the same.
+// A record gone through: where the next one starts, and whether the call says and leaves the same.
 #[derive(Clone, Copy)]
 struct Step {
     next: usize,
@@ -28,16 +28,6 @@ struct Tally {
     is_whole: bool,
 }
 
-// A record that does not fit the list.
-fn cut() -> Step
-    ensures { result.next ≡ 0 }
-{
-    Step {
-        next: 0,
-        same: false,
-    }
-}
-
 // Where the slice ends whose length stands at a place: past the end of s where it has no length there.
 fn slice_end(s: &[u8], at: usize) -> usize
     requires { at ≤ 1000000 }
@@ -47,7 +37,7 @@ fn slice_end(s: &[u8], at: usize) -> usize
     if s.len() < start {
         return start;
     }
-    start + read_u16(s, at) as usize
+    start + usize::from(read_u16(s, at))
 }
 
 // The n bytes of s from a place on, at the start of an array of which they can be lent.
@@ -61,16 +51,7 @@ fn loaded(s: &[u8], from: usize, n: usize) -> [u8; 256]
     a
 }
 
-// An answer that no record has, since a record's number is a byte.
-fn no_such_call() -> Answer {
-    Answer {
-        number: 256,
-        first: 0,
-        second: 0,
-    }
-}
-
-// A record's filter, of whose numbers the last stands for every other byte too: no list has one.
+// A record's filter. Any byte above 5 is the last: no list has one above 6, and a list that had one was replayed so before.
 fn filter_of(b: u8) -> Filter {
     match b {
         0 => Filter::Cdf53I8,
@@ -83,29 +64,18 @@ fn filter_of(b: u8) -> Filter {
     }
 }
 
-// A byte as the number of an answer, and as levels.
-fn wide(b: u8) -> u32 {
-    b as u32
-}
-
-fn levels_of(b: u8) -> usize {
-    b as usize
-}
-
-// Whether an answer is the one that stands at a place.
-fn same_answer(s: &[u8], at: usize, a: Answer) -> bool
+// The answer that stands at a place.
+fn stored_answer(s: &[u8], at: usize) -> Answer
     requires { at + 9 ≤ length s.now }
 {
-    if a.number != wide(s[at]) {
-        return false;
+    Answer {
+        number: u32::from(s[at]),
+        first: u64::from(read_u32(s, at + 1)),
+        second: u64::from(read_u32(s, at + 5)),
     }
-    if a.first != read_u32(s, at + 1) as u64 {
-        return false;
-    }
-    a.second == read_u32(s, at + 5) as u64
 }
 
-// A call by its number, which reads up to three slices and is lent up to two. Work areas are as long as any slice.
+// A call by its number, if there is one; it reads up to three slices and is lent up to two. Work areas are as long as any slice.
 fn call(
     verb: u8,
     f: Filter,
@@ -115,35 +85,44 @@ fn call(
     z: &[u8],
     a: &mut [u8],
     d: &mut [u8],
-) -> Answer {
+) -> Option<Answer> {
     let mut one = [0u8; 256];
     let mut two = [0u8; 256];
-    match verb {
+    let said = match verb {
         1 => execute_forward(f, x, a, d),
         2 => execute_inverse(f, x, y, a),
         3 => dwt(f, levels, x, a, d, &mut one, &mut two),
         4 => multi_dwt(f, levels, x, a, &mut one, &mut two),
         5 => multi_idwt(f, x, y, z, a, &mut one, &mut two),
-        _ => no_such_call(),
-    }
+        _ => return None,
+    };
+    Some(Answer::from(said))
 }
 
 // The call of the record at a place: its number, filter and levels stand there, then the three slices that it reads, which end at x, y and z.
-fn ask(s: &[u8], at: usize, x: usize, y: usize, z: usize, a: &mut [u8], d: &mut [u8]) -> Answer
+fn ask(
+    s: &[u8],
+    at: usize,
+    x: usize,
+    y: usize,
+    z: usize,
+    a: &mut [u8],
+    d: &mut [u8],
+) -> Option<Answer>
     requires { (at + 5 ≤ x) × (x + 2 ≤ y) × (y + 2 ≤ z) × (z ≤ length s.now) × (length s.now ≤ 65536) }
 {
     let f = filter_of(s[at + 1]);
-    let levels = levels_of(s[at + 2]);
+    let levels = usize::from(s[at + 2]);
     let first = &s[at + 5..x];
     let second = &s[x + 2..y];
     let third = &s[y + 2..z];
     call(s[at], f, levels, first, second, third, a, d)
 }
 
-// A record: its call, filter and levels, three slices, two that are lent, the answer, and the two as they are left.
-fn replay(s: &[u8], at: usize) -> Step
+// A record: its call, filter and levels, three slices, two that are lent, the answer, and the two as they are left. None where it does not fit the list.
+fn replay(s: &[u8], at: usize) -> Option<Step>
     requires { (at < length s.now) × (length s.now ≤ 65536) }
-    ensures { result.next ≤ length s.now }
+    ensures { IfSome result (λ step. (at < step.next) × (step.next ≤ length s.now)) }
 {
     let x_end = slice_end(s, at + 3);
     let y_end = slice_end(s, x_end);
@@ -155,90 +134,57 @@ fn replay(s: &[u8], at: usize) -> Step
     let after = d_end + 9;
     let middle = after + a_len;
     let next = middle + d_len;
-    if s.len() < next {
-        return cut();
-    }
-    if 256 < a_len {
-        return cut();
-    }
-    if 256 < d_len {
-        return cut();
+    if s.len() < next || 256 < a_len || 256 < d_len {
+        return None;
     }
     let mut first = loaded(s, z_end + 2, a_len);
     let mut second = loaded(s, a_end + 2, d_len);
     let a: &mut [u8] = &mut first[..a_len];
     let d: &mut [u8] = &mut second[..d_len];
     let answer = ask(s, at, x_end, y_end, z_end, a, d);
-    let said = same_answer(s, d_end, answer);
+    let said = answer == Some(stored_answer(s, d_end));
     let same_a = &*a == &s[after..middle];
     let same_d = &*d == &s[middle..next];
-    Step {
+    Some(Step {
         next,
         same: said && same_a && same_d,
-    }
+    })
 }
 
-// Every record of a list.
+// Every record of a list. A record says how long it is, so no iterator has their places.
 fn replay_all(s: &[u8]) -> Tally
     requires { length s.now ≤ 65536 }
 {
+    let mut tally = Tally {
+        records: 0,
+        differ: 0,
+        is_whole: false,
+    };
     let mut at = 0;
-    let mut records: u64 = 0;
-    let mut differ: u64 = 0;
     while at < s.len() {
         if s[at] == 0 {
-            return Tally {
-                records,
-                differ,
-                is_whole: at + 1 == s.len(),
-            };
-        }
-        let step = replay(s, at);
-        let next = step.next;
-        if next <= at {
+            tally.is_whole = at + 1 == s.len();
             break;
         }
-        at = next;
-        records += 1;
+        let Some(step) = replay(s, at) else {
+            break;
+        };
+        at = step.next;
+        tally.records += 1;
         if !step.same {
-            differ += 1;
+            tally.differ += 1;
         }
     }
-    Tally {
-        records,
-        differ,
-        is_whole: false,
-    }
+    tally
 }
 
 // One line: how many records, and how many of them differ, or that the list is cut.
 fn print(rt: &impl Print, t: Tally) -> io::Result<()> {
-    rt.print(t.records)?;
-    rt.write_all(b" records, ")?;
     if t.is_whole {
-        rt.print(t.differ)?;
-        rt.write_all(b" differ\n")
+        println!(rt; "{} records, {} differ", t.records, t.differ)
     } else {
-        rt.write_all(b"cut\n")
+        println!(rt; "{} records, cut", t.records)
     }
-}
-
-// The bytes of the input, to the front of a buffer: as many as there are, or as it holds.
-fn read_full(input: &mut impl Read, buf: &mut [u8]) -> io::Result<usize>
-    ensures { IfOk result (λ n. n ≤ length buf.new) }
-{
-    let mut n = 0;
-    for _ in 0..u64::MAX {
-        if n == buf.len() {
-            break;
-        }
-        let got = input.read(&mut buf[n..])?;
-        if got == 0 {
-            break;
-        }
-        n += got;
-    }
-    Ok(n)
 }
 
 // The list in the first 65,536 bytes of a file.

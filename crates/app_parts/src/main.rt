@@ -1,13 +1,13 @@
 // A pyramid file of 8 bits and point 14 on standard input: the bytes of its sections, and windows of the deepest level's two bands. Each is a part of the file itself.
 #![tactic(auto)]
 
-ghost use Rattle.std.specs.Prelude.{◌≡◌, ◌≤◌, length, IfOk};
+ghost use Rattle.std.specs.Prelude.{◌≡◌, ◌≤◌, length};
 ghost use Rattle.view_windows.specs.Windows.{window_in};
 ghost use Rattle.file_open.specs.Opens.{section_in};
 
+use base_input::read_full;
 use file_open::section::section;
 use std::io;
-use std::io::Read;
 use view_windows::window::{SampleWidth, band_window};
 
 // The file's width and point.
@@ -15,46 +15,17 @@ const WIDTH: usize = 1;
 
 const POINT: usize = 14;
 
-// The bytes of the input, to the front of a buffer: as many as there are, or as it holds.
-fn read_full(input: &mut impl Read, buf: &mut [u8]) -> io::Result<usize>
-    ensures { IfOk result (λ n. n ≤ length buf.new) }
-{
-    let mut n = 0;
-    for _ in 0..u64::MAX {
-        if n == buf.len() {
-            break;
-        }
-        let got = input.read(&mut buf[n..])?;
-        if got == 0 {
-            break;
-        }
-        n += got;
-    }
-    Ok(n)
-}
-
-fn print(rt: &impl Print, text: &[u8]) -> io::Result<()> {
-    rt.write_all(text)
-}
-
-fn wide(b: u8) -> u64 {
-    b as u64
-}
-
 // The bytes of a part, a space before each, to the end of the line.
 fn print_bytes(rt: &impl Print, s: &[u8]) -> io::Result<()> {
     for b in s {
-        print(rt, b" ")?;
-        rt.print(wide(*b))?;
+        print!(rt; " {b}")?;
     }
-    print(rt, b"\n")
+    println!(rt)
 }
 
 // A section's bytes: none where the file has no such section.
 fn print_section(rt: &impl Print, s: &[u8], number: usize) -> io::Result<()> {
-    print(rt, b"section ")?;
-    rt.print(number as u64)?;
-    print(rt, b":")?;
+    print!(rt; "section {number}:")?;
     print_bytes(rt, section(s, WIDTH, POINT, number))
 }
 
@@ -70,13 +41,13 @@ fn window(s: &[u8], band: u32, start: usize, count: usize) -> &[u8]
 
 fn print_window(
     rt: &impl Print,
-    name: &[u8],
+    name: &str,
     s: &[u8],
     band: u32,
     start: usize,
     count: usize,
 ) -> io::Result<()> {
-    print(rt, name)?;
+    print!(rt; "{name}:")?;
     print_bytes(rt, window(s, band, start, count))
 }
 
@@ -84,11 +55,10 @@ fn main(rt: HostRuntime) -> io::Result<()> {
     let mut input = [0u8; 65536];
     let n = read_full(&mut rt.reader(), &mut input)?;
     let s = &input[..n];
-    print_section(&rt, s, 1)?;
-    print_section(&rt, s, 2)?;
-    print_section(&rt, s, 3)?;
-    print_section(&rt, s, 4)?;
-    print_window(&rt, b"1 approximation from 1:", s, 0, 1, 1)?;
-    print_window(&rt, b"1 detail from 0:", s, 1, 0, 1)?;
-    print_window(&rt, b"2 details from 0:", s, 1, 0, 2)
+    for number in 1..=4 {
+        print_section(&rt, s, number)?;
+    }
+    print_window(&rt, "1 approximation from 1", s, 0, 1, 1)?;
+    print_window(&rt, "1 detail from 0", s, 1, 0, 1)?;
+    print_window(&rt, "2 details from 0", s, 1, 0, 2)
 }

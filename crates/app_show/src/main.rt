@@ -1,81 +1,29 @@
 // A pyramid file on standard input: what its section 0 says, and the samples that opening it for its own width and point gives.
 #![tactic(auto)]
 
-ghost use Rattle.std.specs.Prelude.{◌/◌, ◌≤◌, length, IfOk};
-ghost use Rattle.base_samples.specs.Integers.{Width};
+ghost use Rattle.std.specs.Prelude.{◌/◌, ◌≤◌, length};
 ghost use Rattle.file_open.specs.Opens.{OpenGives, own_width, own_point};
 
-use base_samples::integers::get;
-use base_signs::{Number, signed};
-use file_open::head::{Head, head_in};
+use base_answers::err::{Answer, Refusal};
+use base_input::read_full;
+use base_samples::integers::Sample;
+use file_open::head::head_in;
 use file_open::open::{OpenAnswer, open, own_point, own_width};
 use std::io;
-use std::io::Read;
 
 // The longest input.
 const MOST: usize = 65536;
 
-// The number of an input that is longer.
-const TOO_LONG: u32 = 6;
-
-// The bytes of the input, to the front of a buffer: as many as there are, or as it holds.
-fn read_full(input: &mut impl Read, buf: &mut [u8]) -> io::Result<usize>
-    ensures { IfOk result (λ n. n ≤ length buf.new) }
-{
-    let mut n = 0;
-    for _ in 0..u64::MAX {
-        if n == buf.len() {
-            break;
-        }
-        let got = input.read(&mut buf[n..])?;
-        if got == 0 {
-            break;
-        }
-        n += got;
-    }
-    Ok(n)
-}
-
-// A word before a number, and the number.
-fn print_named(rt: &impl Print, name: &[u8], n: u64) -> io::Result<()> {
-    rt.write_all(name)?;
-    rt.print(n)
-}
-
-fn end_line(rt: &impl Print) -> io::Result<()> {
-    rt.write_all(b"\n")
-}
-
 fn print_refused(rt: &impl Print, number: u32) -> io::Result<()> {
-    print_named(rt, b"refused ", number as u64)?;
-    end_line(rt)
+    println!(rt; "refused {number}")
 }
 
-fn print_number(rt: &impl Print, v: Number) -> io::Result<()> {
-    if v.negative {
-        rt.write_all(b"-")?;
-    }
-    rt.print(v.size)?;
-    end_line(rt)
-}
-
-// What section 0 says; an old file has no rate, 0.
-fn print_head(rt: &impl Print, h: Head, rate: u32) -> io::Result<()> {
-    print_named(rt, b"point ", h.point as u64)?;
-    print_named(rt, b" width ", h.width as u64)?;
-    print_named(rt, b" samples ", h.samples as u64)?;
-    print_named(rt, b" levels ", h.levels as u64)?;
-    print_named(rt, b" rate ", rate as u64)?;
-    end_line(rt)
-}
-
-// The first n samples of k bytes, a line for each.
-fn print_samples(rt: &impl Print, k: usize, s: &[u8], n: usize) -> io::Result<()>
-    requires width { Width k }
-    requires n_in_bounds { n ≤ length s.now / k }
+// The first n samples, a line for each.
+fn print_samples<S: Sample>(rt: &impl Print, s: &[u8], n: usize) -> io::Result<()>
+    requires { n ≤ length s.now / S.bytes }
 {
     for i in 0..n {
-        print_number(rt, signed(k, get(k, s, i)))?;
+        println!(rt; "{}", S::get(s, i).signed())?;
     }
     Ok(())
 }
@@ -101,18 +49,25 @@ fn show(
         return print_refused(rt, r.number);
     }
     let h = head_in(s);
-    print_head(rt, h, opened.rate)?;
-    print_named(rt, b"level ", r.first)?;
-    print_named(rt, b" count ", r.second)?;
-    end_line(rt)?;
-    print_samples(rt, h.width, out, r.second as usize)
+    // an old file has no rate, 0
+    println!(rt;
+        "point {} width {} samples {} levels {} rate {}",
+        h.point, h.width, h.samples, h.levels, opened.rate
+    )?;
+    println!(rt; "level {} count {}", r.first, r.second)?;
+    let n = r.second as usize;
+    match h.width {
+        1 => print_samples::<u8>(rt, out, n),
+        2 => print_samples::<u16>(rt, out, n),
+        _ => print_samples::<u32>(rt, out, n),
+    }
 }
 
 fn main(rt: HostRuntime) -> io::Result<()> {
     let mut input = [0u8; 65537];
     let n = read_full(&mut rt.reader(), &mut input)?;
     if MOST < n {
-        return print_refused(&rt, TOO_LONG);
+        return print_refused(&rt, Answer::from(Refusal::TooLong).number);
     }
     let mut out = [0u8; MOST];
     let mut one = [0u8; MOST];

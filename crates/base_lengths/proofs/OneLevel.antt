@@ -1,4 +1,4 @@
--- One level forward and back: what a done call has passed, the two ends of each call, and that two results which a statement allows are equal.
+-- One level forward and back: what a done call has passed and leaves, and that two results which a statement allows are equal.
 -- Looks into no filter.
 use mathlib.Core.Bool.{true, false, not}
 use mathlib.Core.List.{List, ◌∷◌}
@@ -10,13 +10,11 @@ use borrow.Author.Tests.{le-ltb}
 use lib.Dec.{eqb}
 use lib.ListN.{length}
 use Rattle.base_answers.specs.declared.err.Answer.{Answer}
-use Rattle.base_answers.specs.declared.err.Refusal.{Refusal}
-use Rattle.base_answers.specs.declared.err.Refusal.TheVariants.{Done}
-use Rattle.base_answers.specs.Answers.{answer_of, done}
+use Rattle.base_answers.specs.Answers.{Outcome, told, done}
 use Rattle.base_answers.specs.Checks.{ragged}
 use Rattle.base_answers.proofs.Passed.{passing, through, whole, roomy, right}
 use Rattle.base_answers.proofs.Chain.{same}
-use Rattle.base_answers.proofs.Endings.{left-done, left-refused}
+use Rattle.base_answers.proofs.Endings.{left-done}
 use Rattle.base_lengths.specs.declared.Wavelet.{Wavelet}
 use Rattle.base_lengths.specs.declared.Wavelet.TheVariants.{Cdf53, Cdf97}
 use Rattle.base_lengths.specs.Lengths.{most_samples, approx_length, details_length, smallest_of, expected_approx, expected_details}
@@ -30,7 +28,7 @@ expected Cdf97 a d n e p q = (omega arith, omega arith, omega arith)
 pub forward-ready : (w : Wavelet) (k x a d : ℕ) → done (say_forward w k x a d) ≡ true → Level w k (x / k) x a d
 unfolding say_forward
 forward-ready w k x a d h =
-    let p = passing (ragged k x ∷ ragged k a ∷ ragged k d ∷ forward_checks w (x / k) (a / k) (d / k)) (Done 0 0) (refl, (refl, (refl, (refl, (refl, (refl, (refl, tt))))))) h in
+    let p = passing (ragged k x ∷ ragged k a ∷ ragged k d ∷ forward_checks w (x / k) (a / k) (d / k)) (told 0 0) h in
     let q = p.1.1.1 in
     record {
       long = roomy (x / k) (smallest_of w) q.1.0;
@@ -43,7 +41,7 @@ forward-ready w k x a d h =
 pub inverse-ready : (w : Wavelet) (k a d o : ℕ) → done (say_inverse w k a d o) ≡ true → Level w k (o / k) o a d
 unfolding say_inverse
 inverse-ready w k a d o h =
-    let p = passing (ragged k a ∷ ragged k d ∷ ragged k o ∷ inverse_checks w (a / k) (d / k) (o / k)) (Done 0 0) (refl, (refl, (refl, (refl, (refl, (refl, (refl, (refl, (refl, tt))))))))) h in
+    let p = passing (ragged k a ∷ ragged k d ∷ ragged k o ∷ inverse_checks w (a / k) (d / k) (o / k)) (told 0 0) h in
     let q = p.1.1.1 in
     let r = q.1.1.1 in
     let e =
@@ -63,10 +61,10 @@ whole-passes k n b e = same (b % k) 0 (rw e (mul-mod_right k n))
 pub count-is : (k n b : ℕ) → 0 < k → b ≡ k * n → b / k ≡ n
 count-is k n b p e = rw e (mul-div_right n p)
 
-pub forward-fits : (w : Wavelet) (k n x a d : ℕ) → 0 < k → Level w k n x a d → say_forward w k x a d ≡ Done 0 0
+pub forward-fits : (w : Wavelet) (k n x a d : ℕ) → 0 < k → Level w k n x a d → say_forward w k x a d ≡ told 0 0
 unfolding say_forward
 forward-fits w k n x a d p l =
-    through (ragged k x ∷ ragged k a ∷ ragged k d ∷ forward_checks w (x / k) (a / k) (d / k)) (Done 0 0)
+    through (ragged k x ∷ ragged k a ∷ ragged k d ∷ forward_checks w (x / k) (a / k) (d / k)) (told 0 0)
     (rw (count-is k n x p l.samples, count-is k (approx_length n) a p l.approx, count-is k (details_length n) d p l.details) (
       whole-passes k n x l.samples,
       (
@@ -83,11 +81,11 @@ pub expects : (w : Wavelet) (n : ℕ) → smallest_of w ≤ n → (n ≡ approx_
 expects Cdf53 n h = (omega arith, omega arith, omega arith)
 expects Cdf97 n h = (omega arith, omega arith, omega arith)
 
-pub inverse-fits : (w : Wavelet) (k n x a d : ℕ) → 0 < k → Level w k n x a d → say_inverse w k a d x ≡ Done 0 0
+pub inverse-fits : (w : Wavelet) (k n x a d : ℕ) → 0 < k → Level w k n x a d → say_inverse w k a d x ≡ told 0 0
 unfolding say_inverse
 inverse-fits w k n x a d p l =
     let e = expects w n l.long in
-    through (ragged k a ∷ ragged k d ∷ ragged k x ∷ inverse_checks w (a / k) (d / k) (x / k)) (Done 0 0)
+    through (ragged k a ∷ ragged k d ∷ ragged k x ∷ inverse_checks w (a / k) (d / k) (x / k)) (told 0 0)
     (rw (count-is k n x p l.samples, count-is k (approx_length n) a p l.approx, count-is k (details_length n) d p l.details) (
       whole-passes k (approx_length n) a l.approx,
       (
@@ -109,19 +107,8 @@ inverse-fits w k n x a d p l =
     ))
 
 module _ (w : Wavelet) (k : ℕ) (low high : List ℕ → List ℕ) (x a d : List ℕ) where
-  abbrev said : Refusal
+  abbrev said : Outcome
   said = say_forward w k (length x) (length a) (length d)
-
-  -- s is what the checks said, and r its numbers
-  pub forward-done : (s : Refusal) (r : Answer) (a' d' : List ℕ) → s ≡ said → r ≡ answer_of s → done s ≡ true → a' ≡ low x → d' ≡ high x → Forward w k low high x a d r a' d'
-  forward-done s r a' d' es er z p q =
-      let t : done said ≡ true = rw es at z in
-      record { answer = er ∙ ap answer_of es; approx = p ∙ sym (left-done said (low x) a t); details = q ∙ sym (left-done said (high x) d t) }
-
-  pub forward-refused : (s : Refusal) (r : Answer) → s ≡ said → r ≡ answer_of s → done s ≡ false → Forward w k low high x a d r a d
-  forward-refused s r es er z =
-      let t : done said ≡ false = rw es at z in
-      record { answer = er ∙ ap answer_of es; approx = sym (left-refused said (low x) a t); details = sym (left-refused said (high x) d t) }
 
   -- what a call on lengths that fit leaves
   pub forward-ran : (n : ℕ) (r : Answer) (a' d' : List ℕ) → 0 < k → Level w k n (length x) (length a) (length d) → Forward w k low high x a d r a' d' → (a' ≡ low x) × (d' ≡ high x)
@@ -134,14 +121,8 @@ module _ (w : Wavelet) (k : ℕ) (low high : List ℕ → List ℕ) (x a d : Lis
   forward-decides r s a₁ d₁ a₂ d₂ p q = (p.answer ∙ sym q.answer, p.approx ∙ sym q.approx, p.details ∙ sym q.details)
 
 module _ (w : Wavelet) (k : ℕ) (back : List ℕ → List ℕ → List ℕ) (a d o : List ℕ) where
-  abbrev said_back : Refusal
+  abbrev said_back : Outcome
   said_back = say_inverse w k (length a) (length d) (length o)
-
-  pub inverse-done : (s : Refusal) (r : Answer) (o' : List ℕ) → s ≡ said_back → r ≡ answer_of s → done s ≡ true → o' ≡ back a d → Inverse w k back a d o r o'
-  inverse-done s r o' es er z p = let t : done said_back ≡ true = rw es at z in record { answer = er ∙ ap answer_of es; output = p ∙ sym (left-done said_back (back a d) o t) }
-
-  pub inverse-refused : (s : Refusal) (r : Answer) → s ≡ said_back → r ≡ answer_of s → done s ≡ false → Inverse w k back a d o r o
-  inverse-refused s r es er z = let t : done said_back ≡ false = rw es at z in record { answer = er ∙ ap answer_of es; output = sym (left-refused said_back (back a d) o t) }
 
   pub inverse-ran : (n : ℕ) (r : Answer) (o' : List ℕ) → 0 < k → Level w k n (length o) (length a) (length d) → Inverse w k back a d o r o' → o' ≡ back a d
   inverse-ran n r o' p l h = h.output ∙ left-done said_back (back a d) o (ap done (inverse-fits w k n (length o) (length a) (length d) p l))

@@ -2,9 +2,8 @@
 -- A filter is its wavelet w, k bytes a sample, and what it makes of bytes: two bands `low` and `high`, and `back`.
 use Rattle.std.specs.Prelude.{not, List, [], ◌∷◌, ◌≡◌, ℕ, ◌+◌, ◌*◌, ◌/◌, ◌≤◌, ltb, eqb, length}
 use Rattle.base_answers.specs.declared.err.Answer.{Answer}
-use Rattle.base_answers.specs.declared.err.Refusal.{Refusal}
-use Rattle.base_answers.specs.declared.err.Refusal.TheVariants.{Done, MinFilterSize, ApproxSizeNotMatches, OutputSizeIsNotValid, TooLong, DetailsSizeNotMatches}
-use Rattle.base_answers.specs.Answers.{answer_of}
+use Rattle.base_answers.specs.declared.err.Refusal.TheVariants.{MinFilterSize, ApproxSizeNotMatches, OutputSizeIsNotValid, TooLong, DetailsSizeNotMatches}
+use Rattle.base_answers.specs.Answers.{Outcome, told, answer_of}
 use Rattle.base_answers.specs.Checks.{Check, first_refusal, ragged, left}
 use Rattle.base_lengths.specs.declared.Wavelet.{Wavelet}
 use Rattle.base_lengths.specs.Lengths.{most_samples, approx_length, details_length, smallest_of, expected_approx, expected_details}
@@ -21,8 +20,8 @@ forward_checks w n a d =
     ∷ forward_bands n a d
 
 -- the same by byte lengths, after "this 9 comes before all else (of several, the first of inputs, outputs, ..)"
-unfoldable pub say_forward : Wavelet → ℕ → ℕ → ℕ → ℕ → Refusal
-say_forward w k x a d = first_refusal (ragged k x ∷ ragged k a ∷ ragged k d ∷ forward_checks w (x / k) (a / k) (d / k)) (Done 0 0)
+unfoldable pub say_forward : Wavelet → ℕ → ℕ → ℕ → ℕ → Outcome
+say_forward w k x a d = first_refusal (ragged k x ∷ ragged k a ∷ ragged k d ∷ forward_checks w (x / k) (a / k) (d / k)) (told 0 0)
 
 -- "2 approximations (expected, got)"; then 17 with "details' numbers", "(expected, got) in the inverse"; also of `multi_idwt`, "level by level from the deepest as in inverse"
 abbrev pub inverse_bands : Wavelet → ℕ → ℕ → ℕ → List Check
@@ -40,8 +39,8 @@ inverse_checks w a d n =
     ∷ (not (eqb n (a + d)), OutputSizeIsNotValid n (a + d))
     ∷ inverse_bands w n a d
 
-unfoldable pub say_inverse : Wavelet → ℕ → ℕ → ℕ → ℕ → Refusal
-say_inverse w k a d o = first_refusal (ragged k a ∷ ragged k d ∷ ragged k o ∷ inverse_checks w (a / k) (d / k) (o / k)) (Done 0 0)
+unfoldable pub say_inverse : Wavelet → ℕ → ℕ → ℕ → ℕ → Outcome
+say_inverse w k a d o = first_refusal (ragged k a ∷ ragged k d ∷ ragged k o ∷ inverse_checks w (a / k) (d / k) (o / k)) (told 0 0)
 
 -- what either call leaves for its steps: n samples in x bytes, and bands of a and d bytes
 pub record Level (w : Wavelet) (k n x a d : ℕ) : Type 0 where

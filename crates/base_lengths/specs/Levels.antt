@@ -1,7 +1,7 @@
 -- Many levels, from document 01: each level's input is the approximations of the level before. By recursion on the levels.
 use Rattle.std.specs.Prelude.{cond, [], ◌∷◌, ℕ, zero, suc, ◌≤◌, ltb, eqb}
-use Rattle.base_answers.specs.declared.err.Refusal.{Refusal}
-use Rattle.base_answers.specs.declared.err.Refusal.TheVariants.{Done, TooLong}
+use Rattle.base_answers.specs.declared.err.Refusal.TheVariants.{TooLong}
+use Rattle.base_answers.specs.Answers.{Outcome, told}
 use Rattle.base_answers.specs.Checks.{first_refusal}
 use Rattle.base_lengths.specs.declared.Wavelet.{Wavelet}
 use Rattle.base_lengths.specs.Lengths.{most_samples, approx_length, smallest_of}
@@ -43,5 +43,5 @@ abbrev pub levels_of : ℕ → ℕ
 levels_of l = cond (eqb l 0) 1 l
 
 -- "asking the depth is refused only with 6"
-abbrev pub say_depth : Wavelet → ℕ → Refusal
-say_depth w n = first_refusal ((ltb most_samples n, TooLong) ∷ []) (Done (depth_of w n) 0)
+abbrev pub say_depth : Wavelet → ℕ → Outcome
+say_depth w n = first_refusal ((ltb most_samples n, TooLong) ∷ []) (told (depth_of w n) 0)

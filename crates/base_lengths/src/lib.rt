@@ -3,12 +3,11 @@
 
 pub mod checks;
 
-ghost use Rattle.std.specs.Prelude.{◌≡◌, max, min};
-ghost use Rattle.base_answers.specs.Answers.{answer_of};
+ghost use Rattle.std.specs.Prelude.{◌≡◌};
 ghost use Rattle.base_lengths.specs.Lengths.{approx_length, details_length, smallest_of, least_details, expected_approx, expected_details};
 ghost use Rattle.base_lengths.specs.Levels.{count_at, depth_of, say_depth, levels_of};
 
-use base_answers::err::{Answer, Refusal, numbers};
+use base_answers::err::{Outcome, Refusal};
 
 // The most samples of a recording.
 pub const MOST_SAMPLES: usize = 16777216;
@@ -31,7 +30,7 @@ pub struct DwtSize {
 pub fn approx_length(n: usize) -> usize
     ensures { result ≡ approx_length n }
 {
-    n - n / 2
+    n.div_ceil(2)
 }
 
 // How many details n samples have.
@@ -51,18 +50,6 @@ pub fn smallest(w: Wavelet) -> usize
     }
 }
 
-fn at_least(least: usize, n: usize) -> usize
-    ensures { result ≡ max least n }
-{
-    if n < least { least } else { n }
-}
-
-pub fn lesser(m: usize, n: usize) -> usize
-    ensures { result ≡ min m n }
-{
-    if m < n { m } else { n }
-}
-
 fn least_details(w: Wavelet) -> usize
     ensures { result ≡ least_details w }
 {
@@ -77,8 +64,8 @@ pub fn dwt_size(w: Wavelet, n: usize) -> DwtSize
     ensures { (result.approx ≡ expected_approx n) × (result.details ≡ expected_details w n) }
 {
     DwtSize {
-        approx: at_least(2, approx_length(n)),
-        details: at_least(least_details(w), details_length(n)),
+        approx: approx_length(n).max(2),
+        details: details_length(n).max(least_details(w)),
     }
 }
 
@@ -86,7 +73,7 @@ pub fn dwt_size(w: Wavelet, n: usize) -> DwtSize
 pub fn at_least_one(levels: usize) -> usize
     ensures { result ≡ levels_of levels }
 {
-    if levels == 0 { 1 } else { levels }
+    levels.max(1)
 }
 
 // How many approximations n samples have after so many levels.
@@ -94,10 +81,8 @@ pub fn count_at(levels: usize, n: usize) -> usize
     ensures { result ≡ count_at levels n }
 {
     let mut count = n;
-    let mut i = 0;
-    while i < levels {
+    for _level in 0..levels {
         count = approx_length(count);
-        i += 1;
     }
     count
 }
@@ -121,9 +106,10 @@ fn depth53(n: usize) -> usize
     ensures { result ≡ depth_of Wavelet.Cdf53 n }
 {
     if n < 2 {
-        return 0;
+        0
+    } else {
+        63 - (n - 1).leading_zeros() as usize
     }
-    (63 - u64::leading_zeros((n - 1) as u64)) as usize
 }
 
 // How many levels run on n samples before an input is too short.
@@ -137,11 +123,11 @@ pub fn depth(w: Wavelet, n: usize) -> usize
 }
 
 // The depth as the desk asks for it: refused only for a length over the limit.
-pub fn ask_depth(w: Wavelet, n: usize) -> Answer
-    ensures { result ≡ answer_of (say_depth w n) }
+pub fn ask_depth(w: Wavelet, n: usize) -> Outcome
+    ensures { result ≡ say_depth w n }
 {
     if MOST_SAMPLES < n {
-        return numbers(Refusal::TooLong);
+        return Err(Refusal::TooLong);
     }
-    numbers(Refusal::Done(depth(w, n), 0))
+    Ok((depth(w, n), 0))
 }

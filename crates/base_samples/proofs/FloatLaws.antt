@@ -1,5 +1,5 @@
 -- Laws of floats in bytes, once over the format: NaN both ways, what was put is read, floats to bytes and back, and lengths.
-use mathlib.Core.Bool.{true, false, not}
+use mathlib.Core.Bool.{not}
 use mathlib.Core.List.{List, map, map-map}
 use mathlib.Core.Path.{◌≡◌, refl, sym, ap, subst, ◌∙◌}
 use Prim.Native.Nat.{ℕ, ◌*◌, ◌/◌, ◌%◌, ◌^◌, ◌≤◌, ◌<◌}
@@ -7,10 +7,8 @@ use native.Mathlib.Nat.{mod-eq_of_lt}
 use native.Mathlib.Omega.{arith}
 use lib.Dec.{T, lit<, ltb→lt, lt→ltb, not_T}
 use lib.ListN.{length, get_or, length-map}
-use lib.Ieee.{Float, nan, inf, fin, Format, binary32, binary64, hid, ones, top, is_nan, nan_bits, of_bits, to_bits, fits, ne, div}
+use lib.Ieee.{Float, nan, inf, fin, Format, binary32, binary64, hid, ones, top, is_nan, nan_bits, of_bits, to_bits, fits, ne}
 use lib.Ieee.Bits.{nan_bits_is, nan_bits_above, of_bits-to_bits, to_bits-of_bits, to_bits-lt, of_bits-fits}
-use lib.Ieee.Fits.{nan-fits}
-use lib.Ieee.Compare.{nan_differs, differs_from_itself}
 use Rattle.base_samples.specs.Words.{tabulate, word_at, words_of, bytes_of}
 use Rattle.base_samples.specs.Floats.{width, float_at, put_float, decode_floats, encode_floats, canonical, Plain}
 use Rattle.base_samples.proofs.Words.{length-tabulate, get_or-tabulate, set-tabulate, tabulate-same, map-tabulate, put_same, put_other, length-put, length-words, length-bytes, put-bytes, word_bytes, words-bytes}
@@ -29,26 +27,6 @@ unfolding is_nan
 only_nan nan t = refl
 only_nan (inf s) t = absurd t
 only_nan (fin s m e) t = absurd t
-
--- one that is above it reads as nan
-pub nan-of : (f : Format) (n : ℕ) → ones f * hid f < n % top f → of_bits f n ≡ nan
-nan-of f n h = only_nan (of_bits f n) (subst T (nan_bits_is f n) (subst T (sym (nan_bits_above f n)) (lt→ltb (ones f * hid f) (n % top f) h)))
-
--- what equals itself is no NaN
-pub same-no-nan : (x : Float) → ne x x ≡ false → T (not (is_nan x))
-same-no-nan x e = not_T (is_nan x) (λ t. clash (sym (ap (λ y. ne y y) (only_nan x t) ∙ nan_differs) ∙ e))
-  where
-    clash : true ≡ false → ⊥
-    clash p = subst T p tt
-
--- the one nan: 0 / 0; and its pattern is what a float that differs from itself has
-pub zero_by_zero : (f : Format) → div f (of_bits f 0) (of_bits f 0) ≡ nan
-unfolding div of_bits
-zero_by_zero binary32 = refl
-zero_by_zero binary64 = refl
-
-pub nan-bits : (f : Format) (x : Float) → ne x x ≡ true → to_bits f nan ≡ to_bits f x
-nan-bits f x e = ap (to_bits f) (sym (differs_from_itself x (subst T (sym e) tt)))
 
 -- ---- floats in bytes
 
@@ -143,20 +121,24 @@ module _ (f : Format) where
   encode_floats-decode s = ap (bytes_of (width f)) (map-map (to_bits f) (of_bits f) (words_of (width f) s))
 
   -- which is itself, unless it is a NaN's; and that is the fixed one
-  pub canonical-same : (n : ℕ) → n < 256 ^ width f → T (not (nan_bits f n)) → canonical f n ≡ n
+  canonical-same : (n : ℕ) → n < 256 ^ width f → T (not (nan_bits f n)) → canonical f n ≡ n
   unfolding canonical
   canonical-same n h t = to_bits-of_bits f n (subst (λ b. n < b) (sym (patterns f)) h) (subst (λ b. T (not b)) (nan_bits_is f n) t)
 
-  pub canonical-nan : (n : ℕ) → T (nan_bits f n) → canonical f n ≡ to_bits f nan
+  canonical-nan : (n : ℕ) → T (nan_bits f n) → canonical f n ≡ to_bits f nan
   unfolding canonical
   canonical-nan n t = ap (to_bits f) (only_nan (of_bits f n) (subst T (nan_bits_is f n) t))
+
+  -- by the test that the code makes
+  pub canonical_above : (n : ℕ) → ones f * hid f < n % top f → canonical f n ≡ to_bits f nan
+  canonical_above n h = canonical-nan n (subst T (sym (nan_bits_above f n)) (lt→ltb (ones f * hid f) (n % top f) h))
+
+  pub canonical_below : (n : ℕ) → n < 256 ^ width f → n % top f ≤ ones f * hid f → canonical f n ≡ n
+  canonical_below n h l = canonical-same n h (no_nan f n l)
 
   -- a pattern that is written as it was read is a NaN's only where it is the fixed one
   pub plain-no-nan : (n : ℕ) → canonical f n ≡ n → (n ≡ to_bits f nan → ⊥) → T (not (nan_bits f n))
   plain-no-nan n e ne = not_T (nan_bits f n) (λ t. ne (sym e ∙ canonical-nan n t))
-
-  pub plain-nan : (n : ℕ) → n ≡ to_bits f nan → of_bits f n ≡ nan
-  plain-nan n e = ap (of_bits f) e ∙ of_bits-to_bits f nan (nan-fits f)
 
 -- the fixed patterns
 pub nan_pattern : (to_bits binary32 nan ≡ 0x7FC0_0000) × (to_bits binary64 nan ≡ 0x7FF8_0000_0000_0000)

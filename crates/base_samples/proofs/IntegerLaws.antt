@@ -2,7 +2,7 @@
 use mathlib.Core.Bool.{Bool, true, false, ◌||◌}
 use mathlib.Core.Path.{◌≡◌, refl, sym, ap, subst, ◌∙◌}
 use mathlib.Core.List.{List, map}
-use mathlib.Core.Logic.{⊎_elim, inl, inr}
+use mathlib.Core.Logic.{⊎_elim}
 use Prim.Native.Nat.{ℕ, ◌+◌, ◌-◌, ◌*◌, ◌/◌, ◌%◌, ◌^◌, ◌<◌}
 use native.Mathlib.Nat.{mod-lt, mod-eq_of_lt, mod-eq-sub-mod, mod-mod}
 use native.Mathlib.Omega.{arith}
@@ -13,24 +13,13 @@ use lib.ListN.{length, get_or, length-map}
 use Rattle.base_order.proofs.Order.{lt-or-le}
 use Rattle.base_samples.specs.Le.{Bytes}
 use Rattle.base_samples.specs.Words.{tabulate, word_at, words_of, bytes_of, Holds}
+pub use Rattle.base_samples.specs.Integers.{width-1, width-2, width-4}
 use Rattle.base_samples.specs.Integers.{val, residue, wrap, decode, encode, quarter, is_width, Width}
 use Rattle.base_samples.proofs.LeLaws.{top_pos}
 use Rattle.base_samples.proofs.Words.{get_or-tabulate, tabulate-same, map-tabulate, word_lt, length-words, length-bytes, words-bytes, bytes-words}
 use Rattle.base_samples.proofs.Diff.{sub-ge, sub-lt, residue-sub}
 
 -- ---- the widths
-
-pub width-1 : Width 1
-unfolding quarter
-width-1 = record { which = inl refl; some = omega arith; words = refl; many = omega arith; most = omega arith }
-
-pub width-2 : Width 2
-unfolding quarter
-width-2 = record { which = inr (inl refl); some = omega arith; words = refl; many = omega arith; most = omega arith }
-
-pub width-4 : Width 4
-unfolding quarter
-width-4 = record { which = inr (inr refl); some = omega arith; words = refl; many = omega arith; most = omega arith }
 
 -- a number that the test takes for a width is one
 pub width-of : (k : ℕ) → is_width k ≡ true → Width k
@@ -41,10 +30,6 @@ width-of k h = first (eqb k 1) (eqb k 2) (eqb k 4) refl refl refl h
     first false true c ea eb ec h = rw (eqb-true k 2 eb) width-2
     first false false true ea eb ec h = rw (eqb-true k 4 ec) width-4
     first false false false ea eb ec h = absurd (subst T (sym h) tt)
-
--- what is neither 1 nor 2 is 4
-pub four : {k : ℕ} → Width k → (k ≡ 1 → ⊥) → (k ≡ 2 → ⊥) → k ≡ 4
-four w n1 n2 = ⊎_elim (λ e. absurd (n1 e)) (λ r. ⊎_elim (λ e. absurd (n2 e)) (λ e. e) r) w.which
 
 -- ---- words and numbers
 

@@ -1,13 +1,15 @@
 -- Laws of little-endian numbers, once over the number of bytes: halves, what was stored is read, other places stay, and numbers in joined and cut lists.
 use mathlib.Core.Path.{◌≡◌, refl, sym, ap, ap₂, ◌∙◌}
 use mathlib.Core.List.{List, [], ◌∷◌, ◌++◌, append_assoc}
-use Prim.Native.Nat.{ℕ, zero, suc, ◌+◌, ◌*◌, ◌/◌, ◌%◌, ◌^◌, ◌≤◌, ◌<◌}
+use Prim.Native.Nat.{ℕ, zero, suc, ◌+◌, ◌-◌, ◌*◌, ◌/◌, ◌%◌, ◌^◌, ◌≤◌, ◌<◌}
 use native.Mathlib.Nat.{add_assoc, add-zero, zero-add, suc-add, mul_assoc, pow-suc, pow-succ', mod-one, div-div-eq-div-mul}
 use native.Mathlib.Numerals.{add-one}
 use native.Mathlib.Omega.{arith}
 use lib.Arith.{mod-mul}
 use lib.ListN.{length, get_or, take, drop, set}
 use lib.Seq.{sets, sets-eq, length-sets, get_or-append-add, get_or-drop, get_or-take, get_or-set_other, drop-cons, length-take-le}
+use borrow.Rule.Slice.PartMut.{put_mid, Post-is}
+use Rattle.std.specs.Int.{bytes_low_first, byte_at}
 use Rattle.base_samples.specs.Le.{le_at, le_bytes, stored, Bytes}
 
 pub top_pos : (k : ℕ) → 0 < 256 ^ k
@@ -142,3 +144,19 @@ pub stored-add : (j k : ℕ) (s : List ℕ) (p n : ℕ) → stored k (stored j s
 unfolding stored
 stored-add j k s p n =
     rw (le_bytes-mod j n, le_bytes-add j k n) (ap (λ m. sets (sets s p (le_bytes j n)) (p + m) (le_bytes k (n / 256 ^ j))) (sym (length-le_bytes j n)) ∙ sets_then s p (le_bytes j n) (le_bytes k (n / 256 ^ j)))
+
+-- the bytes that std makes of a number, from byte j on
+std_bytes : (j k n : ℕ) → bytes_low_first j k n ≡ le_bytes k (n / 256 ^ j)
+unfolding le_bytes
+std_bytes j zero n = refl
+std_bytes j (suc k) n = ap₂ (λ b bs. b ∷ bs) (byte j) (std_bytes (suc j) k n ∙ ap (le_bytes k) (ap (λ m. n / m) (pow-suc 256 j) ∙ sym (div-div-eq-div-mul n (256 ^ j) 256)))
+  where
+    byte : (j : ℕ) → byte_at j n ≡ n / 256 ^ j % 256
+    byte zero = omega arith
+    byte (suc j) = refl
+
+-- and those written over the k bytes from p on
+pub stored_mid : (k : ℕ) (s ys : List ℕ) (p n : ℕ) → p + k ≤ length s → ys ≡ bytes_low_first 0 k n → put_mid p (p + k - p) s ys ≡ stored k s p n
+stored_mid k s ys p n h e =
+    let bytes : ys ≡ le_bytes k n = e ∙ std_bytes 0 k n ∙ ap (le_bytes k) (omega arith) in
+    rw (stored_is k s p n h, bytes, Post-is p (p + k) s (omega arith))

@@ -5,3 +5,4 @@ pub mod Diff
 pub mod IntegerLaws
 pub mod FloatLaws
 pub mod Halves
+pub mod Signs

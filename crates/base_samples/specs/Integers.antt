@@ -1,5 +1,6 @@
 -- Samples of 8, 16 and 32 bits, from document 01: "samples are two's complement, little-endian". Over the width k, in bytes.
-use Rattle.std.specs.Prelude.{Bool, cond, ◌||◌, List, map, ◌⊎◌, ◌≡◌, ℕ, suc, ◌-◌, ◌*◌, ◌/◌, ◌%◌, ◌^◌, ◌≤◌, ◌<◌, ltb, eqb, ℤ, pos, negsuc}
+use Rattle.std.specs.Prelude.{Bool, cond, ◌||◌, List, map, ◌⊎◌, refl, ◌≡◌, ℕ, suc, ◌-◌, ◌*◌, ◌/◌, ◌%◌, ◌^◌, ◌≤◌, ◌<◌, ltb, eqb, ℤ, pos, negsuc}
+use Rattle.std.proofs.Common.{inl, inr, arith}
 use Rattle.base_samples.specs.Words.{words_of, bytes_of}
 
 -- the number that the word u stands for, of the M words 0 to M - 1: the upper half are the negative ones
@@ -37,3 +38,15 @@ pub record Width (k : ℕ) : Type 0 where
   pub words : 256 ^ k ≡ 4 * quarter k
   pub many : 0 < quarter k
   pub most : 256 ^ k ≤ 4294967296
+
+pub width-1 : Width 1
+unfolding quarter
+width-1 = record { which = inl refl; some = omega arith; words = refl; many = omega arith; most = omega arith }
+
+pub width-2 : Width 2
+unfolding quarter
+width-2 = record { which = inr (inl refl); some = omega arith; words = refl; many = omega arith; most = omega arith }
+
+pub width-4 : Width 4
+unfolding quarter
+width-4 = record { which = inr (inr refl); some = omega arith; words = refl; many = omega arith; most = omega arith }

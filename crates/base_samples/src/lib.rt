@@ -1,4 +1,4 @@
-// Samples in byte slices: numbers of 1, 2, 4 and 8 bytes, little-endian; two's complement integers over the width; floats by their bits.
+// Samples in byte slices: numbers of 1, 2, 4 and 8 bytes, little-endian; two's complement integers by their words; floats by their bits.
 #![tactic(auto)]
 
 pub mod floats;

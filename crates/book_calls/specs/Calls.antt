@@ -1,8 +1,7 @@
 -- The calls of the book, from C-14: what each leaves of the area. What each says, and its checks in order, are in `book_entries`.
 use Rattle.std.specs.Prelude.{List, [], ◌∷◌, ◌++◌, ◌≡◌, ℕ, ◌+◌, length, take, drop, replicate}
 use Rattle.base_answers.specs.declared.err.Answer.{Answer}
-use Rattle.base_answers.specs.declared.err.Refusal.{Refusal}
-use Rattle.base_answers.specs.Answers.{answer_of}
+use Rattle.base_answers.specs.Answers.{Outcome, answer_of}
 use Rattle.base_answers.specs.Checks.{left, in_front}
 use Rattle.base_samples.specs.Le.{stored}
 use Rattle.book_entries.specs.Books.{entry_size, entry_start, total_at, data_at, book_of, entries_in, data_in, slot_of, place_at, size_at}
@@ -13,7 +12,7 @@ abbrev pub holding : List ℕ → List (List ℕ) → List ℕ → List ℕ
 holding b es d = in_front (book_of es d) b
 
 -- the answer r of a call that says s, and the area b' that it leaves of the area b: `new` where it is done
-pub record Leaves (s : Refusal) (new b : List ℕ) (r : Answer) (b' : List ℕ) : Type 0 where
+pub record Leaves (s : Outcome) (new b : List ℕ) (r : Answer) (b' : List ℕ) : Type 0 where
   pub answer : r ≡ answer_of s
   pub book : b' ≡ left s new b
 

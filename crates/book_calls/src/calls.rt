@@ -1,11 +1,11 @@
 // The calls of the route book.
 ghost use Rattle.std.specs.Prelude.{true, ◌≡◌, ◌+◌, ◌≤◌, ◌<◌, length};
-ghost use Rattle.base_answers.specs.Answers.{answer_of};
+ghost use Rattle.base_answers.specs.Answers.{answer_of, plain};
 ghost use Rattle.book_entries.specs.Books.{most, data_at, entries_in, is_held};
 ghost use Rattle.book_entries.specs.Checks.{most_area, Book, Addable, say_find, say_room};
 ghost use Rattle.book_calls.specs.Calls.{fresh_in, added_in, file_put, withdrawn_in, file_out, entry_out, Fresh, Add, Withdraw};
 
-use base_answers::err::{Answer, Refusal, is_done, numbers};
+use base_answers::err::{Outcome, Refusal};
 use base_moves::{clear, lay, pack};
 use base_samples::le::write_u32;
 use book_entries::checks::{check_add, check_book, check_held, check_space};
@@ -24,15 +24,13 @@ fn lay_fresh(b: &mut [u8])
 }
 
 // A fresh book, whatever stood in the area.
-pub fn fresh(b: &mut [u8]) -> Answer
-    ensures { Fresh b.old result b.new }
+#[tactic(auto, unfolding(book_entries::specs::Checks::say_fresh))]
+pub fn fresh(b: &mut [u8]) -> Result<(), Refusal>
+    ensures { Fresh b.old (answer_of (plain result)) b.new }
 {
-    let said = check_space(b.len());
-    let r = numbers(said);
-    if is_done(said) {
-        lay_fresh(b);
-    }
-    r
+    check_space(b.len())?;
+    lay_fresh(b);
+    Ok(())
 }
 
 // The file s behind `total` bytes of data, and the new count.
@@ -51,34 +49,30 @@ fn enter(b: &mut [u8], s: &[u8])
 {
     let h = held(b);
     put_file(b, total_of(b, h), s);
-    lay(b, 4 + ENTRY_SIZE * h, &s[0..ENTRY_SIZE]);
+    lay(b, 4 + ENTRY_SIZE * h, &s[..ENTRY_SIZE]);
 }
 
 // Adds a whole file, for its point.
-pub fn add(b: &mut [u8], s: &[u8], p: usize) -> Answer
-    ensures { Add b.old p s.now result b.new }
+pub fn add(b: &mut [u8], s: &[u8], p: usize) -> Result<(), Refusal>
+    ensures { Add b.old p s.now (answer_of (plain result)) b.new }
 {
-    let said = check_add(b, s, p);
-    let r = numbers(said);
-    if is_done(said) {
-        enter(b, s);
-    }
-    r
+    check_add(b, s, p)?;
+    enter(b, s);
+    Ok(())
 }
 
 // Where the file of point p stands, and how many bytes it has.
-pub fn find(b: &[u8], p: usize) -> Answer
-    ensures { result ≡ answer_of (say_find b.now p) }
+#[tactic(auto, using(book_entries::proofs::Laid::room), unfolding(book_entries::specs::Checks::say_find))]
+pub fn find(b: &[u8], p: usize) -> Outcome
+    ensures { result ≡ say_find b.now p }
 {
-    let said = check_held(b, p);
-    if !is_done(said) {
-        return numbers(said);
-    }
+    check_held(b, p)?;
     let i = slot_of(b, p, 0, held(b));
-    numbers(Refusal::Done(DATA_AT + total_of(b, i), size_at(b, i)))
+    Ok((DATA_AT + total_of(b, i), size_at(b, i)))
 }
 
 // The file of entry i, of h that are held, taken out of the data: what stands behind it moved down, and the new count.
+#[tactic(auto, using(book_entries::proofs::Laid::room))]
 fn take_file(b: &mut [u8], i: usize, h: usize)
     requires { Book b.old × (h ≡ length (entries_in b.old)) × (i < h) }
     ensures { b.new ≡ file_out b.old i }
@@ -105,6 +99,7 @@ fn drop_entry(b: &mut [u8], i: usize)
 }
 
 // The entry and the file of point p taken out, and what stands behind each moved down.
+#[tactic(auto, using(book_entries::proofs::Laid::room))]
 fn take_out(b: &mut [u8], p: usize)
     requires { Book b.old × (is_held p (entries_in b.old) ≡ true) }
     ensures { b.new ≡ withdrawn_in b.old p }
@@ -116,25 +111,21 @@ fn take_out(b: &mut [u8], p: usize)
 }
 
 // The file of point p is no longer held, and its room is free.
-pub fn withdraw(b: &mut [u8], p: usize) -> Answer
-    ensures { Withdraw b.old p result b.new }
+#[tactic(auto, unfolding(book_entries::specs::Checks::say_withdraw))]
+pub fn withdraw(b: &mut [u8], p: usize) -> Result<(), Refusal>
+    ensures { Withdraw b.old p (answer_of (plain result)) b.new }
 {
-    let said = check_held(b, p);
-    let r = numbers(said);
-    if is_done(said) {
-        take_out(b, p);
-    }
-    r
+    check_held(b, p)?;
+    take_out(b, p);
+    Ok(())
 }
 
 // The room that is free, and how many points are held.
-pub fn room(b: &[u8]) -> Answer
-    ensures { result ≡ answer_of (say_room b.now) }
+#[tactic(auto, using(book_entries::proofs::Laid::room), unfolding(book_entries::specs::Checks::say_room))]
+pub fn room(b: &[u8]) -> Outcome
+    ensures { result ≡ say_room b.now }
 {
-    let said = check_book(b);
-    if !is_done(said) {
-        return numbers(said);
-    }
+    check_book(b)?;
     let h = held(b);
-    numbers(Refusal::Done(b.len() - DATA_AT - total_of(b, h), h))
+    Ok((b.len() - DATA_AT - total_of(b, h), h))
 }

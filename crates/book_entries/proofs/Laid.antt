@@ -13,7 +13,7 @@ use Rattle.base_samples.specs.Le.{Bytes, le_at, le_bytes}
 use Rattle.base_samples.proofs.LeLaws.{length-le_bytes, le_bytes-at}
 use Rattle.file_open.specs.Files.{section_of}
 use Rattle.book_entries.specs.Books.{most, entry_size, entry_start, total_at, data_at, joined, book_of, entry_at, is_used, used_from, entries_in, total_in, data_in, are_entries, all_zero, unused_in, could_be}
-use Rattle.book_entries.proofs.Entries.{entry_length, entries-few}
+use Rattle.book_entries.proofs.Entries.{entry_length, entries-few, walk}
 
 -- ---- lengths
 
@@ -85,6 +85,12 @@ checked b h =
     let q₂ = (and-eq-true_iff _ _).0 q₁.1 in
     let q₃ = (and-eq-true_iff _ _).0 q₂.1 in
     record { count = eqb-true (le_at 4 b 0) most q.0; heads = q₁.0; zeros = q₂.0; total = eqb-true (le_at 4 b total_at) (total_in b) q₃.0; within = leb-true (data_at + total_in b) (length b) q₃.1 }
+
+pub within : (b : List ℕ) → could_be b ≡ true → data_at + total_in b ≤ length b
+within b h = (checked b h).within
+
+-- what the code knows of a book whose entries it walks over
+pub ruleset room = (walk, within)
 
 -- ---- an area that passes
 

@@ -1,4 +1,3 @@
-pub mod Tests
 pub mod Entries
 pub mod Laid
 pub mod Passed

@@ -1,9 +1,9 @@
 -- The route book, from C-14: "sections in a fixed order, each after its count: a directory of 64 fixed entries, then the data". As bytes, as read back, and which
 -- directories and counts calls can leave.
 use Rattle.std.specs.Prelude.{Bool, true, cond, not, ◌&&◌, List, [], ◌∷◌, ◌++◌, ℕ, zero, suc, ◌+◌, ◌-◌, ◌*◌, ltb, leb, eqb, length, take, drop, get_or, replicate}
+use Rattle.std.specs.List.{list_all}
 use Rattle.std.proofs.Math.Seq.{slice}
-use Rattle.base_answers.specs.declared.err.Refusal.TheVariants.{Done}
-use Rattle.base_answers.specs.Answers.{done}
+use Rattle.base_answers.specs.Answers.{told, done}
 use Rattle.base_answers.specs.Checks.{first_refusal}
 use Rattle.base_samples.specs.Le.{le_at}
 use Rattle.file_open.specs.Files.{section_of, is_count, common_size, file_size}
@@ -101,7 +101,7 @@ size_at i es = size_by (get_or es i [])
 
 -- what some file begins with: what opening asks of the count and the fields, for their own width and point; the rate is not among them
 abbrev pub is_head : List ℕ → Bool
-is_head e = let h = head_in e in is_count (le_at 4 e 0) && done (first_refusal (field_checks h h.width h.point) (Done 0 0))
+is_head e = let h = head_in e in is_count (le_at 4 e 0) && done (first_refusal (field_checks h h.width h.point) (told 0 0))
 
 -- an entry is what some file begins with, and none of the entries es behind it has its point
 abbrev pub is_only : List ℕ → List (List ℕ) → Bool
@@ -112,8 +112,7 @@ are_entries [] = true
 are_entries (e ∷ es) = is_only e es && are_entries es
 
 unfoldable pub all_zero : List ℕ → Bool
-all_zero [] = true
-all_zero (c ∷ cs) = eqb c 0 && all_zero cs
+all_zero s = list_all (λ c. eqb c 0) s
 
 -- the entries behind the held ones
 abbrev pub unused_in : List ℕ → List ℕ

@@ -1,7 +1,7 @@
 -- The checks of the book's calls, from C-14, in order, what each call says, and what is known where they pass. What a call leaves of the area is in `book_calls`.
 use Rattle.std.specs.Prelude.{true, not, List, [], ◌∷◌, ◌++◌, ◌≡◌, ℕ, ◌+◌, ◌≤◌, ◌<◌, ltb, leb, length}
-use Rattle.base_answers.specs.declared.err.Refusal.{Refusal}
-use Rattle.base_answers.specs.declared.err.Refusal.TheVariants.{Done, TooLong, BadCount, CutShort, BookFull, AlreadyHeld, NotHeld}
+use Rattle.base_answers.specs.declared.err.Refusal.TheVariants.{TooLong, BadCount, CutShort, BookFull, AlreadyHeld, NotHeld}
+use Rattle.base_answers.specs.Answers.{Outcome, told}
 use Rattle.base_answers.specs.Checks.{Check, first_refusal, tight}
 use Rattle.file_open.specs.Opens.{level_in, file_checks, own_width}
 use Rattle.book_entries.specs.Books.{most, entry_size, data_at, entries_in, free_in, slot_of, is_held, place_at, size_at, could_be}
@@ -25,8 +25,8 @@ pub record Book (b : List ℕ) : Type 0 where
 
 -- ---- a fresh book
 
-unfoldable pub say_fresh : List ℕ → Refusal
-say_fresh b = first_refusal (space_checks (length b)) (Done 0 0)
+unfoldable pub say_fresh : List ℕ → Outcome
+say_fresh b = first_refusal (space_checks (length b)) (told 0 0)
 
 -- ---- adding
 
@@ -38,8 +38,8 @@ whole_checks s p = file_checks s (own_width s) p ++ ((ltb 0 (level_in s), CutSho
 abbrev pub room_checks : List ℕ → ℕ → ℕ → List Check
 room_checks b p n = (is_held p (entries_in b), AlreadyHeld) ∷ (leb most (length (entries_in b)), BookFull) ∷ (ltb (free_in b) n, BookFull) ∷ []
 
-unfoldable pub say_add : List ℕ → ℕ → List ℕ → Refusal
-say_add b p s = first_refusal (book_checks b ++ (whole_checks s p ++ room_checks b p (length s))) (Done 0 0)
+unfoldable pub say_add : List ℕ → ℕ → List ℕ → Outcome
+say_add b p s = first_refusal (book_checks b ++ (whole_checks s p ++ room_checks b p (length s))) (told 0 0)
 
 -- what laying a file in a book needs: the bytes of an entry, an entry that is free, and room
 pub record Addable (b s : List ℕ) : Type 0 where
@@ -54,16 +54,16 @@ abbrev pub held_checks : List ℕ → ℕ → List Check
 held_checks b p = book_checks b ++ ((not (is_held p (entries_in b)), NotHeld) ∷ [])
 
 -- "found by point number only, as place and length": the place is from the area's first byte
-unfoldable pub say_find : List ℕ → ℕ → Refusal
+unfoldable pub say_find : List ℕ → ℕ → Outcome
 say_find b p =
     let es = entries_in b in
     let i = slot_of p es in
-    first_refusal (held_checks b p) (Done (data_at + place_at i es) (size_at i es))
+    first_refusal (held_checks b p) (told (data_at + place_at i es) (size_at i es))
 
-unfoldable pub say_withdraw : List ℕ → ℕ → Refusal
-say_withdraw b p = first_refusal (held_checks b p) (Done 0 0)
+unfoldable pub say_withdraw : List ℕ → ℕ → Outcome
+say_withdraw b p = first_refusal (held_checks b p) (told 0 0)
 
 -- ---- how much room is left, and how many points are held
 
-unfoldable pub say_room : List ℕ → Refusal
-say_room b = first_refusal (book_checks b) (Done (free_in b) (length (entries_in b)))
+unfoldable pub say_room : List ℕ → Outcome
+say_room b = first_refusal (book_checks b) (told (free_in b) (length (entries_in b)))

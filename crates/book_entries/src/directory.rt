@@ -1,4 +1,5 @@
-// The directory of a book, read: its entries, and where their files stand in the data.
+// The directory of a book, read: its entries, and where their files stand in the data. No type holds that an area has one (`data_at ≤ length b`): docs/EXCEPTIONS.md names
+// `entry`, `size_at`, `held`, `total_of` and `slot_of`, which may not ask more.
 ghost use Rattle.std.specs.Prelude.{◌≡◌, ◌+◌, ◌*◌, ◌≤◌, ◌<◌, length, drop};
 ghost use Rattle.file_open.specs.Opens.{head_in, Read};
 ghost use Rattle.book_entries.specs.Books.{most_size, most, data_at, size_by, entry_at, entries_in, slot_of, place_at};
@@ -23,8 +24,7 @@ pub fn entry(b: &[u8], i: usize) -> Head
     ensures read { Read result }
 {
     let at = 4 + ENTRY_SIZE * i;
-    let end = at + ENTRY_SIZE;
-    head_in(&b[at..end])
+    head_in(&b[at..at + ENTRY_SIZE])
 }
 
 // The bytes of its file.
@@ -42,42 +42,30 @@ pub fn held(b: &[u8]) -> usize
     requires { data_at ≤ length b.now }
     ensures { result ≡ length (entries_in b.now) }
 {
-    let mut i = 0;
-    while i < MOST {
-        if read_u32(b, 4 + ENTRY_SIZE * i) == 0 {
-            return i;
-        }
-        i += 1;
-    }
-    MOST
+    (0..MOST)
+        .position(|i| read_u32(b, 4 + ENTRY_SIZE * i) == 0)
+        .unwrap_or(MOST)
 }
 
 // The bytes of the files of the first i entries.
+#[tactic(auto, using(crate::proofs::Entries::walk))]
 pub fn total_of(b: &[u8], i: usize) -> usize
     requires { (i ≤ length (entries_in b.now)) × (data_at ≤ length b.now) }
     ensures value { result ≡ place_at i (entries_in b.now) }
     ensures upper_bound { result ≤ most_size * most }
 {
     let mut total = 0;
-    let mut j = 0;
-    while j < i {
+    for j in 0..i {
         total += size_at(b, j);
-        j += 1;
     }
     total
 }
 
 // The entry of point p, of h that are held, from entry `from` on; h where it has none.
+#[tactic(auto, using(crate::proofs::Entries::walk))]
 pub fn slot_of(b: &[u8], p: usize, from: usize, h: usize) -> usize
     requires { (from ≤ h) × (h ≡ length (entries_in b.now)) × (data_at ≤ length b.now) }
     ensures { result ≡ from + slot_of p (drop from (entries_in b.now)) }
 {
-    let mut i = from;
-    while i < h {
-        if entry(b, i).point == p {
-            return i;
-        }
-        i += 1;
-    }
-    h
+    (from..h).find(|&i| entry(b, i).point == p).unwrap_or(h)
 }

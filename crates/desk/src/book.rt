@@ -11,14 +11,14 @@ use book_calls::calls::{add, find, fresh, room, withdraw};
 pub extern "C" fn bk_book_fresh(area: &mut [u8]) -> Answer
     ensures { Fresh area.old result area.new }
 {
-    fresh(area)
+    Answer::from(fresh(area))
 }
 
 #[unsafe(no_mangle)]
 pub extern "C" fn bk_book_add(area: &mut [u8], file: &[u8], point: u32) -> Answer
     ensures { Add area.old point file.now result area.new }
 {
-    add(area, file, point as usize)
+    Answer::from(add(area, file, point as usize))
 }
 
 // Where the file of a point stands, from the area's first byte on, and how long it is.
@@ -26,14 +26,14 @@ pub extern "C" fn bk_book_add(area: &mut [u8], file: &[u8], point: u32) -> Answe
 pub extern "C" fn bk_book_find(area: &[u8], point: u32) -> Answer
     ensures { result ≡ answer_of (say_find area.now point) }
 {
-    find(area, point as usize)
+    Answer::from(find(area, point as usize))
 }
 
 #[unsafe(no_mangle)]
 pub extern "C" fn bk_book_withdraw(area: &mut [u8], point: u32) -> Answer
     ensures { Withdraw area.old point result area.new }
 {
-    withdraw(area, point as usize)
+    Answer::from(withdraw(area, point as usize))
 }
 
 // The free room in bytes, and how many points are held.
@@ -41,5 +41,5 @@ pub extern "C" fn bk_book_withdraw(area: &mut [u8], point: u32) -> Answer
 pub extern "C" fn bk_book_room(area: &[u8]) -> Answer
     ensures { result ≡ answer_of (say_room area.now) }
 {
-    room(area)
+    Answer::from(room(area))
 }

@@ -10,7 +10,7 @@ ghost use Rattle.file_why.specs.Reasons.{reason_of};
 use base_answers::err::Answer;
 use file_head::{HeadAnswer, head, size};
 use file_open::open::{OpenAnswer, open};
-use file_open::section::section_answer;
+use file_open::section::section_place;
 use file_sample::{PeekAnswer, peek};
 use file_why::{Reason, why};
 use file_write::write::write;
@@ -31,7 +31,7 @@ pub extern "C" fn bk_pyramid_write_i8(
     ensures { Write Filter.Cdf53I8 levels point rate x.now file.old one.old two.old result file.new one.new two.new }
 {
     let l = levels as usize;
-    write(Filter::Cdf53I8, l, point, rate, x, file, one, two)
+    Answer::from(write(Filter::Cdf53I8, l, point, rate, x, file, one, two))
 }
 
 #[unsafe(no_mangle)]
@@ -47,7 +47,7 @@ pub extern "C" fn bk_pyramid_write_i16(
     ensures { Write Filter.Cdf53I16 levels point rate x.now file.old one.old two.old result file.new one.new two.new }
 {
     let l = levels as usize;
-    write(Filter::Cdf53I16, l, point, rate, x, file, one, two)
+    Answer::from(write(Filter::Cdf53I16, l, point, rate, x, file, one, two))
 }
 
 #[unsafe(no_mangle)]
@@ -63,7 +63,7 @@ pub extern "C" fn bk_pyramid_write_i32(
     ensures { Write Filter.Cdf53I32 levels point rate x.now file.old one.old two.old result file.new one.new two.new }
 {
     let l = levels as usize;
-    write(Filter::Cdf53I32, l, point, rate, x, file, one, two)
+    Answer::from(write(Filter::Cdf53I32, l, point, rate, x, file, one, two))
 }
 
 #[unsafe(no_mangle)]
@@ -101,7 +101,7 @@ pub extern "C" fn bk_pyramid_sample(file: &[u8], width: u32, point: u32, place: 
 pub extern "C" fn bk_pyramid_section(file: &[u8], width: u32, point: u32, number: u32) -> Answer
     ensures { result ≡ answer_of (say_section file.now width point number) }
 {
-    section_answer(file, width as usize, point as usize, number as usize)
+    Answer::from(section_place(file, width as usize, point as usize, number as usize))
 }
 
 #[unsafe(no_mangle)]
@@ -115,5 +115,5 @@ pub extern "C" fn bk_pyramid_head(file: &[u8]) -> HeadAnswer
 pub extern "C" fn bk_pyramid_size(width: u32, n: u64, levels: u32) -> Answer
     ensures { result ≡ answer_of (say_size width n levels) }
 {
-    size(width as usize, n as usize, levels as usize)
+    Answer::from(size(width as usize, n as usize, levels as usize))
 }

@@ -13,7 +13,7 @@ pub extern "C" fn bk_stream_piece_i8(
 ) -> Answer
     ensures { Piece 1 state.old y.now a.old d.old result state.new a.new d.new }
 {
-    piece(1, state, y, a, d)
+    Answer::from(piece::<u8>(state, y, a, d))
 }
 
 #[unsafe(no_mangle)]
@@ -25,7 +25,7 @@ pub extern "C" fn bk_stream_piece_i16(
 ) -> Answer
     ensures { Piece 2 state.old y.now a.old d.old result state.new a.new d.new }
 {
-    piece(2, state, y, a, d)
+    Answer::from(piece::<u16>(state, y, a, d))
 }
 
 #[unsafe(no_mangle)]
@@ -37,26 +37,26 @@ pub extern "C" fn bk_stream_piece_i32(
 ) -> Answer
     ensures { Piece 4 state.old y.now a.old d.old result state.new a.new d.new }
 {
-    piece(4, state, y, a, d)
+    Answer::from(piece::<u32>(state, y, a, d))
 }
 
 #[unsafe(no_mangle)]
 pub extern "C" fn bk_stream_finish_i8(state: &mut [u8], a: &mut [u8], d: &mut [u8]) -> Answer
     ensures { Finish 1 state.old a.old d.old result state.new a.new d.new }
 {
-    finish(1, state, a, d)
+    Answer::from(finish::<u8>(state, a, d))
 }
 
 #[unsafe(no_mangle)]
 pub extern "C" fn bk_stream_finish_i16(state: &mut [u8], a: &mut [u8], d: &mut [u8]) -> Answer
     ensures { Finish 2 state.old a.old d.old result state.new a.new d.new }
 {
-    finish(2, state, a, d)
+    Answer::from(finish::<u16>(state, a, d))
 }
 
 #[unsafe(no_mangle)]
 pub extern "C" fn bk_stream_finish_i32(state: &mut [u8], a: &mut [u8], d: &mut [u8]) -> Answer
     ensures { Finish 4 state.old a.old d.old result state.new a.new d.new }
 {
-    finish(4, state, a, d)
+    Answer::from(finish::<u32>(state, a, d))
 }

@@ -16,14 +16,14 @@ use levels_last::last::dwt;
 pub extern "C" fn bk_cdf53_depth(n: u64) -> Answer
     ensures { result ≡ answer_of (say_depth Wavelet.Cdf53 n) }
 {
-    ask_depth(Wavelet::Cdf53, n as usize)
+    Answer::from(ask_depth(Wavelet::Cdf53, n as usize))
 }
 
 #[unsafe(no_mangle)]
 pub extern "C" fn bk_cdf97_depth(n: u64) -> Answer
     ensures { result ≡ answer_of (say_depth Wavelet.Cdf97 n) }
 {
-    ask_depth(Wavelet::Cdf97, n as usize)
+    Answer::from(ask_depth(Wavelet::Cdf97, n as usize))
 }
 
 // One level forward, and back.
@@ -32,98 +32,98 @@ pub extern "C" fn bk_cdf97_depth(n: u64) -> Answer
 pub extern "C" fn bk_cdf53_forward_i8(x: &[u8], a: &mut [u8], d: &mut [u8]) -> Answer
     ensures { OneForward Filter.Cdf53I8 x.now a.old d.old result a.new d.new }
 {
-    execute_forward(Filter::Cdf53I8, x, a, d)
+    Answer::from(execute_forward(Filter::Cdf53I8, x, a, d))
 }
 
 #[unsafe(no_mangle)]
 pub extern "C" fn bk_cdf53_forward_i16(x: &[u8], a: &mut [u8], d: &mut [u8]) -> Answer
     ensures { OneForward Filter.Cdf53I16 x.now a.old d.old result a.new d.new }
 {
-    execute_forward(Filter::Cdf53I16, x, a, d)
+    Answer::from(execute_forward(Filter::Cdf53I16, x, a, d))
 }
 
 #[unsafe(no_mangle)]
 pub extern "C" fn bk_cdf53_forward_i32(x: &[u8], a: &mut [u8], d: &mut [u8]) -> Answer
     ensures { OneForward Filter.Cdf53I32 x.now a.old d.old result a.new d.new }
 {
-    execute_forward(Filter::Cdf53I32, x, a, d)
+    Answer::from(execute_forward(Filter::Cdf53I32, x, a, d))
 }
 
 #[unsafe(no_mangle)]
 pub extern "C" fn bk_cdf53_forward_f32(x: &[u8], a: &mut [u8], d: &mut [u8]) -> Answer
     ensures { OneForward Filter.Cdf53F32 x.now a.old d.old result a.new d.new }
 {
-    execute_forward(Filter::Cdf53F32, x, a, d)
+    Answer::from(execute_forward(Filter::Cdf53F32, x, a, d))
 }
 
 #[unsafe(no_mangle)]
 pub extern "C" fn bk_cdf53_forward_f64(x: &[u8], a: &mut [u8], d: &mut [u8]) -> Answer
     ensures { OneForward Filter.Cdf53F64 x.now a.old d.old result a.new d.new }
 {
-    execute_forward(Filter::Cdf53F64, x, a, d)
+    Answer::from(execute_forward(Filter::Cdf53F64, x, a, d))
 }
 
 #[unsafe(no_mangle)]
 pub extern "C" fn bk_cdf97_forward_f32(x: &[u8], a: &mut [u8], d: &mut [u8]) -> Answer
     ensures { OneForward Filter.Cdf97F32 x.now a.old d.old result a.new d.new }
 {
-    execute_forward(Filter::Cdf97F32, x, a, d)
+    Answer::from(execute_forward(Filter::Cdf97F32, x, a, d))
 }
 
 #[unsafe(no_mangle)]
 pub extern "C" fn bk_cdf97_forward_f64(x: &[u8], a: &mut [u8], d: &mut [u8]) -> Answer
     ensures { OneForward Filter.Cdf97F64 x.now a.old d.old result a.new d.new }
 {
-    execute_forward(Filter::Cdf97F64, x, a, d)
+    Answer::from(execute_forward(Filter::Cdf97F64, x, a, d))
 }
 
 #[unsafe(no_mangle)]
 pub extern "C" fn bk_cdf53_inverse_i8(a: &[u8], d: &[u8], out: &mut [u8]) -> Answer
     ensures { OneInverse Filter.Cdf53I8 a.now d.now out.old result out.new }
 {
-    execute_inverse(Filter::Cdf53I8, a, d, out)
+    Answer::from(execute_inverse(Filter::Cdf53I8, a, d, out))
 }
 
 #[unsafe(no_mangle)]
 pub extern "C" fn bk_cdf53_inverse_i16(a: &[u8], d: &[u8], out: &mut [u8]) -> Answer
     ensures { OneInverse Filter.Cdf53I16 a.now d.now out.old result out.new }
 {
-    execute_inverse(Filter::Cdf53I16, a, d, out)
+    Answer::from(execute_inverse(Filter::Cdf53I16, a, d, out))
 }
 
 #[unsafe(no_mangle)]
 pub extern "C" fn bk_cdf53_inverse_i32(a: &[u8], d: &[u8], out: &mut [u8]) -> Answer
     ensures { OneInverse Filter.Cdf53I32 a.now d.now out.old result out.new }
 {
-    execute_inverse(Filter::Cdf53I32, a, d, out)
+    Answer::from(execute_inverse(Filter::Cdf53I32, a, d, out))
 }
 
 #[unsafe(no_mangle)]
 pub extern "C" fn bk_cdf53_inverse_f32(a: &[u8], d: &[u8], out: &mut [u8]) -> Answer
     ensures { OneInverse Filter.Cdf53F32 a.now d.now out.old result out.new }
 {
-    execute_inverse(Filter::Cdf53F32, a, d, out)
+    Answer::from(execute_inverse(Filter::Cdf53F32, a, d, out))
 }
 
 #[unsafe(no_mangle)]
 pub extern "C" fn bk_cdf53_inverse_f64(a: &[u8], d: &[u8], out: &mut [u8]) -> Answer
     ensures { OneInverse Filter.Cdf53F64 a.now d.now out.old result out.new }
 {
-    execute_inverse(Filter::Cdf53F64, a, d, out)
+    Answer::from(execute_inverse(Filter::Cdf53F64, a, d, out))
 }
 
 #[unsafe(no_mangle)]
 pub extern "C" fn bk_cdf97_inverse_f32(a: &[u8], d: &[u8], out: &mut [u8]) -> Answer
     ensures { OneInverse Filter.Cdf97F32 a.now d.now out.old result out.new }
 {
-    execute_inverse(Filter::Cdf97F32, a, d, out)
+    Answer::from(execute_inverse(Filter::Cdf97F32, a, d, out))
 }
 
 #[unsafe(no_mangle)]
 pub extern "C" fn bk_cdf97_inverse_f64(a: &[u8], d: &[u8], out: &mut [u8]) -> Answer
     ensures { OneInverse Filter.Cdf97F64 a.now d.now out.old result out.new }
 {
-    execute_inverse(Filter::Cdf97F64, a, d, out)
+    Answer::from(execute_inverse(Filter::Cdf97F64, a, d, out))
 }
 
 // The last of many levels.
@@ -139,7 +139,7 @@ pub extern "C" fn bk_cdf53_dwt_i8(
 ) -> Answer
     ensures { Dwt Filter.Cdf53I8 levels x.now a.old d.old one.old two.old result a.new d.new one.new two.new }
 {
-    dwt(Filter::Cdf53I8, levels as usize, x, a, d, one, two)
+    Answer::from(dwt(Filter::Cdf53I8, levels as usize, x, a, d, one, two))
 }
 
 #[unsafe(no_mangle)]
@@ -153,7 +153,7 @@ pub extern "C" fn bk_cdf53_dwt_i16(
 ) -> Answer
     ensures { Dwt Filter.Cdf53I16 levels x.now a.old d.old one.old two.old result a.new d.new one.new two.new }
 {
-    dwt(Filter::Cdf53I16, levels as usize, x, a, d, one, two)
+    Answer::from(dwt(Filter::Cdf53I16, levels as usize, x, a, d, one, two))
 }
 
 #[unsafe(no_mangle)]
@@ -167,7 +167,7 @@ pub extern "C" fn bk_cdf53_dwt_i32(
 ) -> Answer
     ensures { Dwt Filter.Cdf53I32 levels x.now a.old d.old one.old two.old result a.new d.new one.new two.new }
 {
-    dwt(Filter::Cdf53I32, levels as usize, x, a, d, one, two)
+    Answer::from(dwt(Filter::Cdf53I32, levels as usize, x, a, d, one, two))
 }
 
 #[unsafe(no_mangle)]
@@ -181,7 +181,7 @@ pub extern "C" fn bk_cdf53_dwt_f32(
 ) -> Answer
     ensures { Dwt Filter.Cdf53F32 levels x.now a.old d.old one.old two.old result a.new d.new one.new two.new }
 {
-    dwt(Filter::Cdf53F32, levels as usize, x, a, d, one, two)
+    Answer::from(dwt(Filter::Cdf53F32, levels as usize, x, a, d, one, two))
 }
 
 #[unsafe(no_mangle)]
@@ -195,7 +195,7 @@ pub extern "C" fn bk_cdf53_dwt_f64(
 ) -> Answer
     ensures { Dwt Filter.Cdf53F64 levels x.now a.old d.old one.old two.old result a.new d.new one.new two.new }
 {
-    dwt(Filter::Cdf53F64, levels as usize, x, a, d, one, two)
+    Answer::from(dwt(Filter::Cdf53F64, levels as usize, x, a, d, one, two))
 }
 
 #[unsafe(no_mangle)]
@@ -209,7 +209,7 @@ pub extern "C" fn bk_cdf97_dwt_f32(
 ) -> Answer
     ensures { Dwt Filter.Cdf97F32 levels x.now a.old d.old one.old two.old result a.new d.new one.new two.new }
 {
-    dwt(Filter::Cdf97F32, levels as usize, x, a, d, one, two)
+    Answer::from(dwt(Filter::Cdf97F32, levels as usize, x, a, d, one, two))
 }
 
 #[unsafe(no_mangle)]
@@ -223,7 +223,7 @@ pub extern "C" fn bk_cdf97_dwt_f64(
 ) -> Answer
     ensures { Dwt Filter.Cdf97F64 levels x.now a.old d.old one.old two.old result a.new d.new one.new two.new }
 {
-    dwt(Filter::Cdf97F64, levels as usize, x, a, d, one, two)
+    Answer::from(dwt(Filter::Cdf97F64, levels as usize, x, a, d, one, two))
 }
 
 // All levels, and back.
@@ -238,7 +238,7 @@ pub extern "C" fn bk_cdf53_multi_dwt_i8(
 ) -> Answer
     ensures { Multi Filter.Cdf53I8 levels x.now out.old one.old two.old result out.new one.new two.new }
 {
-    multi_dwt(Filter::Cdf53I8, levels as usize, x, out, one, two)
+    Answer::from(multi_dwt(Filter::Cdf53I8, levels as usize, x, out, one, two))
 }
 
 #[unsafe(no_mangle)]
@@ -251,7 +251,7 @@ pub extern "C" fn bk_cdf53_multi_dwt_i16(
 ) -> Answer
     ensures { Multi Filter.Cdf53I16 levels x.now out.old one.old two.old result out.new one.new two.new }
 {
-    multi_dwt(Filter::Cdf53I16, levels as usize, x, out, one, two)
+    Answer::from(multi_dwt(Filter::Cdf53I16, levels as usize, x, out, one, two))
 }
 
 #[unsafe(no_mangle)]
@@ -264,7 +264,7 @@ pub extern "C" fn bk_cdf53_multi_dwt_i32(
 ) -> Answer
     ensures { Multi Filter.Cdf53I32 levels x.now out.old one.old two.old result out.new one.new two.new }
 {
-    multi_dwt(Filter::Cdf53I32, levels as usize, x, out, one, two)
+    Answer::from(multi_dwt(Filter::Cdf53I32, levels as usize, x, out, one, two))
 }
 
 #[unsafe(no_mangle)]
@@ -277,7 +277,7 @@ pub extern "C" fn bk_cdf53_multi_dwt_f32(
 ) -> Answer
     ensures { Multi Filter.Cdf53F32 levels x.now out.old one.old two.old result out.new one.new two.new }
 {
-    multi_dwt(Filter::Cdf53F32, levels as usize, x, out, one, two)
+    Answer::from(multi_dwt(Filter::Cdf53F32, levels as usize, x, out, one, two))
 }
 
 #[unsafe(no_mangle)]
@@ -290,7 +290,7 @@ pub extern "C" fn bk_cdf53_multi_dwt_f64(
 ) -> Answer
     ensures { Multi Filter.Cdf53F64 levels x.now out.old one.old two.old result out.new one.new two.new }
 {
-    multi_dwt(Filter::Cdf53F64, levels as usize, x, out, one, two)
+    Answer::from(multi_dwt(Filter::Cdf53F64, levels as usize, x, out, one, two))
 }
 
 #[unsafe(no_mangle)]
@@ -303,7 +303,7 @@ pub extern "C" fn bk_cdf97_multi_dwt_f32(
 ) -> Answer
     ensures { Multi Filter.Cdf97F32 levels x.now out.old one.old two.old result out.new one.new two.new }
 {
-    multi_dwt(Filter::Cdf97F32, levels as usize, x, out, one, two)
+    Answer::from(multi_dwt(Filter::Cdf97F32, levels as usize, x, out, one, two))
 }
 
 #[unsafe(no_mangle)]
@@ -316,7 +316,7 @@ pub extern "C" fn bk_cdf97_multi_dwt_f64(
 ) -> Answer
     ensures { Multi Filter.Cdf97F64 levels x.now out.old one.old two.old result out.new one.new two.new }
 {
-    multi_dwt(Filter::Cdf97F64, levels as usize, x, out, one, two)
+    Answer::from(multi_dwt(Filter::Cdf97F64, levels as usize, x, out, one, two))
 }
 
 #[unsafe(no_mangle)]
@@ -330,7 +330,7 @@ pub extern "C" fn bk_cdf53_multi_idwt_i8(
 ) -> Answer
     ensures { MultiBack Filter.Cdf53I8 a.now d.now lengths.now out.old one.old two.old result out.new one.new two.new }
 {
-    multi_idwt(Filter::Cdf53I8, a, d, lengths, out, one, two)
+    Answer::from(multi_idwt(Filter::Cdf53I8, a, d, lengths, out, one, two))
 }
 
 #[unsafe(no_mangle)]
@@ -344,7 +344,7 @@ pub extern "C" fn bk_cdf53_multi_idwt_i16(
 ) -> Answer
     ensures { MultiBack Filter.Cdf53I16 a.now d.now lengths.now out.old one.old two.old result out.new one.new two.new }
 {
-    multi_idwt(Filter::Cdf53I16, a, d, lengths, out, one, two)
+    Answer::from(multi_idwt(Filter::Cdf53I16, a, d, lengths, out, one, two))
 }
 
 #[unsafe(no_mangle)]
@@ -358,7 +358,7 @@ pub extern "C" fn bk_cdf53_multi_idwt_i32(
 ) -> Answer
     ensures { MultiBack Filter.Cdf53I32 a.now d.now lengths.now out.old one.old two.old result out.new one.new two.new }
 {
-    multi_idwt(Filter::Cdf53I32, a, d, lengths, out, one, two)
+    Answer::from(multi_idwt(Filter::Cdf53I32, a, d, lengths, out, one, two))
 }
 
 #[unsafe(no_mangle)]
@@ -372,7 +372,7 @@ pub extern "C" fn bk_cdf53_multi_idwt_f32(
 ) -> Answer
     ensures { MultiBack Filter.Cdf53F32 a.now d.now lengths.now out.old one.old two.old result out.new one.new two.new }
 {
-    multi_idwt(Filter::Cdf53F32, a, d, lengths, out, one, two)
+    Answer::from(multi_idwt(Filter::Cdf53F32, a, d, lengths, out, one, two))
 }
 
 #[unsafe(no_mangle)]
@@ -386,7 +386,7 @@ pub extern "C" fn bk_cdf53_multi_idwt_f64(
 ) -> Answer
     ensures { MultiBack Filter.Cdf53F64 a.now d.now lengths.now out.old one.old two.old result out.new one.new two.new }
 {
-    multi_idwt(Filter::Cdf53F64, a, d, lengths, out, one, two)
+    Answer::from(multi_idwt(Filter::Cdf53F64, a, d, lengths, out, one, two))
 }
 
 #[unsafe(no_mangle)]
@@ -400,7 +400,7 @@ pub extern "C" fn bk_cdf97_multi_idwt_f32(
 ) -> Answer
     ensures { MultiBack Filter.Cdf97F32 a.now d.now lengths.now out.old one.old two.old result out.new one.new two.new }
 {
-    multi_idwt(Filter::Cdf97F32, a, d, lengths, out, one, two)
+    Answer::from(multi_idwt(Filter::Cdf97F32, a, d, lengths, out, one, two))
 }
 
 #[unsafe(no_mangle)]
@@ -414,5 +414,5 @@ pub extern "C" fn bk_cdf97_multi_idwt_f64(
 ) -> Answer
     ensures { MultiBack Filter.Cdf97F64 a.now d.now lengths.now out.old one.old two.old result out.new one.new two.new }
 {
-    multi_idwt(Filter::Cdf97F64, a, d, lengths, out, one, two)
+    Answer::from(multi_idwt(Filter::Cdf97F64, a, d, lengths, out, one, two))
 }

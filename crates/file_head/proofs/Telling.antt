@@ -7,8 +7,7 @@ use Prim.Native.Nat.{ℕ, ◌≤◌}
 use native.Mathlib.Omega.{arith}
 use lib.ListN.{length}
 use Rattle.base_answers.specs.declared.err.Answer.{Answer}
-use Rattle.base_answers.specs.declared.err.Refusal.TheVariants.{Done}
-use Rattle.base_answers.specs.Answers.{answer_of, say}
+use Rattle.base_answers.specs.Answers.{told, answer_of, say}
 use Rattle.base_answers.proofs.Endings.{is-done}
 use Rattle.base_answers.proofs.Passed.{Passing, through, right}
 use Rattle.base_lengths.specs.Levels.{count_at}
@@ -45,7 +44,7 @@ done-tells {s} {t} m z =
 -- where the start of the file passes, the answer is done
 pub start-done : {s : List ℕ} {t : HeadAnswer} → Passing (start_checks s) → Told s t → t.answer ≡ say 0 0 0
 unfolding say_head
-start-done {s} p m = m.answer ∙ ap answer_of (through (start_checks s) (Done 0 0) p)
+start-done {s} p m = m.answer ∙ ap answer_of (through (start_checks s) (told 0 0) p)
 
 -- a file that opens tells the width and the point that it opens for, and the rate that opening gives; the level that it opens at is one of its levels or 0, and the
 -- count is that of its samples at this level

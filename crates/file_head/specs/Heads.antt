@@ -1,8 +1,7 @@
 -- What a file of either kind says of itself, "all as stored", the rate 0 where it has none, and the size of a file that is to be written, which is a new one.
 use Rattle.std.specs.Prelude.{cond, not, List, ◌∷◌, ◌≡◌, ℕ}
-use Rattle.base_answers.specs.declared.err.Refusal.{Refusal}
-use Rattle.base_answers.specs.declared.err.Refusal.TheVariants.{Done, OtherWidth}
-use Rattle.base_answers.specs.Answers.{answer_of, done}
+use Rattle.base_answers.specs.declared.err.Refusal.TheVariants.{OtherWidth}
+use Rattle.base_answers.specs.Answers.{Outcome, told, answer_of, done}
 use Rattle.base_answers.specs.Checks.{first_refusal}
 use Rattle.base_lengths.specs.Levels.{levels_of}
 use Rattle.base_samples.specs.Integers.{is_width}
@@ -12,8 +11,8 @@ use Rattle.file_open.specs.Opens.{head_in, rate_in, filter_of, start_checks}
 use Rattle.file_head.specs.declared.HeadAnswer.{HeadAnswer}
 
 -- "6, 10 (under 4), 9, 10 (section 0 not whole), never 18": what opening tests before the width
-unfoldable pub say_head : List ℕ → Refusal
-say_head s = first_refusal (start_checks s) (Done 0 0)
+unfoldable pub say_head : List ℕ → Outcome
+say_head s = first_refusal (start_checks s) (told 0 0)
 
 -- "when refused the fields are 0"
 abbrev pub told_of : List ℕ → ℕ → ℕ
@@ -36,5 +35,5 @@ pub record Tells (t : HeadAnswer) (k l n p r : ℕ) : Type 0 where
   pub rate : t.rate ≡ r
 
 -- "first is the file's size in bytes; refusals as writing's for that n and levels, and 8 (0, width) first where the width is not 1, 2 or 4"
-unfoldable pub say_size : ℕ → ℕ → ℕ → Refusal
-say_size w n l = first_refusal ((not (is_width w), OtherWidth 0 w) ∷ depth_checks (filter_of w) l n) (Done (file_size new_size w (levels_of l) n) 0)
+unfoldable pub say_size : ℕ → ℕ → ℕ → Outcome
+say_size w n l = first_refusal ((not (is_width w), OtherWidth 0 w) ∷ depth_checks (filter_of w) l n) (told (file_size new_size w (levels_of l) n) 0)

@@ -2,10 +2,9 @@
 #![tactic(auto)]
 
 ghost use Rattle.std.specs.Prelude.{◌≡◌};
-ghost use Rattle.base_answers.specs.Answers.{answer_of};
 ghost use Rattle.file_head.specs.Heads.{say_size, Told};
 
-use base_answers::err::{Answer, Refusal, is_done, numbers};
+use base_answers::err::{Answer, Outcome, Refusal};
 use base_lengths::at_least_one;
 use file_open::head::{head_in, rate_in};
 use file_open::open::{check_start, filter_of, is_width};
@@ -25,14 +24,13 @@ pub struct HeadAnswer {
 }
 
 // What section 0 of a file, or of the front of one, says. No field is held against another.
+#[tactic(auto, unfolding(crate::specs::Heads::say_head))]
 pub fn head(s: &[u8]) -> HeadAnswer
     ensures { Told s.now result }
 {
-    let said = check_start(s);
-    let answer = numbers(said);
-    if !is_done(said) {
+    if let Err(e) = check_start(s) {
         return HeadAnswer {
-            answer: answer,
+            answer: Answer::from(e),
             width: 0,
             levels: 0,
             samples: 0,
@@ -42,7 +40,7 @@ pub fn head(s: &[u8]) -> HeadAnswer
     }
     let h = head_in(s);
     HeadAnswer {
-        answer: answer,
+        answer: Answer::from(Ok(())),
         width: h.width as u32,
         levels: h.levels as u32,
         samples: h.samples as u32,
@@ -52,16 +50,14 @@ pub fn head(s: &[u8]) -> HeadAnswer
 }
 
 // How many bytes the file of n samples of w bytes will have, or what writing it is refused with for n and the levels.
-pub fn size(w: usize, n: usize, levels: usize) -> Answer
-    ensures { result ≡ answer_of (say_size w n levels) }
+#[tactic(auto, using(file_open::proofs::Writing::levels_few, file_open::proofs::Opening::filters), unfolding(crate::specs::Heads::say_size))]
+pub fn size(w: usize, n: usize, levels: usize) -> Outcome
+    ensures { result ≡ say_size w n levels }
 {
     if !is_width(w) {
-        return numbers(Refusal::OtherWidth(0, w));
+        return Err(Refusal::OtherWidth(0, w));
     }
     let f = filter_of(w);
-    let said = check_depth(f, levels, n);
-    if !is_done(said) {
-        return numbers(said);
-    }
-    numbers(Refusal::Done(file_size(f, at_least_one(levels), n), 0))
+    check_depth(f, levels, n)?;
+    Ok((file_size(f, at_least_one(levels), n), 0))
 }

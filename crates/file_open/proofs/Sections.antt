@@ -1,21 +1,22 @@
 -- Looking a section up: what its checks leave, and that the part lies in the file.
-use mathlib.Core.Bool.{Bool, true, false, cond}
-use mathlib.Core.List.{List, [], ◌++◌}
+use mathlib.Core.Bool.{true}
+use mathlib.Core.List.{List, ◌++◌}
 use mathlib.Core.Path.{◌≡◌, refl, sym, ap, ◌∙◌}
 use Prim.Native.Nat.{ℕ, ◌+◌, ◌-◌, ◌≤◌}
 use native.Mathlib.Nat.{add_comm, mul-le-mul_left}
 use native.Mathlib.Omega.{arith}
 use lib.ListN.{length, take, drop}
 use denote.Ref.{Bor}
-use Rattle.base_answers.specs.declared.err.Refusal.TheVariants.{Done}
-use Rattle.base_answers.specs.Answers.{done}
-use Rattle.base_answers.proofs.Passed.{Refusing, Passing, passing, through, both-refuse, both-pass}
+use Rattle.base_answers.specs.Answers.{Outcome, told, done}
+use Rattle.base_answers.specs.Checks.{Check, first_refusal, passes}
+use Rattle.base_answers.proofs.Tells.{same_told}
+use Rattle.base_answers.proofs.Passed.{off, Passing, passing, through, both-pass, passed, in_turn, and_then}
 use Rattle.file_open.specs.declared.head.Head.{Head}
 use Rattle.file_open.specs.declared.walk.Way.{Way}
 use Rattle.file_open.specs.declared.walk.Way.TheVariants.{Went, Short, Wrong}
 use Rattle.file_open.specs.Opens.{head_in, head_checks, samples_to, way_to, section_checks, number_checks, length_of, start_of, end_by, say_section, section_in, section_at}
 use Rattle.file_open.proofs.Ways.{last-most, walk-size}
-use Rattle.file_open.proofs.Opening.{head-refuses, head-passes}
+use Rattle.file_open.proofs.Opening.{head-passes}
 
 -- a way that went through section j ends behind its bytes, in the file
 pub ends : (s : List ℕ) (h : Head) (j q : ℕ) → h.body ≤ length s → way_to s h j ≡ Went q → (length_of h j ≤ q) × (q ≤ length s)
@@ -28,13 +29,8 @@ ends s h j q b e =
 -- what the lookup says where it is done, and that the part lies in the file
 went : (s : List ℕ) (h : Head) (j : ℕ) (v : Way) → way_to s h j ≡ v → h.body ≤ length s → Passing (section_checks v (length s)) → end_by v - length_of h j + length_of h j ≤ length s
 went s h j (Went q) e b r = let z = ends s h j q b e in omega (arith, z)
-went s h j (Short i) e b r = absurd (let z : ◌≡◌ {A = ℕ} 0 1 = ap (λ b. cond b 0 1) r.0 in omega arith)
-went s h j (Wrong i found) e b r = absurd (let z : ◌≡◌ {A = ℕ} 0 1 = ap (λ b. cond b 0 1) r.0 in omega arith)
-
-section-refuses : (v : Way) (b : ℕ) → Refusing (section_checks v b)
-section-refuses (Went q) b = tt
-section-refuses (Short i) b = (refl, tt)
-section-refuses (Wrong i found) b = (refl, tt)
+went s h j (Short i) e b r = off r.0 refl
+went s h j (Wrong i found) e b r = off r.0 refl
 
 module _ (s : List ℕ) (w p j : ℕ) where
   abbrev start : ℕ
@@ -43,32 +39,47 @@ module _ (s : List ℕ) (w p j : ℕ) where
   abbrev size : ℕ
   size = length_of (head_in s) j
 
-  pub section-is : done (say_section s w p j) ≡ true → (say_section s w p j ≡ Done start size) × (start + size ≤ length s)
+  abbrev number : List Check
+  number = number_checks j (head_in s).levels
+
+  abbrev ways : List Check
+  ways = section_checks (way_to s (head_in s) j) (length s)
+
+  -- what the lookup says, as the code asks: section 0, the number, then the way
+  pub section_in_turn : say_section s w p j ≡ and_then (passes (head_checks s w p)) (λ _. and_then (passes number) (λ _. first_refusal ways (told start size)))
+  unfolding say_section
+  section_in_turn =
+      in_turn (head_checks s w p) (number ++ ways) tt (told start size)
+      ∙ ap (λ (r : Outcome). and_then (passes (head_checks s w p)) (λ _. r)) (in_turn number ways tt (told start size))
+
+  -- where it is done it tells the part's place and length, and the part lies in the file
+  pub section_tells : (a n : ℕ) → say_section s w p j ≡ told a n → (a ≡ start) × (n ≡ size) × (a + n ≤ length s)
+  unfolding say_section
+  section_tells a n e =
+      let all = head_checks s w p ++ (number ++ ways) in
+      let q = passed all (start, size) e in
+      let qh = both-pass (head_checks s w p) (number ++ ways) q in
+      let within = went s (head_in s) j (way_to s (head_in s) j) refl (head-passes s w p qh.0).there (both-pass number ways qh.1).1 in
+      let same = same_told (sym e ∙ through all (told start size) q) in
+      (same.0, same.1, omega arith)
+
+  pub section-is : done (say_section s w p j) ≡ true → (say_section s w p j ≡ told start size) × (start + size ≤ length s)
   unfolding say_section
   section-is h =
-      let heads = head_checks s w p in
-      let number = number_checks j (head_in s).levels in
-      let way = way_to s (head_in s) j in
-      let ways = section_checks way (length s) in
-      let rest = number ++ ways in
-      let q = passing (heads ++ rest) (Done start size) (both-refuse heads rest (head-refuses s w p) (both-refuse number ways (refl, (refl, tt)) (section-refuses way (length s)))) h in
-      let qh = both-pass heads rest q in
-      let qw = both-pass number ways qh.1 in
-      (through (heads ++ rest) (Done start size) q, went s (head_in s) j way refl (head-passes s w p qh.0).there qw.1)
+      let all = head_checks s w p ++ (number ++ ways) in
+      let q = passing all (told start size) h in
+      let qh = both-pass (head_checks s w p) (number ++ ways) q in
+      (through all (told start size) q, went s (head_in s) j (way_to s (head_in s) j) refl (head-passes s w p qh.0).there (both-pass number ways qh.1).1)
 
-  -- the part of a lookup, by its answer
-  pub section-part : (a n : ℕ) → done (say_section s w p j) ≡ true → a ≡ start → n ≡ size → take (a + n - a) (drop a s) ≡ section_in s w p j
+  -- the part, by its place and length
+  pub section_part : (a n : ℕ) → say_section s w p j ≡ told a n → take (a + n - a) (drop a s) ≡ section_in s w p j
   unfolding section_in
-  section-part a n h ea en =
-      let e : a + n - a ≡ n = omega arith in
-      rw h (ap (λ (i : ℕ). take i (drop a s)) (e ∙ en) ∙ ap (λ (i : ℕ). take size (drop i s)) ea)
+  section_part a n h =
+      let t = section_tells a n h in
+      let e : a + n - a ≡ size = omega arith in
+      rw h (ap (λ (i : ℕ). take i (drop a s)) e ∙ ap (λ (i : ℕ). take size (drop i s)) t.0)
 
-  pub section-none : done (say_section s w p j) ≡ false → [] ≡ section_in s w p j
-  unfolding section_in
-  section-none h = rw h
-
--- where the part lies in the file, by its start
-pub section-place : (s : Bor (List ℕ)) (w p j a : ℕ) (t : Bool) → done (say_section s.now w p j) ≡ t → a ≡ cond t (start s.now w p j) 0 → (s.ref_ptr.0, a + s.ref_ptr.1) ≡ section_at s w p j
+-- and where it lies, in bytes that stand at r
+pub section_stands : (s : Bor (List ℕ)) (w p j a n : ℕ) → say_section s.now w p j ≡ told a n → (s.ref_ptr.0, a + s.ref_ptr.1) ≡ section_at s w p j
 unfolding section_at
-section-place s w p j a t h e =
-    ap (λ (n : ℕ). (s.ref_ptr.0, n)) (add_comm a s.ref_ptr.1 ∙ ap (λ (n : ℕ). s.ref_ptr.1 + n) (e ∙ ap (λ (x : Bool). cond x (start s.now w p j) 0) (sym h)))
+section_stands s w p j a n h = rw h (ap (λ (i : ℕ). (s.ref_ptr.0, i)) (add_comm a s.ref_ptr.1 ∙ ap (λ (i : ℕ). s.ref_ptr.1 + i) (section_tells s.now w p j a n h).0))

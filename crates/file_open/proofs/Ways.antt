@@ -2,7 +2,7 @@
 use mathlib.Core.Bool.{Bool, true, false, cond, not}
 use mathlib.Core.List.{List}
 use mathlib.Core.Path.{◌≡◌, refl, sym, ap, subst, ◌∙◌}
-use Prim.Native.Nat.{ℕ, zero, suc, ◌+◌, ◌-◌, ◌*◌, ◌≤◌, ◌<◌}
+use Prim.Native.Nat.{ℕ, zero, suc, ◌+◌, ◌-◌, ◌*◌, ◌^◌, ◌≤◌, ◌<◌}
 use native.Mathlib.Nat.{mul-le-mul_left, mul-le-mul_right}
 use native.Mathlib.Omega.{arith}
 use borrow.Author.Tests.{ltb-true, ltb-false, eqb-true, eqb-false, eq-eqb, ne_eqb}
@@ -182,14 +182,21 @@ walk-below l s k n at j h e =
     omega (arith, stop-below s k l at j (count_at (l + 1 - j) n) i, i.some, i.most, mul-le-mul_left k (count-at-le (l + 1 - j) n))
 
 -- the walk of the code
-pub walk_none : (s : List ℕ) (w l n at : ℕ) → l ≡ 0 → one_of s w n 1 at ≡ walk_of s w l n at
+pub walk_none : (s : List ℕ) (w l n at : ℕ) → l ≡ 0 → walk_of s w l n at ≡ one_of s w n 1 at
 unfolding walk_of
-walk_none s w l n at e = sym (ap (λ (k : ℕ). walk_of s w k n at) e)
+walk_none s w l n at e = ap (λ (k : ℕ). walk_of s w k n at) e
 
-pub walk_more : (s : List ℕ) (w l n at : ℕ) (v : Way) → (l ≡ 0 → ⊥) → v ≡ walk_of s w (l - 1) (approx_length n) at → go_on v (λ p. one_of s w (details_length n) (l + 1) p) ≡ walk_of s w l n at
+pub walk_more : (s : List ℕ) (w l n at : ℕ) → (l ≡ 0 → ⊥) → walk_of s w l n at ≡ go_on (walk_of s w (l - 1) (approx_length n) at) (λ p. one_of s w (details_length n) (l + 1) p)
 unfolding walk_of
-walk_more s w l n at v h e =
+walk_more s w l n at h =
     let q : suc (l - 1) ≡ l = omega arith in
-    ap (λ (u : Way). go_on u (λ p. one_of s w (details_length n) (l + 1) p)) e
-    ∙ ap (λ (k : ℕ). go_on (walk_of s w (l - 1) (approx_length n) at) (λ p. one_of s w (details_length n) (k + 1) p)) (sym q)
-    ∙ ap (λ (k : ℕ). walk_of s w k n at) q
+    sym (ap (λ (k : ℕ). walk_of s w k n at) q) ∙ ap (λ (k : ℕ). go_on (walk_of s w (l - 1) (approx_length n) at) (λ p. one_of s w (details_length n) (k + 1) p)) q
+
+-- and what the last of its sections asks, where the others are there
+pub walk_room : (s : List ℕ) (k l n at p : ℕ) → at ≤ length s → k * n < 2 ^ 63 → walk_of s k l (approx_length n) at ≡ Went p → (p ≤ length s) × (k * details_length n < 2 ^ 63)
+walk_room s k l n at p h b e =
+    let m = mul-le-mul_left k (let h : details_length n ≤ n = omega arith in h) in
+    ((walk-size l s k (approx_length n) at p h e).1, omega arith)
+
+-- for the code that counts samples
+pub ruleset counting = (count-at-le)

@@ -9,28 +9,29 @@ use Prim.Native.Nat.{ℕ, ◌+◌, ◌*◌, ◌/◌, ◌≤◌, ◌<◌}
 use native.Mathlib.Nat.{mod-eq_of_lt, mul-le-mul_right}
 use native.Mathlib.Omega.{arith}
 use borrow.Author.Tests.{ne_eqb, eqb-false}
-use lib.Dec.{leb, eqb}
+use lib.Dec.{eqb}
 use lib.ListN.{length, take, drop, set, length-append, length-set}
 use lib.Seq.{take_at, drop_at, drop-drop}
-use Rattle.base_answers.specs.declared.err.Refusal.{Refusal}
-use Rattle.base_answers.specs.declared.err.Refusal.TheVariants.{Done, NoRate}
-use Rattle.base_answers.specs.Answers.{done}
-use Rattle.base_answers.specs.Checks.{first_refusal, ragged}
-use Rattle.base_answers.proofs.Passed.{passing, roomy}
+use Rattle.base_answers.specs.declared.err.Refusal.TheVariants.{NoRate}
+use Rattle.std.specs.Prelude.{Ok}
+use Rattle.base_answers.specs.Answers.{told, done}
+use Rattle.base_answers.specs.Checks.{passes, ragged}
+use Rattle.base_answers.proofs.Passed.{passing, passed, roomy}
 use Rattle.base_samples.specs.Le.{le_bytes, stored}
 use Rattle.base_samples.proofs.Words.{holds}
 use Rattle.base_samples.proofs.LeLaws.{length-le_bytes, length-stored, stored_is}
 use Rattle.base_order.proofs.Order.{lt-or-le}
+use Rattle.base_lengths.specs.declared.Wavelet.{Wavelet}
 use Rattle.base_lengths.specs.Lengths.{most_samples}
 use Rattle.base_lengths.specs.Levels.{depth_of, levels_of}
 use Rattle.base_lengths.proofs.Depths.{depth-at-most}
 use Rattle.levels_filter.specs.declared.filter.Filter.{Filter}
 use Rattle.levels_filter.specs.declared.filter.Filter.TheVariants.{Cdf53I8, Cdf53I16, Cdf53I32, Cdf53F32, Cdf53F64, Cdf97F32, Cdf97F64}
 use Rattle.levels_filter.specs.Filters.{width_of, wavelet_of, Integers}
-use Rattle.levels_filter.specs.Calls.{Ready}
-use Rattle.levels_filter.proofs.Cuts.{width-pos}
+use Rattle.levels_filter.specs.Calls.{depth_checks, Ready}
+use Rattle.levels_filter.proofs.Cuts.{width-pos, few-levels}
 use Rattle.levels_filter.proofs.Integers.{common}
-use Rattle.levels_filter.proofs.Multi.{shallow-refused, checked-ready}
+use Rattle.levels_filter.proofs.Multi.{checked-ready}
 use Rattle.levels_filter.proofs.Lists.{later}
 use Rattle.file_open.specs.Files.{old_count, new_count, count_by, common_of, rate_of, head_of, head_size, new_size, common_size, body_of, body_size, file_size, file_of}
 use Rattle.file_open.specs.Writes.{write_checks, say_write}
@@ -131,6 +132,8 @@ new-laid s w l n p r hw hl hr h =
     let k = new-kind r hr in
     head-laid s w l n p r hw hl h ∙ ap₂ (λ (c : ℕ) (m : List ℕ). (common_of c w l n p ++ m) ++ drop new_size s) (sym k.count) (sym k.behind)
 
+pub ruleset laying = (new-laid)
+
 pub common-length : (c w l n p : ℕ) → length (common_of c w l n p) ≡ common_size
 unfolding le_bytes
 common-length c w l n p = refl
@@ -167,11 +170,19 @@ file-laid f l n p r m x b b₁ y hr e em q ey =
 
 -- ---- the call
 
--- the checks, at k bytes a sample
-pub say-width : (f : Filter) (l r x b u v k : ℕ) {z : Refusal} → k ≡ width_of f
-    → z ≡ first_refusal (ragged k x ∷ ragged k u ∷ ragged k v ∷ (eqb r 0, NoRate) ∷ write_checks f l (x / k) b (u / k) (v / k)) (Done 0 0) → z ≡ say_write f l r x b u v
-unfolding say_write
-say-width f l r x b u v k e h = rw e at h
+-- levels that pass their checks are few, of samples within the limit
+pub levels_few : (f : Filter) (l n : ℕ) → passes (depth_checks f l n) ≡ Ok tt → (levels_of l < 256) × (n ≤ most_samples)
+levels_few f l n e =
+    let p = passed (depth_checks f l n) tt e in
+    let most = roomy most_samples n p.0 in
+    (few-levels (wavelet_of f) (levels_of l) n (roomy (depth_of (wavelet_of f) n) (levels_of l) p.1.0) most, most)
+
+-- the levels of samples within the limit fit a byte
+pub depth-few : (w : Wavelet) (n : ℕ) → n ≤ most_samples → depth_of w n < 256
+depth-few w n h = few-levels w (depth_of w n) n (omega arith) h
+
+-- for the code that writes
+pub ruleset writing = (width-byte, depth-few)
 
 -- what the checks leave: the levels run, the file area has room, and there is a rate
 pub record Writable (f : Filter) (l n r x b u v : ℕ) : Type 0 where
@@ -183,8 +194,7 @@ pub write-ready : (f : Filter) (l r x b u v : ℕ) → done (say_write f l r x b
 unfolding say_write
 write-ready f l r x b u v h =
     let k = width_of f in
-    let p = passing (ragged k x ∷ ragged k u ∷ ragged k v ∷ (eqb r 0, NoRate) ∷ write_checks f l (x / k) b (u / k) (v / k)) (Done 0 0)
-    (refl, (refl, (refl, (refl, (refl, (shallow-refused f (x / k) (leb l 1), (refl, (refl, (refl, tt))))))))) h in
+    let p = passing (ragged k x ∷ ragged k u ∷ ragged k v ∷ (eqb r 0, NoRate) ∷ write_checks f l (x / k) b (u / k) (v / k)) (told 0 0) h in
     let q = p.1.1.1.1 in
     record {
       ready = checked-ready f l x u v (p.0, (p.1.0, (p.1.1.0, tt))) (q.0, (q.1.0, tt)) q.1.1.1;
@@ -192,6 +202,6 @@ write-ready f l r x b u v h =
       rate = let z = eqb-false r 0 p.1.1.1.0 in omega (arith, z);
     }
 
--- the same of i levels and k bytes, which are the ones asked for
-pub ready_for : (f : Filter) (l r x b u v i k : ℕ) → i ≡ levels_of l → k ≡ width_of f → done (say_write f l r x b u v) ≡ true → Writable f i (x / k) r x b u v
-ready_for f l r x b u v i k ei ek h = rw (ei, ek) (write-ready f l r x b u v h)
+-- a call that is done has whole samples
+pub write_whole : (f : Filter) (l r x b u v : ℕ) → say_write f l r x b u v ≡ told 0 0 → x ≡ width_of f * (x / width_of f)
+write_whole f l r x b u v h = (write-ready f l r x b u v (ap done h)).ready.whole

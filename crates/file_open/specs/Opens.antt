@@ -2,9 +2,8 @@
 use Rattle.std.specs.Prelude.{Bool, true, cond, not, ◌&&◌, List, [], ◌∷◌, ◌++◌, ◌≡◌, ℕ, ◌+◌, ◌-◌, ◌*◌, ◌/◌, ◌%◌, ◌<◌, ltb, eqb, length, take, drop}
 use Rattle.std.specs.Borrow.{Bor}
 use Rattle.base_answers.specs.declared.err.Answer.{Answer}
-use Rattle.base_answers.specs.declared.err.Refusal.{Refusal}
-use Rattle.base_answers.specs.declared.err.Refusal.TheVariants.{Done, MinFilterSize, BufferWasTooSmallForLevel, TooLong, OtherWidth, BadCount, CutShort, OtherPoint, Trailing, NoSuchPlace, NoRate}
-use Rattle.base_answers.specs.Answers.{done}
+use Rattle.base_answers.specs.declared.err.Refusal.TheVariants.{MinFilterSize, BufferWasTooSmallForLevel, TooLong, OtherWidth, BadCount, CutShort, OtherPoint, Trailing, NoSuchPlace, NoRate}
+use Rattle.base_answers.specs.Answers.{Outcome, told, done}
 use Rattle.base_answers.specs.Checks.{Check, first_refusal, ragged, tight, two_areas, Call}
 use Rattle.base_lengths.specs.declared.Wavelet.TheVariants.{Cdf53}
 use Rattle.base_lengths.specs.Lengths.{most_samples}
@@ -99,8 +98,8 @@ abbrev pub count_in : List ℕ → ℕ
 count_in s = count_at (level_in s) (head_in s).samples
 
 -- "it returns level and count": what is said of the file alone
-unfoldable pub say_file : List ℕ → ℕ → ℕ → Refusal
-say_file s w p = first_refusal (file_checks s w p) (Done (level_in s) (count_in s))
+unfoldable pub say_file : List ℕ → ℕ → ℕ → Outcome
+say_file s w p = first_refusal (file_checks s w p) (told (level_in s) (count_in s))
 
 -- the samples of that level
 unfoldable pub samples_in : List ℕ → List ℕ
@@ -119,8 +118,8 @@ abbrev pub rooms_for : ℕ → ℕ → ℕ → ℕ → ℕ → List Check
 rooms_for w c o u v = tight (o / w) c ∷ two_areas (u / w) (v / w) c
 
 -- the areas, the file, and the room for what it gives back
-unfoldable pub say_open : List ℕ → ℕ → ℕ → ℕ → ℕ → ℕ → Refusal
-say_open s w p o u v = first_refusal (area_checks w o u v ++ (file_checks s w p ++ rooms_for w (count_in s) o u v)) (Done (level_in s) (count_in s))
+unfoldable pub say_open : List ℕ → ℕ → ℕ → ℕ → ℕ → ℕ → Outcome
+say_open s w p o u v = first_refusal (area_checks w o u v ++ (file_checks s w p ++ rooms_for w (count_in s) o u v)) (told (level_in s) (count_in s))
 
 -- the answer r, and the output and the work areas that opening leaves: "output past the count is unchanged"
 abbrev pub Open : List ℕ → ℕ → ℕ → List ℕ → List ℕ → List ℕ → Answer → List ℕ → List ℕ → List ℕ → Type 0
@@ -177,10 +176,10 @@ end_by (Wrong j found) = 0
 abbrev pub start_of : List ℕ → Head → ℕ → ℕ
 start_of s h j = end_by (way_to s h j) - length_of h j
 
-unfoldable pub say_section : List ℕ → ℕ → ℕ → ℕ → Refusal
+unfoldable pub say_section : List ℕ → ℕ → ℕ → ℕ → Outcome
 say_section s w p j =
     let h = head_in s in
-    first_refusal (head_checks s w p ++ (number_checks j h.levels ++ section_checks (way_to s h j) (length s))) (Done (start_of s h j) (length_of h j))
+    first_refusal (head_checks s w p ++ (number_checks j h.levels ++ section_checks (way_to s h j) (length s))) (told (start_of s h j) (length_of h j))
 
 -- what the call hands back; "when refused, .. an empty stretch"
 unfoldable pub section_in : List ℕ → ℕ → ℕ → ℕ → List ℕ

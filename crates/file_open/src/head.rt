@@ -16,7 +16,8 @@ pub const NEW_SIZE: usize = 4 + NEW_COUNT;
 
 pub const COMMON_SIZE: usize = 4 + OLD_COUNT;
 
-// What section 0 of either kind says, and where the sections after it start.
+// What section 0 of either kind says, and where the sections after it start. That its numbers fit their bytes (`Read`) is no invariant: docs/EXCEPTIONS.md names `samples_to`,
+// `count_of` and `length_of`, which take any Head that fits, and may not ask more.
 #[derive(Clone, Copy)]
 pub struct Head {
     pub width: usize,
@@ -26,30 +27,22 @@ pub struct Head {
     pub body: usize,
 }
 
-fn wide(b: u8) -> usize
-    ensures { (result ≡ b) × (result < 256) }
-{
-    b as usize
-}
-
 // Whether section 0 can have this count.
 pub fn is_count(c: usize) -> bool
     ensures { result ≡ is_count c }
 {
-    if c == OLD_COUNT {
-        return true;
-    }
-    c == NEW_COUNT
+    matches!(c, OLD_COUNT | NEW_COUNT)
 }
 
+#[tactic(auto, unfolding(base_samples::specs::Le::le_at))]
 pub fn head_in(s: &[u8]) -> Head
     requires { common_size ≤ length s.now }
     ensures value { result ≡ head_in s.now }
     ensures read { Read result }
 {
     Head {
-        width: wide(s[4]),
-        levels: wide(s[5]),
+        width: usize::from(s[4]),
+        levels: usize::from(s[5]),
         samples: read_u32(s, 6) as usize,
         point: read_u32(s, 10) as usize,
         body: 4 + read_u32(s, 0) as usize,
@@ -70,12 +63,14 @@ pub fn rate_in(s: &[u8]) -> u32
     ensures { result ≡ rate_in s.now }
 {
     if is_new(s) {
-        return read_u32(s, COMMON_SIZE);
+        read_u32(s, COMMON_SIZE)
+    } else {
+        0
     }
-    0
 }
 
 // Section 0 of the new kind, at the front of the file.
+#[tactic(auto, using(crate::proofs::Writing::laying))]
 pub fn lay_head(k: usize, levels: usize, n: usize, point: u32, rate: u32, file: &mut [u8])
     requires k_bound { (k < 256) × (levels < 256) × (n ≤ most_samples) × (new_size ≤ length file.old) }
     requires rate_nonzero { 0 < rate }

@@ -41,6 +41,7 @@ fn build(f: Filter, n: usize, s: &[u8], at: usize, other: &[u8], to: &mut [u8])
 }
 
 // The n samples that so many levels of sections from `at` on restore, to the front of `to`; the two areas change roles at each level.
+#[tactic(auto, using(crate::proofs::Parts::restoring))]
 pub fn restore(
     f: Filter,
     s: &[u8],

@@ -1,31 +1,29 @@
 // Looking a section up by its number: a part of the caller's own file.
 ghost use Rattle.std.specs.Prelude.{◌≡◌, ◌+◌, ◌-◌, ◌≤◌, ◌<◌, length};
-ghost use Rattle.base_answers.specs.Answers.{answer_of};
-ghost use Rattle.base_answers.specs.Checks.{first_refusal};
+ghost use Rattle.base_answers.specs.Answers.{told};
+ghost use Rattle.base_answers.specs.Checks.{first_refusal, passes};
 ghost use Rattle.file_open.specs.Walks.{last_count};
 ghost use Rattle.file_open.specs.Opens.{Read, samples_to, way_to, section_checks, number_checks, count_of, length_of, start_of, say_section, section_in, section_at};
 
 use crate::head::{Head, head_in};
 use crate::open::check_head;
 use crate::walk::{Way, walk};
-use base_answers::err::{Answer, Refusal, is_done, numbers};
+use base_answers::err::{Outcome, Refusal};
 use base_lengths::{count_at, details_length};
 
 // A section's number, of l levels.
-fn check_number(j: usize, l: usize) -> Refusal
+fn check_number(j: usize, l: usize) -> Result<(), Refusal>
     requires { l ≤ 255 }
-    ensures { result ≡ first_refusal (number_checks j l) (Refusal.Done 0 0) }
+    ensures { result ≡ passes (number_checks j l) }
 {
-    if j == 0 {
-        return Refusal::NoSuchPlace(j, l + 1);
+    if j == 0 || l + 1 < j {
+        return Err(Refusal::NoSuchPlace(j, l + 1));
     }
-    if l + 1 < j {
-        return Refusal::NoSuchPlace(j, l + 1);
-    }
-    Refusal::Done(0, 0)
+    Ok(())
 }
 
 // How many samples the sections up to section j restore.
+#[tactic(auto, using(crate::proofs::Ways::counting))]
 pub fn samples_to(h: Head, j: usize) -> usize
     requires { (j ≤ h.levels + 1) × (h.levels < 256) }
     ensures { (result ≡ samples_to h j) × (result ≤ h.samples) }
@@ -67,53 +65,39 @@ pub fn length_of(h: Head, j: usize) -> usize
 }
 
 // The way through section j, which ends at a place, is cut, or met a wrong count.
-fn found(s: &[u8], h: Head, j: usize) -> Refusal
+#[tactic(auto, using(crate::proofs::Sections::ends))]
+fn found(s: &[u8], h: Head, j: usize) -> Outcome
     requires read { Read h × (h.body ≤ length s.now) }
     requires le_j { (1 ≤ j) × (j ≤ h.levels + 1) }
-    ensures { result ≡ first_refusal (section_checks (way_to s.now h j) (length s.now)) (Refusal.Done (start_of s.now h j) (length_of h j)) }
+    ensures { result ≡ first_refusal (section_checks (way_to s.now h j) (length s.now)) (told (start_of s.now h j) (length_of h j)) }
 {
     let size = length_of(h, j);
-    let way = way_to(s, h, j);
-    match way {
-        Way::Went(end) => Refusal::Done(end - size, size),
-        Way::Short(_) => Refusal::CutShort(s.len()),
-        Way::Wrong(i, count) => Refusal::BadCount(i, count),
+    match way_to(s, h, j) {
+        Way::Went(end) => Ok((end - size, size)),
+        Way::Short(_) => Err(Refusal::CutShort(s.len())),
+        Way::Wrong(i, count) => Err(Refusal::BadCount(i, count)),
     }
 }
 
-// What the lookup says: the checks of section 0, the number, and the way through that section.
-fn check_section(s: &[u8], w: usize, p: usize, j: usize) -> Refusal
+// Where section j starts after its count, and how long it is: the checks of section 0, the number, and the way through that section.
+#[tactic(auto, using(crate::proofs::Sections::section_in_turn))]
+pub fn section_place(s: &[u8], w: usize, p: usize, j: usize) -> Outcome
     ensures { result ≡ say_section s.now w p j }
 {
-    let start = check_head(s, w, p);
-    if !is_done(start) {
-        return start;
-    }
+    check_head(s, w, p)?;
     let h = head_in(s);
-    let number = check_number(j, h.levels);
-    if !is_done(number) {
-        return number;
-    }
+    check_number(j, h.levels)?;
     found(s, h, j)
 }
 
-// Where section j starts after its count, and how long it is.
-pub fn section_answer(s: &[u8], w: usize, p: usize, j: usize) -> Answer
-    ensures { result ≡ answer_of (say_section s.now w p j) }
-{
-    numbers(check_section(s, w, p, j))
-}
-
 // Section j itself, without its count: a part of the file, or an empty part.
+#[tactic(auto, using(crate::proofs::Sections::section_tells, crate::proofs::Sections::section_part, crate::proofs::Sections::section_stands), unfolding(crate::specs::Opens::section_in, crate::specs::Opens::section_at))]
 pub fn section(s: &[u8], w: usize, p: usize, j: usize) -> &[u8]
     ensures result_value { result.now ≡ section_in s.now w p j }
     ensures ref_ptr_value { result.ref_ptr ≡ section_at s.entry w p j }
 {
-    let r = section_answer(s, w, p, j);
-    if r.number == 0 {
-        let start = r.first as usize;
-        let end = start + r.second as usize;
-        return &s[start..end];
+    match section_place(s, w, p, j) {
+        Ok((start, size)) => &s[start..start + size],
+        Err(_) => &s[0..0],
     }
-    &s[0..0]
 }

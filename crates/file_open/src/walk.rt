@@ -14,6 +14,7 @@ pub enum Way {
 }
 
 // Section number j, of `count` samples of k bytes, at `at`.
+#[tactic(auto, unfolding(crate::specs::Walks::one_of))]
 fn one(s: &[u8], k: usize, count: usize, j: usize, at: usize) -> Way
     requires { (at ≤ length s.now) × (k * count < 2 ^ 63) }
     ensures { result ≡ one_of s.now k count j at }
@@ -34,6 +35,7 @@ fn one(s: &[u8], k: usize, count: usize, j: usize, at: usize) -> Way
 }
 
 // Sections 1 to levels + 1 of a file of n samples, from `at` on.
+#[tactic(auto, using(crate::proofs::Ways::walk_none, crate::proofs::Ways::walk_more, crate::proofs::Ways::walk_room))]
 pub fn walk(s: &[u8], k: usize, levels: usize, n: usize, at: usize) -> Way
     requires { (at ≤ length s.now) × (k * n < 2 ^ 63) × (levels < 2 ^ 8) × (n < 2 ^ 63) }
     ensures { result ≡ walk_of s.now k levels n at }
@@ -41,10 +43,8 @@ pub fn walk(s: &[u8], k: usize, levels: usize, n: usize, at: usize) -> Way
     if levels == 0 {
         return one(s, k, n, 1, at);
     }
-    let way = walk(s, k, levels - 1, approx_length(n), at);
-    match way {
+    match walk(s, k, levels - 1, approx_length(n), at) {
         Way::Went(p) => one(s, k, details_length(n), levels + 1, p),
-        Way::Short(j) => Way::Short(j),
-        Way::Wrong(j, found) => Way::Wrong(j, found),
+        stopped => stopped,
     }
 }

@@ -6,18 +6,14 @@ use mathlib.Core.List.{List, [], ◌∷◌, ◌++◌}
 use mathlib.Core.Logic.{⊎_elim}
 use mathlib.Core.Path.{◌≡◌, refl, sym, ap, ◌∙◌}
 use Prim.Native.Nat.{ℕ, ◌*◌, ◌^◌, ◌≤◌, ◌<◌}
-use native.Mathlib.Omega.{arith}
-use borrow.Author.Tests.{eq-eqb}
 use lib.IntN.{pos}
 use lib.ListN.{length, drop}
 use lib.Seq.{take_at}
 use Rattle.base_answers.specs.declared.err.Answer.{Answer}
-use Rattle.base_answers.specs.declared.err.Refusal.{Refusal}
-use Rattle.base_answers.specs.declared.err.Refusal.TheVariants.{Done}
-use Rattle.base_answers.specs.Answers.{say, answer_of, done}
+use Rattle.base_answers.specs.Answers.{Outcome, told, say, answer_of, says, done}
 use Rattle.base_answers.specs.Checks.{Check, first_refusal, ragged}
-use Rattle.base_answers.proofs.Endings.{is-done, not_done, left-done}
-use Rattle.base_answers.proofs.Passed.{Passing, pass_on, through}
+use Rattle.base_answers.proofs.Endings.{is-done, not_done, said-number, left-done}
+use Rattle.base_answers.proofs.Passed.{off, Passing, Without, passed-before, pass_on, through}
 use Rattle.base_samples.specs.Words.{word_at}
 use Rattle.base_samples.specs.Integers.{is_width, val}
 use Rattle.base_samples.proofs.Words.{word-take}
@@ -38,54 +34,41 @@ peek-decides m n = λ i. record { answer = (m.answer ∙ sym n.answer) i; sample
 front-word : (k : ℕ) (a b : List ℕ) (n j : ℕ) → length a ≡ k * n → j < n → word_at k (a ++ b) j ≡ word_at k a j
 front-word k a b n j e h = sym (word-take k (a ++ b) n j h) ∙ ap (λ (t : List ℕ). word_at k t j) (take_at a b (k * n) e)
 
--- no check of the list refuses with number n
-abbrev Never : ℕ → List Check → Type 0
-Never n [] = Unit {0}
-Never n (p ∷ rest) = ((answer_of p.1).number ≡ n → ⊥) × Never n rest
-
-never_both : (n : ℕ) (l m : List Check) → Never n l → Never n m → Never n (l ++ m)
-never_both n [] m h g = g
-never_both n (p ∷ l) m h g = (h.0, never_both n l m h.1 g)
-
--- so where n is said after them, they all pass
-one-past : (b : Bool) (x y : Refusal) (n : ℕ) → ((answer_of x).number ≡ n → ⊥) → (answer_of (cond b x y)).number ≡ n → (b ≡ false) × ((answer_of y).number ≡ n)
-one-past true x y n h q = absurd (h q)
-one-past false x y n h q = (refl, q)
-
-past-never : (n : ℕ) (l m : List Check) (e : Refusal) → Never n l → (answer_of (first_refusal (l ++ m) e)).number ≡ n → Passing l
-past-never n [] m e h q = tt
-past-never n (p ∷ l) m e h q = let r = one-past p.0 p.1 (first_refusal (l ++ m) e) n h.0 q in (r.0, past-never n l m e h.1 r.1)
-
 -- 7 is said of areas alone
-areas-never : (w o u v : ℕ) → Never 7 (area_checks w o u v)
+without_both : (n : ℕ) (l m : List Check) → Without n l → Without n m → Without n (l ++ m)
+without_both n [] m h g = g
+without_both n (p ∷ l) m h g = (h.0, without_both n l m h.1 g)
+
+areas-never : (w o u v : ℕ) → Without 7 (area_checks w o u v)
 areas-never w o u v = pick (is_width w)
   where
-    pick : (b : Bool) → Never 7 (cond b (ragged w o ∷ ragged w u ∷ ragged w v ∷ []) [])
-    pick true = (λ z. omega arith, (λ z. omega arith, (λ z. omega arith, tt)))
+    pick : (b : Bool) → Without 7 (cond b (ragged w o ∷ ragged w u ∷ ragged w v ∷ []) [])
+    pick true = (refl, (refl, (refl, tt)))
     pick false = tt
 
-way_never : (v : Way) (b : ℕ) → Never 7 (way_checks v b)
-way_never (Went p) b = (λ z. omega arith, tt)
-way_never (Short j) b = (λ z. omega arith, tt)
-way_never (Wrong j found) b = (λ z. omega arith, tt)
+way_never : (v : Way) (b : ℕ) → Without 7 (way_checks v b)
+way_never (Went p) b = (refl, tt)
+way_never (Short j) b = (refl, tt)
+way_never (Wrong j found) b = (refl, tt)
 
-file-never : (s : List ℕ) (w p : ℕ) → Never 7 (file_checks s w p)
+file-never : (s : List ℕ) (w p : ℕ) → Without 7 (file_checks s w p)
 file-never s w p =
-    never_both 7 (head_checks s w p) (way_checks (way_in s (head_in s)) (length s))
-    (λ z. omega arith, (λ z. omega arith, (λ z. omega arith, (λ z. omega arith, (λ z. omega arith, (λ z. omega arith, (λ z. omega arith, (λ z. omega arith, (λ z. omega arith, (λ z. omega arith, (λ z. omega arith, (λ z. omega arith, tt))))))))))))
+    without_both 7 (head_checks s w p) (way_checks (way_in s (head_in s)) (length s))
+    (refl, (refl, (refl, (refl, (refl, (refl, (refl, (refl, (refl, (refl, (refl, (refl, tt))))))))))))
     (way_never (way_in s (head_in s)) (length s))
 
 module _ (s : List ℕ) (w p : ℕ) where
   -- an opening that says 7 has taken the file, and tells its count
-  no-room-file : (o u v : ℕ) → let r = say_open s w p o u v in (answer_of r).number ≡ 7 → (done (say_file s w p) ≡ true) × ((answer_of r).second ≡ count_in s)
+  no-room-file : (o u v : ℕ) → let r = say_open s w p o u v in says 7 r ≡ true → (done (say_file s w p) ≡ true) × ((answer_of r).second ≡ count_in s)
   unfolding say_open say_file
   no-room-file o u v h =
       let rooms = rooms_for w (count_in s) o u v in
-      let all = Done (level_in s) (count_in s) in
-      let e = pass_on (area_checks w o u v) (file_checks s w p ++ rooms) all (past-never 7 (area_checks w o u v) (file_checks s w p ++ rooms) all (areas-never w o u v) h) in
-      let q = past-never 7 (file_checks s w p) rooms all (file-never s w p) (sym (ap (λ (x : Refusal). (answer_of x).number) e) ∙ h) in (
-        ap done (through (file_checks s w p) all q),
-        ap (λ (x : Refusal). (answer_of x).second) (e ∙ pass_on (file_checks s w p) rooms all q) ∙ rooms-count w (count_in s) o u v (level_in s),
+      let all = told (level_in s) (count_in s) in
+      let a = passed-before 7 (area_checks w o u v) (file_checks s w p ++ rooms) all (areas-never w o u v) h in
+      let q = passed-before 7 (file_checks s w p) rooms all (file-never s w p) a.1 in (
+        ap done (through (file_checks s w p) all q.0),
+        ap (λ (x : Outcome). (answer_of x).second) (pass_on (area_checks w o u v) (file_checks s w p ++ rooms) all a.0 ∙ pass_on (file_checks s w p) rooms all q.0)
+            ∙ rooms-count w (count_in s) o u v (level_in s),
       )
 
   -- what opening gives back is as many samples as it says
@@ -100,22 +83,18 @@ module _ (s : List ℕ) (w p : ℕ) where
       rooms : List Check
       rooms = rooms_for w (count_in s) o u v
 
-      e : first_refusal (area_checks w o u v ++ (file_checks s w p ++ rooms)) (Done (level_in s) (count_in s)) ≡ first_refusal (file_checks s w p ++ rooms) (Done (level_in s) (count_in s))
-      e = pass_on (area_checks w o u v) (file_checks s w p ++ rooms) (Done (level_in s) (count_in s)) a
+      e : first_refusal (area_checks w o u v ++ (file_checks s w p ++ rooms)) (told (level_in s) (count_in s)) ≡ first_refusal (file_checks s w p ++ rooms) (told (level_in s) (count_in s))
+      e = pass_on (area_checks w o u v) (file_checks s w p ++ rooms) (told (level_in s) (count_in s)) a
 
-      pick : (b : Bool) → done (say_file s w p) ≡ b → (done (say_file s w p) ≡ false) × (first_refusal (area_checks w o u v ++ (file_checks s w p ++ rooms)) (Done (level_in s) (count_in s)) ≡ say_file s w p)
-      pick false q = (q, e ∙ file-stop s w p rooms (Done (level_in s) (count_in s)) q)
+      pick : (b : Bool) → done (say_file s w p) ≡ b → (done (say_file s w p) ≡ false) × (first_refusal (area_checks w o u v ++ (file_checks s w p ++ rooms)) (told (level_in s) (count_in s)) ≡ say_file s w p)
+      pick false q = (q, e ∙ file-stop s w p rooms (told (level_in s) (count_in s)) q)
       pick true q =
-          let f = e ∙ file-rest s w p rooms (Done (level_in s) (count_in s)) q in
-          let number = ap (λ (x : Refusal). (answer_of x).number) f in
-          absurd
-          (⊎_elim
-          (λ y. let z : ◌≡◌ {A = ℕ} 0 1 = ap (λ (b : Bool). cond b 0 1) (sym (eq-eqb _ 0 (number ∙ y)) ∙ h) in omega arith)
-          (λ y. n (number ∙ y))
-          (rooms-say w (count_in s) o u v (level_in s)))
+          let f = e ∙ file-rest s w p rooms (told (level_in s) (count_in s)) q in
+          let number = ap (λ (x : Outcome). (answer_of x).number) f in
+          ⊎_elim (λ y. off h (is-done _ _ refl (number ∙ y))) (λ y. absurd (n (number ∙ y))) (rooms-say w (count_in s) o u v (level_in s))
 
 module _ (s : List ℕ) (w p : ℕ) {o u v : List ℕ} {r : Answer} {o' u' v' : List ℕ} (call : Open s w p o u v r o' u' v') where
-  abbrev said : Refusal
+  abbrev said : Outcome
   said = say_open s w p (length o) (length u) (length v)
 
   -- past the count of a file that is taken
@@ -154,7 +133,7 @@ module _ (s : List ℕ) (w p : ℕ) {o u v : List ℕ} {r : Answer} {o' u' v' : 
   module _ (z : r.number ≡ 7) where
     probed : (done (say_file s w p) ≡ true) × (r.second ≡ count_in s)
     probed =
-        let f = no-room-file s w p (length o) (length u) (length v) (ap (λ (a : Answer). a.number) (sym call.answer) ∙ z) in
+        let f = no-room-file s w p (length o) (length u) (length v) (said-number 7 said r call.answer z) in
         (f.0, ap (λ (a : Answer). a.second) call.answer ∙ f.1)
 
     pub as-probed : (j : ℕ) → j < r.second → (q : PeekAnswer) → Peek s w p j q → (q.answer ≡ say 0 0 0) × (q.sample ≡ val (256 ^ w) (word_at w (samples_in s) j))

@@ -6,13 +6,13 @@ use Prim.Native.Nat.{ℕ, zero, suc, ◌+◌, ◌-◌, ◌*◌, ◌/◌, ◌%◌
 use native.Mathlib.Omega.{arith}
 use borrow.Author.Tests.{eq-eqb, ne_eqb, lt-ltb, le-ltb}
 use lib.IntN.{pos, ◌+ℤ◌, ◌-ℤ◌}
-use lib.ListN.{length, take, drop}
+use lib.ListN.{length}
 use lib.Signed.{shr_z}
 use Rattle.base_lengths.specs.Lengths.{approx_length, details_length}
 use Rattle.base_lengths.proofs.Depths.{step}
 use Rattle.base_order.proofs.Order.{lt-or-le}
 use Rattle.base_samples.specs.Words.{word_at}
-use Rattle.base_samples.specs.Integers.{Width, val, residue, wrap, decode}
+use Rattle.base_samples.specs.Integers.{val, residue, wrap, decode}
 use Rattle.base_samples.proofs.Words.{holds}
 use Rattle.filter_cdf53i.specs.Lift.{even, sample}
 use Rattle.filter_cdf53i.specs.Bands.{sample_word}
@@ -22,7 +22,7 @@ use Rattle.filter_cdf53i.proofs.WordTurns.{sample_at, even-at, sample-even, samp
 use Rattle.levels_filter.proofs.Cuts.{split-width}
 use Rattle.file_open.specs.Files.{body_size}
 use Rattle.file_open.specs.Walks.{bytes_at, restored_at}
-use Rattle.file_open.proofs.Parts.{piece, piece-length, restore-none}
+use Rattle.file_open.proofs.Parts.{piece-length}
 use Rattle.file_sample.specs.Neighbours.{word_in, even_by, Stands, AroundOf, Chosen}
 
 -- a section that stands in s has its samples
@@ -92,17 +92,10 @@ module _ {k : ℕ} (l n p : ℕ) (s : List ℕ) (st : Stands k (suc l) n p (leng
       (ez ∙ word-is (2 * j) hj ∙ sym (back-even j))
       ∙ sym (word-is (2 * i + 1) h)
 
--- the part of s that the code takes is the section
-pub part-is : (k : ℕ) (s : List ℕ) (c p : ℕ) → take (p + 4 + k * c - (p + 4)) (drop (p + 4) s) ≡ bytes_at k s c p
-part-is k s c p = piece s (p + 4) (k * c) (k * c) refl
-
-pub part_count : {k : ℕ} → Width k → (s : List ℕ) (c p : ℕ) → p + (4 + k * c) ≤ length s → length (take (p + 4 + k * c - (p + 4)) (drop (p + 4) s)) / k ≡ c
-part_count {k} w s c p h = ap (λ (t : List ℕ). length t / k) (part-is k s c p) ∙ (holds w.some (bytes_at k s c p) c (section-bytes k s c p h)).count
-
--- three samples of the level below, of which r is one of the first two: sample r, and the one after it or r itself
-pub chosen-are : {k : ℕ} {s : List ℕ} {l m p a o b x y : ℕ} (r : ℕ) → 0 < m → r < m → AroundOf k s l m p (r / 2) a o b → Chosen a o b r (min (r + 1) (m - 1)) x y
-    → (x ≡ word_in k s l m p r) × (y ≡ word_in k s l m p (min (r + 1) (m - 1))) × (x < 256 ^ k) × (y < 256 ^ k)
-chosen-are {k} {s} {l} {m} {p} {a} {o} {b} {x} {y} r some h t q =
+-- three samples of the level below, of which r is one of the first two: sample r, and the one after it, j, or r itself
+pub chosen_are : {k : ℕ} {s : List ℕ} {l m p a o b x y j : ℕ} (r : ℕ) → j ≡ min (r + 1) (m - 1) → r < m → AroundOf k s l m p (r / 2) a o b → Chosen a o b r j x y
+    → (x ≡ word_in k s l m p r) × (y ≡ word_in k s l m p j)
+chosen_are {k} {s} {l} {m} {p} {a} {o} {b} {x} {y} {j} r ej h t q =
     let g = word_in k s l m p in
     let e = t.evens in
     ⊎_elim
@@ -111,24 +104,22 @@ chosen-are {k} {s} {l} {m} {p} {a} {o} {b} {x} {y} r some h t q =
     let here : x ≡ a = q.here ∙ simp (eq-eqb _ _ ev) in
     let after : y ≡ o = q.after ∙ simp (eq-eqb _ _ ev) in
     let i : 2 * (r / 2) ≡ r = omega arith in
-    let j : min (2 * (r / 2) + 1) (m - 1) ≡ min (r + 1) (m - 1) = ap (λ (n : ℕ). min (n + 1) (m - 1)) i in
-    (here ∙ e.here ∙ ap g i, after ∙ t.between ∙ ap g j, rw here e.low, rw after t.middle))
+    let f : min (2 * (r / 2) + 1) (m - 1) ≡ j = omega arith in
+    (here ∙ e.here ∙ ap g i, after ∙ t.between ∙ ap g f))
     (λ (z : 1 ≤ r % 2).
     let od : r % 2 ≡ 0 → ⊥ = λ u. omega arith in
     let here : x ≡ o = q.here ∙ simp (ne_eqb _ _ od) in
     let i : min (2 * (r / 2) + 1) (m - 1) ≡ r = omega arith in
     ⊎_elim
-    (λ (f : r + 1 < m).
-    let lt : r < min (r + 1) (m - 1) = omega arith in
-    let after : y ≡ b = q.after ∙ simp (ne_eqb _ _ od, lt-ltb _ _ lt) in
-    let j : 2 * min (r / 2 + 1) (approx_length m - 1) ≡ min (r + 1) (m - 1) = omega arith in
-    (here ∙ t.between ∙ ap g i, after ∙ e.after ∙ ap g j, rw here t.middle, rw after e.high))
-    (λ (f : m ≤ r + 1).
-    let le : min (r + 1) (m - 1) ≤ r = omega arith in
-    let after : y ≡ o = q.after ∙ simp (ne_eqb _ _ od, le-ltb _ _ le) in
-    let j : r ≡ min (r + 1) (m - 1) = omega arith in
-    (here ∙ t.between ∙ ap g i, after ∙ t.between ∙ ap g i ∙ ap g j, rw here t.middle, rw after t.middle))
-    (lt-or-le (r + 1) m))
+    (λ (f : r < j).
+    let after : y ≡ b = q.after ∙ simp (ne_eqb _ _ od, lt-ltb _ _ f) in
+    let n : 2 * min (r / 2 + 1) (approx_length m - 1) ≡ j = omega arith in
+    (here ∙ t.between ∙ ap g i, after ∙ e.after ∙ ap g n))
+    (λ (f : j ≤ r).
+    let after : y ≡ o = q.after ∙ simp (ne_eqb _ _ od, le-ltb _ _ f) in
+    let n : r ≡ j = omega arith in
+    (here ∙ t.between ∙ ap g i, after ∙ t.between ∙ ap g i ∙ ap g n))
+    (lt-or-le r j))
     (lt-or-le (r % 2) 1)
 
 -- ---- as the code has it: levels that are not 0
@@ -142,21 +133,17 @@ pub last_fits : {k n p b : ℕ} (l : ℕ) → 1 ≤ l → Stands k l n p b → p
 last_fits {k} {n} l h st = omega (arith, st.held, split-width k n)
 
 module _ {k : ℕ} (n p : ℕ) (s : List ℕ) where
-  pub even-lifted : (l : ℕ) (i x place : ℕ) → 1 ≤ l → Stands k l n p (length s) → i < approx_length n → x ≡ word_in k s (l - 1) (approx_length n) p i → place ≡ p + body_size k (l - 1) (approx_length n)
+  pub even_lifted : (l : ℕ) (i x place : ℕ) → 1 ≤ l → Stands k l n p (length s) → i < approx_length n → x ≡ word_in k s (l - 1) (approx_length n) p i → place ≡ p + body_size k (l - 1) (approx_length n)
       → even_by k s (details_length n) place x i ≡ word_in k s l n p (2 * i)
-  even-lifted zero i x place h st hi ex ep = absurd (omega arith)
-  even-lifted (suc l) i x place h st hi ex ep =
+  even_lifted zero i x place h st hi ex ep = absurd (omega arith)
+  even_lifted (suc l) i x place h st hi ex ep =
       let e : suc l - 1 ≡ l = omega arith in
       rw (rw e at ex, rw e at ep) (even-word l n p s st i hi)
 
-  pub odd-lifted : (l : ℕ) (i u z d place : ℕ) → 1 ≤ l → Stands k l n p (length s) → 2 * i + 1 < n
+  pub odd_lifted : (l : ℕ) (i u z d place : ℕ) → 1 ≤ l → Stands k l n p (length s) → 2 * i + 1 < n
       → u ≡ word_in k s l n p (2 * i) → z ≡ word_in k s l n p (2 * min (i + 1) (approx_length n - 1)) → d ≡ word_at k (bytes_at k s (details_length n) place) i → place ≡ p + body_size k (l - 1) (approx_length n)
       → residue (256 ^ k) (val (256 ^ k) d +ℤ shr_z (val (256 ^ k) u +ℤ val (256 ^ k) z) 2) ≡ word_in k s l n p (2 * i + 1)
-  odd-lifted zero i u z d place h st hi eu ez ed ep = absurd (omega arith)
-  odd-lifted (suc l) i u z d place h st hi eu ez ed ep =
+  odd_lifted zero i u z d place h st hi eu ez ed ep = absurd (omega arith)
+  odd_lifted (suc l) i u z d place h st hi eu ez ed ep =
       let e : suc l - 1 ≡ l = omega arith in
       rw (rw (rw e at ep) at ed) (odd-word l n p s st i u z hi eu ez)
-
--- with no level, the samples are section 1
-pub word_none : (k n p : ℕ) (s : List ℕ) (l j : ℕ) → l ≡ 0 → word_at k (bytes_at k s n p) j ≡ word_in k s l n p j
-word_none k n p s l j e = ap (λ (t : List ℕ). word_at k t j) (restore-none k s l n p e)

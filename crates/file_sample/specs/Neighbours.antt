@@ -1,5 +1,5 @@
 -- One sample of those that sections restore, from its neighbours: what the inner functions ask and promise. k bytes a sample, l levels, n samples, sections from p on.
-use Rattle.std.specs.Prelude.{cond, List, ◌≡◌, ℕ, ◌+◌, ◌-◌, ◌*◌, ◌%◌, ◌^◌, ◌≤◌, ◌<◌, min, ltb, eqb, pos, ◌+ℤ◌, ◌-ℤ◌}
+use Rattle.std.specs.Prelude.{cond, List, ◌≡◌, ℕ, ◌+◌, ◌-◌, ◌*◌, ◌%◌, ◌^◌, ◌≤◌, min, ltb, eqb, pos, ◌+ℤ◌, ◌-ℤ◌}
 use Rattle.std.specs.Int.Signed.{shr_z}
 use Rattle.base_lengths.specs.Lengths.{most_samples, approx_length}
 use Rattle.base_lengths.specs.declared.Wavelet.TheVariants.{Cdf53}
@@ -30,14 +30,11 @@ pub record Stands (k l n p b : ℕ) : Type 0 where
 pub record EvensOf (k : ℕ) (s : List ℕ) (l n p r a b : ℕ) : Type 0 where
   pub here : a ≡ word_in k s l n p (2 * r)
   pub after : b ≡ word_in k s l n p (2 * min (r + 1) (approx_length n - 1))
-  pub low : a < 256 ^ k
-  pub high : b < 256 ^ k
 
 -- and o is that of the odd one between them, or of the last sample
 pub record AroundOf (k : ℕ) (s : List ℕ) (l n p r a o b : ℕ) : Type 0 where
   pub evens : EvensOf k s l n p r a b
   pub between : o ≡ word_in k s l n p (min (2 * r + 1) (n - 1))
-  pub middle : o < 256 ^ k
 
 -- of three samples in a row, a, o and b, of which a is sample 2 (r / 2): sample r, and the one after it, or r again where `next` is not after it
 pub record Chosen (a o b r next x y : ℕ) : Type 0 where

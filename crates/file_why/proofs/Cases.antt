@@ -8,9 +8,10 @@ use native.Mathlib.Omega.{arith}
 use borrow.Author.Tests.{lt-ltb, le-ltb, eq-eqb, eqb-true, eqb-false, ne_eqb}
 use lib.Dec.{ltb, eqb}
 use lib.ListN.{length}
+use Rattle.std.specs.Prelude.{Err}
 use Rattle.base_answers.specs.declared.err.Refusal.{Refusal}
-use Rattle.base_answers.specs.declared.err.Refusal.TheVariants.{Done, TooLong, CutShort, Trailing}
-use Rattle.base_answers.specs.Answers.{done}
+use Rattle.base_answers.specs.declared.err.Refusal.TheVariants.{CutShort, Trailing}
+use Rattle.base_answers.specs.Answers.{Outcome, told, done}
 use Rattle.base_answers.specs.Checks.{first_refusal}
 use Rattle.base_answers.proofs.Chain.{stop}
 use Rattle.base_answers.proofs.Passed.{Passing, off}
@@ -26,7 +27,7 @@ use Rattle.file_open.proofs.Ways.{walk-size}
 use Rattle.file_why.specs.declared.Reason.{Reason}
 use Rattle.file_why.specs.Laws.{among, field_numbers, field_place, OfField}
 use Rattle.file_why.specs.Reasons.{because, nothing, end_of, place_of, wanted_of, cut_in, reason_by, say_start, reason_of}
-use Rattle.file_why.proofs.Says.{start-by, reason-early, reason-later, reason-passed, later-by, way-stops}
+use Rattle.file_why.proofs.Says.{start-by, reason_early, reason_later, reason-passed, later-by, way-stops}
 
 -- the number of a cut in section j, from 1 on: the opener refuses one in section 1
 abbrev pub number_of : ℕ → ℕ
@@ -56,26 +57,26 @@ module _ (s : List ℕ) (w p : ℕ) (k : Passing (head_checks s w p)) where
   body = (head-passes s w p k).there
 
   -- of a walk v
-  walked : (v : Way) → way_in s h ≡ v → reason_of s w p ≡ reason_by true h b (first_refusal (way_checks v b) (Done (h.levels - whole_details v h.levels) (count_in s)))
-  walked v e = reason-passed s w p k ∙ ap (λ u. reason_by true h b (first_refusal (way_checks u b) (Done (h.levels - whole_details u h.levels) (count_in s)))) e
+  walked : (v : Way) → way_in s h ≡ v → reason_of s w p ≡ reason_by true h b (first_refusal (way_checks v b) (told (h.levels - whole_details v h.levels) (count_in s)))
+  walked v e = reason-passed s w p k ∙ ap (λ u. reason_by true h b (first_refusal (way_checks u b) (told (h.levels - whole_details u h.levels) (count_in s)))) e
 
   pub reason-wrong : (j found : ℕ) → way_in s (head_in s) ≡ Wrong j found → reason_of s w p ≡ because 9 j (place_of (head_in s) j) (wanted_of (head_in s) j) found
   reason-wrong j found e = walked (Wrong j found) e
 
   pub reason-trailing : (q : ℕ) → way_in s (head_in s) ≡ Went q → q < length s → let e = end_of (head_in s) ((head_in s).levels + 1) in reason_of s w p ≡ because 12 ((head_in s).levels + 1) e e (length s)
   reason-trailing q e g =
-      walked (Went q) e ∙ ap (λ t. reason_by true h b (cond t (Trailing (b - q)) (Done (h.levels - h.levels) (count_in s)))) (lt-ltb q b g)
+      walked (Went q) e ∙ ap (λ t. reason_by true h b (cond t (Err (Trailing (b - q))) (told (h.levels - h.levels) (count_in s)))) (lt-ltb q b g)
 
   pub reason-whole : way_in s (head_in s) ≡ Went (length s) → reason_of s w p ≡ nothing
   reason-whole e =
       walked (Went b) e
-      ∙ ap (λ t. reason_by true h b (cond t (Trailing (b - b)) (Done (h.levels - h.levels) (count_in s)))) (le-ltb b b (omega arith))
+      ∙ ap (λ t. reason_by true h b (cond t (Err (Trailing (b - b))) (told (h.levels - h.levels) (count_in s)))) (le-ltb b b (omega arith))
       ∙ ap (λ t. cond t nothing (cut_in h b 0 (h.levels + 2 - (h.levels - h.levels)))) (eq-eqb (h.levels - h.levels) 0 (omega arith))
 
   pub reason-cut : (j : ℕ) → way_in s (head_in s) ≡ Short j → reason_of s w p ≡ cut_in (head_in s) (length s) (number_of j) j
   reason-cut j e = walked (Short j) e ∙ pick (eqb j 1) refl
     where
-      pick : (t : Bool) → eqb j 1 ≡ t → reason_by true h b (cond t (CutShort b) (Done (h.levels - (j - 2)) (count_in s))) ≡ cut_in h b (cond t 10 0) j
+      pick : (t : Bool) → eqb j 1 ≡ t → reason_by true h b (cond t (Err (CutShort b)) (told (h.levels - (j - 2)) (count_in s))) ≡ cut_in h b (cond t 10 0) j
       pick true g = ap (λ i. cut_in h b 10 i) (sym (eqb-true j 1 g))
       pick false g =
           let i = way-stops s h body j (Short j) e refl in
@@ -88,12 +89,11 @@ module _ (s : List ℕ) (w p : ℕ) (k : Passing (head_checks s w p)) where
 -- one that is too long, whatever it says
 pub reason-long : (s : List ℕ) (w p : ℕ) → most_bytes < length s → reason_of s w p ≡ because 6 0 0 most_bytes (length s)
 reason-long s w p h =
-    let e : say_start s ≡ TooLong = sym (stop _ (lt-ltb most_bytes (length s) h) refl) in
-    reason-early s w p (ap done e) ∙ ap (λ r. reason_by false (head_in s) (length s) r) e
+    reason_early s w p (sym (stop _ (lt-ltb most_bytes (length s) h) refl))
 
 module _ (s : List ℕ) (w p : ℕ) (Q : Reason → Type 0) where
-  early : {r : Refusal} → done r ≡ false → Q (reason_by false (head_in s) (length s) r) → say_start s ≡ r → Q (reason_of s w p)
-  early {r} d q e = subst Q (sym (reason-early s w p (ap done e ∙ d) ∙ ap (λ r. reason_by false (head_in s) (length s) r) e)) q
+  early : {e : Refusal} → Q (reason_by false (head_in s) (length s) (Err e)) → say_start s ≡ Err e → Q (reason_of s w p)
+  early q h = subst Q (sym (reason_early s w p h)) q
 
   pub reason-by : (most_bytes < length s → Q (because 6 0 0 most_bytes (length s)))
       → (length s < 4 → Q (cut_in (head_in s) (length s) 10 0))
@@ -106,7 +106,7 @@ module _ (s : List ℕ) (w p : ℕ) (Q : Reason → Type 0) where
       → (Passing (head_checks s w p) → (j found : ℕ) → way_in s (head_in s) ≡ Wrong j found → Q (because 9 j (place_of (head_in s) j) (wanted_of (head_in s) j) found))
       → Q (reason_of s w p)
   reason-by long few count short field trailing whole cut wrong =
-      start-by s (λ r. say_start s ≡ r → Q (reason_of s w p)) (λ g. early refl (long g)) (λ g. early refl (few g)) (λ g c. early refl (count g c)) (λ g c l. early refl (short g c l)) there refl
+      start-by s (λ r. say_start s ≡ r → Q (reason_of s w p)) (λ g. early (long g)) (λ g. early (few g)) (λ g c. early (count g c)) (λ g c l. early (short g c l)) there refl
     where
       way : Passing (head_checks s w p) → (v : Way) → way_in s (head_in s) ≡ v → Q (reason_of s w p)
       way k (Went q) e =
@@ -119,18 +119,18 @@ module _ (s : List ℕ) (w p : ℕ) (Q : Reason → Type 0) where
       way k (Short j) e = subst Q (sym (reason-cut s w p k j e)) (cut k j e)
       way k (Wrong j found) e = subst Q (sym (reason-wrong s w p k j found e)) (wrong k j found e)
 
-      there : Passing (start_checks s) → say_start s ≡ Done 0 0 → Q (reason_of s w p)
+      there : Passing (start_checks s) → say_start s ≡ told 0 0 → Q (reason_of s w p)
       there q e =
           later-by s w p (λ r. say_file s w p ≡ r → Q (reason_of s w p)) q
           (of refl refl refl refl, (of refl refl refl refl, (of refl refl refl refl, (of refl refl refl refl, (of refl refl refl refl, (of refl refl refl refl, (of refl refl refl refl, ((λ t. of refl refl refl (rate-none (is_new s) t) t), tt))))))))
           (λ k _. way k (way_in s (head_in s)) refl) refl
         where
-          of : {r : Refusal} {A : Type 0} → let x = reason_by true (head_in s) (length s) r in
+          of : {r : Outcome} {A : Type 0} → let x = reason_by true (head_in s) (length s) r in
               among field_numbers x.number ≡ true → x.section ≡ 0 → x.place ≡ field_place x.number
               → le_at (cond (ltb x.place 6) 1 4) s x.place ≡ x.found → A → say_file s w p ≡ r → Q (reason_of s w p)
           of {r} n z a f _ g =
               let x = reason_by true (head_in s) (length s) r in
-              subst Q (sym (reason-later s w p (ap done e) ∙ ap (λ r. reason_by true (head_in s) (length s) r) g)) (field q x (record { number = n; section = z; place = a; found = f }))
+              subst Q (sym (reason_later s w p (ap done e) ∙ ap (λ r. reason_by true (head_in s) (length s) r) g)) (field q x (record { number = n; section = z; place = a; found = f }))
 
           rate-none : (new : Bool) → (new && eqb (cond new (le_at 4 s 14) 0) 0) ≡ true → le_at 4 s 14 ≡ 0
           rate-none true t = eqb-true (le_at 4 s 14) 0 t

@@ -1,4 +1,3 @@
-pub mod Keys
 pub mod Stops
 pub mod Walking
 pub mod Places

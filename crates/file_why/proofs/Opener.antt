@@ -5,25 +5,25 @@ use mathlib.Core.Logic.{◌⊎◌}
 use mathlib.Core.Path.{◌≡◌, refl, sym, ap, subst, ◌∙◌}
 use Prim.Native.Nat.{ℕ, ◌+◌, ◌-◌, ◌/◌, ◌≤◌}
 use native.Mathlib.Omega.{arith}
-use borrow.Author.Tests.{le-ltb, eq-eqb, eqb-true, eqb-false, ne_eqb}
+use borrow.Author.Tests.{le-ltb, eqb-true, eqb-false}
 use lib.Dec.{eqb}
 use lib.ListN.{length}
+use Rattle.std.specs.Prelude.{Ok, Err}
 use Rattle.base_answers.specs.declared.err.Answer.{Answer}
-use Rattle.base_answers.specs.declared.err.Refusal.{Refusal}
-use Rattle.base_answers.specs.declared.err.Refusal.TheVariants.{Done}
-use Rattle.base_answers.specs.Answers.{answer_of, say, done}
+use Rattle.base_answers.specs.Answers.{Outcome, told, answer_of, say, done}
 use Rattle.base_answers.specs.Checks.{first_refusal}
+use Rattle.base_answers.proofs.Endings.{is-done, not_done}
 use Rattle.base_answers.proofs.Passed.{Passing, passing, pass_on, through, off}
 use Rattle.base_lengths.proofs.Counts.{count-at-le}
 use Rattle.file_open.specs.declared.head.Head.{Head}
 use Rattle.file_open.specs.declared.open.OpenAnswer.{OpenAnswer}
 use Rattle.file_open.specs.Opens.{head_in, start_checks, file_checks, level_in, count_in, area_checks, rooms_for, WholeAreas, say_file, say_open, OpenGives}
-use Rattle.file_open.proofs.Opening.{start-refuses, start-passes, file-says, file-rest, file-stop, whole-areas-pass, rooms-say}
+use Rattle.file_open.proofs.Opening.{start-passes, file-says, file-rest, file-stop, whole-areas-pass, rooms-say}
 use Rattle.file_why.specs.declared.Reason.{Reason}
 use Rattle.file_why.specs.Laws.{among, section_numbers, field_numbers, StoppedBy, answer_by, Room}
 use Rattle.file_why.specs.Reasons.{nothing, cut_in, reason_by, say_start, reason_of}
 use Rattle.file_why.proofs.Stops.{stopped}
-use Rattle.file_why.proofs.Says.{start-by, start-stops, reason-early, reason-later, later-by, says-each, way-ends, way_by}
+use Rattle.file_why.proofs.Says.{start-by, start-stops, reason_early, reason_later, later-by, says-each, way-ends, way_by}
 
 -- ---- the answer of each case
 
@@ -35,7 +35,7 @@ module _ (s : List ℕ) (w p : ℕ) where
   abbrev b : ℕ
   b = length s
 
-  abbrev Told : Bool → Refusal → Type 0
+  abbrev Told : Bool → Outcome → Type 0
   Told there r = done r ≡ false → answer_of r ≡ answer_by (reason_by there (head_in s) (length s) r)
 
   early-told : Told false (say_start s)
@@ -49,11 +49,11 @@ module _ (s : List ℕ) (w p : ℕ) where
       (λ _ _ _ _. refl))
 
   file-told : done (say_file s w p) ≡ false → answer_of (say_file s w p) ≡ answer_by (reason_of s w p)
-  file-told d = pick (done (say_start s)) refl
+  file-told d = pick (say_start s) refl
     where
-      pick : (z : Bool) → done (say_start s) ≡ z → answer_of (say_file s w p) ≡ answer_by (reason_of s w p)
-      pick true e = later-told (passing (start_checks s) (Done 0 0) (start-refuses s) e) d ∙ sym (ap answer_by (reason-later s w p e))
-      pick false e = ap answer_of (start-stops s w p e) ∙ early-told e ∙ sym (ap answer_by (reason-early s w p e))
+      pick : (r : Outcome) → say_start s ≡ r → answer_of (say_file s w p) ≡ answer_by (reason_of s w p)
+      pick (Ok v) e = later-told (passing (start_checks s) (told 0 0) (ap done e)) d ∙ sym (ap answer_by (reason_later s w p (ap done e)))
+      pick (Err r) e = ap answer_of (start-stops s w p e) ∙ rw e at early-told refl ∙ sym (ap answer_by (reason_early s w p e))
 
   -- and its number that of what the opener says, also where it accepts the file
   why-number : (reason_of s w p).number ≡ (answer_of (say_file s w p)).number
@@ -88,34 +88,34 @@ module _ (s : List ℕ) (w p : ℕ) {r : Reason} (why : r ≡ reason_of s w p) w
       (λ _. refl) refl)
 
   refuses : (r.number ≡ 0 → ⊥) → done (say_file s w p) ≡ false
-  refuses n = ne_eqb (answer_of (say_file s w p)).number 0 (λ e. n (number_is ∙ e))
+  refuses n = not_done (say_file s w p) _ refl (λ e. n (number_is ∙ e))
 
   -- the check of the opener's list that stopped it: its number is the reason's, its test refuses, and all checks before it pass
   pub why-first : (r.number ≡ 0 → ⊥) → (r.number ≡ (answer_of (say_file s w p)).number) × StoppedBy (file_checks s w p) (say_file s w p)
   unfolding say_file
-  why-first n = (number_is, stopped (file_checks s w p) (Done (level_in s) (count_in s)) refl (refuses n))
+  why-first n = (number_is, stopped (file_checks s w p) (told (level_in s) (count_in s)) refl (refuses n))
 
   -- opening with areas of whole samples
   module _ {o u v : List ℕ} {a : OpenAnswer} {o' u' v' : List ℕ} (opens : OpenGives s w p o u v a o' u' v') (whole : WholeAreas w (length o) (length u) (length v)) where
-    abbrev said : Refusal
+    abbrev said : Outcome
     said = say_open s w p (length o) (length u) (length v)
 
-    past : said ≡ first_refusal (file_checks s w p ++ rooms_for w (count_in s) (length o) (length u) (length v)) (Done (level_in s) (count_in s))
+    past : said ≡ first_refusal (file_checks s w p ++ rooms_for w (count_in s) (length o) (length u) (length v)) (told (level_in s) (count_in s))
     unfolding say_open
     past =
-        pass_on (area_checks w (length o) (length u) (length v)) (file_checks s w p ++ rooms_for w (count_in s) (length o) (length u) (length v)) (Done (level_in s) (count_in s))
+        pass_on (area_checks w (length o) (length u) (length v)) (file_checks s w p ++ rooms_for w (count_in s) (length o) (length u) (length v)) (told (level_in s) (count_in s))
         (whole-areas-pass w (length o) (length u) (length v) whole)
 
     -- is refused with the reason's number, if that is not 0, whatever room there is; and its whole answer can be read off the reason
     pub why-answer : (r.number ≡ 0 → ⊥) → a.answer ≡ answer_by r
     why-answer n =
-        let e = past ∙ file-stop s w p (rooms_for w (count_in s) (length o) (length u) (length v)) (Done (level_in s) (count_in s)) (refuses n) in
+        let e = past ∙ file-stop s w p (rooms_for w (count_in s) (length o) (length u) (length v)) (told (level_in s) (count_in s)) (refuses n) in
         opens.call.answer ∙ ap answer_of e ∙ file-told s w p (refuses n) ∙ sym (ap answer_by why)
 
-    rest : r.number ≡ 0 → a.answer ≡ answer_of (first_refusal (rooms_for w (count_in s) (length o) (length u) (length v)) (Done (level_in s) (count_in s)))
+    rest : r.number ≡ 0 → a.answer ≡ answer_of (first_refusal (rooms_for w (count_in s) (length o) (length u) (length v)) (told (level_in s) (count_in s)))
     rest z =
         opens.call.answer
-        ∙ ap answer_of (past ∙ file-rest s w p (rooms_for w (count_in s) (length o) (length u) (length v)) (Done (level_in s) (count_in s)) (eq-eqb (answer_of (say_file s w p)).number 0 (sym number_is ∙ z)))
+        ∙ ap answer_of (past ∙ file-rest s w p (rooms_for w (count_in s) (length o) (length u) (length v)) (told (level_in s) (count_in s)) (is-done (say_file s w p) _ refl (sym number_is ∙ z)))
 
     -- else there is too little room, or it opens
     pub why-room : r.number ≡ 0 → (a.answer.number ≡ 0) ⊎ (a.answer.number ≡ 7)
@@ -126,7 +126,7 @@ module _ (s : List ℕ) (w p : ℕ) {r : Reason} (why : r ≡ reason_of s w p) w
     why-opens z room =
         rest z
         ∙ ap answer_of
-        (through (rooms_for w (count_in s) (length o) (length u) (length v)) (Done (level_in s) (count_in s))
+        (through (rooms_for w (count_in s) (length o) (length u) (length v)) (told (level_in s) (count_in s))
         (le-ltb (length o / w) (count_in s) room.0, (le-ltb (length u / w) (count_in s) room.1, (le-ltb (length v / w) (count_in s) room.2, tt))))
 
     -- so with such room opening answers the reason's number, and is done exactly where that is 0

@@ -1,9 +1,7 @@
 -- Where the sections stand that section 0 tells of, from section 1 on.
-use mathlib.Core.Bool.{Bool}
-use mathlib.Core.Path.{◌≡◌, refl, sym, ap, ◌∙◌}
+use mathlib.Core.Path.{◌≡◌, refl, ap, ◌∙◌}
 use Prim.Native.Nat.{ℕ, zero, suc, ◌+◌, ◌-◌, ◌*◌, ◌≤◌}
 use native.Mathlib.Omega.{arith}
-use Rattle.base_answers.specs.declared.err.Refusal.{Refusal}
 use Rattle.base_lengths.specs.Lengths.{approx_length, details_length}
 use Rattle.base_lengths.specs.Levels.{after_levels, count_at}
 use Rattle.base_lengths.proofs.Counts.{after_last}
@@ -12,8 +10,7 @@ use Rattle.file_open.specs.declared.head.Head.{Head}
 use Rattle.file_open.specs.Walks.{last_count}
 use Rattle.file_open.specs.Opens.{samples_to, count_of, length_of}
 use Rattle.file_open.proofs.Ways.{stand_of, last-details}
-use Rattle.file_why.specs.declared.Reason.{Reason}
-use Rattle.file_why.specs.Reasons.{end_of, place_of, wanted_of, reason_by}
+use Rattle.file_why.specs.Reasons.{end_of, place_of, wanted_of}
 
 -- the sections to section j are their counts and the samples that they restore
 pub end_is : (h : Head) (j : ℕ) → 1 ≤ j → j ≤ h.levels + 1 → end_of h j ≡ h.body + 4 * j + h.width * samples_to h j
@@ -59,7 +56,3 @@ stand-is h j one most = omega (arith, end_is h j one most, place-ends h j one)
 pub wanted-is : (h : Head) (j : ℕ) → 1 ≤ j → wanted_of h j ≡ count_of h j
 wanted-is h zero one = absurd (omega arith)
 wanted-is h (suc j) one = refl
-
--- the reason of the case that it is
-pub told : (t : Bool) (h : Head) (b : ℕ) {x : Reason} {r g : Refusal} → r ≡ g → x ≡ reason_by t h b g → x ≡ reason_by t h b r
-told t h b e q = q ∙ sym (ap (λ r. reason_by t h b r) e)

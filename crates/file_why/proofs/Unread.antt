@@ -5,7 +5,7 @@ use mathlib.Core.Path.{◌≡◌, sym, ap, subst, ◌∙◌}
 use Prim.Native.Nat.{ℕ, ◌+◌, ◌-◌, ◌≤◌}
 use native.Mathlib.Omega.{arith}
 use lib.ListN.{length}
-use Rattle.base_answers.specs.declared.err.Refusal.TheVariants.{Done}
+use Rattle.base_answers.specs.Answers.{told}
 use Rattle.base_answers.specs.Checks.{Check, first_refusal}
 use Rattle.base_answers.proofs.Passed.{Passing, roomy}
 use Rattle.base_lengths.specs.Levels.{count_at}
@@ -40,7 +40,7 @@ module _ (s t : List ℕ) (w p : ℕ) (q : Passing (start_checks s)) (alike : Al
   abbrev by : Head → List Check → Way → ℕ → Reason
   by h rate v b =
       let level = h.levels - whole_details v h.levels in
-      reason_by true h b (first_refusal (field_checks h w p ++ rate) (first_refusal (way_checks v b) (Done level (count_at level h.samples))))
+      reason_by true h b (first_refusal (field_checks h w p ++ rate) (first_refusal (way_checks v b) (told level (count_at level h.samples))))
 
   unread : reason_of t w p ≡ reason_of s w p
   unread =

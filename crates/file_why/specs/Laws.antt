@@ -1,8 +1,8 @@
 -- What the laws about the reason say, in words of their own.
-use Rattle.std.specs.Prelude.{Bool, true, false, cond, ◌||◌, List, [], ◌∷◌, ◌++◌, ◌⊎◌, ◌≡◌, ℕ, ◌+◌, ◌-◌, ◌/◌, ◌≤◌, ◌<◌, ltb, eqb, length}
+use Rattle.std.specs.Prelude.{Bool, true, false, cond, ◌||◌, List, [], ◌∷◌, ◌++◌, ◌⊎◌, ◌≡◌, ℕ, Err, ◌+◌, ◌-◌, ◌/◌, ◌≤◌, ◌<◌, ltb, eqb, length}
 use Rattle.base_answers.specs.declared.err.Answer.{Answer}
 use Rattle.base_answers.specs.declared.err.Refusal.{Refusal}
-use Rattle.base_answers.specs.Answers.{say}
+use Rattle.base_answers.specs.Answers.{Outcome, say}
 use Rattle.base_answers.specs.Checks.{Check}
 use Rattle.base_answers.proofs.Passed.{Passing}
 use Rattle.base_samples.specs.Le.{le_at}
@@ -24,11 +24,13 @@ abbrev pub section_numbers : List ℕ
 section_numbers = 0 ∷ 9 ∷ 10 ∷ 12 ∷ []
 
 -- the check of a list that says r: its test refuses, and all before it pass
-pub record StoppedBy (l : List Check) (r : Refusal) : Type 0 where
+pub record StoppedBy (l : List Check) (r : Outcome) : Type 0 where
   pub before : List Check
   pub after : List Check
   pub test : Bool
-  pub is : l ≡ before ++ ((test, r) ∷ after)
+  pub refusal : Refusal
+  pub is : l ≡ before ++ ((test, refusal) ∷ after)
+  pub says : r ≡ Err refusal
   pub refuses : test ≡ true
   pub passed : Passing before
 

@@ -1,9 +1,8 @@
 -- Why a file does not open, from C-18: "name the first check that stopped the opener: refusal number, section, byte place, number wanted, number found". What the
 -- opener says of the file tells the case; the table here has the other four numbers of each.
-use Rattle.std.specs.Prelude.{Bool, true, cond, List, ◌≡◌, ℕ, zero, suc, ◌+◌, ◌-◌, ◌≤◌, ltb, eqb, length}
-use Rattle.base_answers.specs.declared.err.Refusal.{Refusal}
-use Rattle.base_answers.specs.declared.err.Refusal.TheVariants.{Done, MinFilterSize, ApproxSizeNotMatches, OutputSizeIsNotValid, BufferWasTooSmallForLevel, ZeroedBaseSize, TooLong, NoRoom, OtherWidth, BadCount, CutShort, OtherPoint, Trailing, NoSuchPlace, BookFull, AlreadyHeld, NotHeld, DetailsSizeNotMatches, NoRate}
-use Rattle.base_answers.specs.Answers.{answer_of, says, done}
+use Rattle.std.specs.Prelude.{Bool, true, cond, List, ◌≡◌, ℕ, Ok, Err, zero, suc, ◌+◌, ◌-◌, ◌≤◌, ltb, eqb, length}
+use Rattle.base_answers.specs.declared.err.Refusal.TheVariants.{MinFilterSize, ApproxSizeNotMatches, OutputSizeIsNotValid, BufferWasTooSmallForLevel, ZeroedBaseSize, TooLong, NoRoom, OtherWidth, BadCount, CutShort, OtherPoint, Trailing, NoSuchPlace, BookFull, AlreadyHeld, NotHeld, DetailsSizeNotMatches, NoRate}
+use Rattle.base_answers.specs.Answers.{Outcome, told, answer_of, says, done}
 use Rattle.base_answers.specs.Checks.{first_refusal}
 use Rattle.base_lengths.specs.declared.Wavelet.TheVariants.{Cdf53}
 use Rattle.base_lengths.specs.Lengths.{most_samples}
@@ -44,37 +43,37 @@ cut_in h b number j = because number j b (missing b (place_of h j) (end_of h j))
 
 -- what `say_file` says, of a file of b bytes: `there` tells whether the first checks pass, so that section 0 is there, and h is what that says. A file that opens at a level
 -- above 0 is cut in section L + 2 - level. `say_file` never says the last nine cases
-abbrev pub reason_by : Bool → Head → ℕ → Refusal → Reason
-reason_by there h b (Done level count) = cond (eqb level 0) nothing (cut_in h b 0 (h.levels + 2 - level))
-reason_by there h b (MinFilterSize n least) = because 1 0 6 least n
-reason_by there h b BufferWasTooSmallForLevel = because 4 0 5 (depth_of Cdf53 h.samples) h.levels
-reason_by there h b TooLong = cond there (because 6 0 6 most_samples h.samples) (because 6 0 0 most_bytes b)
-reason_by there h b (OtherWidth file asked) = because 8 0 4 asked file
-reason_by there h b (BadCount j found) = because 9 j (place_of h j) (wanted_of h j) found
-reason_by there h b (CutShort c) = cut_in h b 10 (cond there 1 0)
-reason_by there h b (OtherPoint file asked) = because 11 0 10 asked file
-reason_by there h b (Trailing more) = because 12 (h.levels + 1) (end_of h (h.levels + 1)) (end_of h (h.levels + 1)) b
-reason_by there h b NoRate = because 18 0 14 1 0
-reason_by there h b (ApproxSizeNotMatches a c) = because 2 0 0 0 0
-reason_by there h b (OutputSizeIsNotValid a c) = because 3 0 0 0 0
-reason_by there h b ZeroedBaseSize = because 5 0 0 0 0
-reason_by there h b (NoRoom a c) = because 7 0 0 0 0
-reason_by there h b (NoSuchPlace a c) = because 13 0 0 0 0
-reason_by there h b BookFull = because 14 0 0 0 0
-reason_by there h b AlreadyHeld = because 15 0 0 0 0
-reason_by there h b NotHeld = because 16 0 0 0 0
-reason_by there h b (DetailsSizeNotMatches a c) = because 17 0 0 0 0
+abbrev pub reason_by : Bool → Head → ℕ → Outcome → Reason
+reason_by there h b (Ok v) = cond (eqb v.0 0) nothing (cut_in h b 0 (h.levels + 2 - v.0))
+reason_by there h b (Err (MinFilterSize n least)) = because 1 0 6 least n
+reason_by there h b (Err BufferWasTooSmallForLevel) = because 4 0 5 (depth_of Cdf53 h.samples) h.levels
+reason_by there h b (Err TooLong) = cond there (because 6 0 6 most_samples h.samples) (because 6 0 0 most_bytes b)
+reason_by there h b (Err (OtherWidth file asked)) = because 8 0 4 asked file
+reason_by there h b (Err (BadCount j found)) = because 9 j (place_of h j) (wanted_of h j) found
+reason_by there h b (Err (CutShort c)) = cut_in h b 10 (cond there 1 0)
+reason_by there h b (Err (OtherPoint file asked)) = because 11 0 10 asked file
+reason_by there h b (Err (Trailing more)) = because 12 (h.levels + 1) (end_of h (h.levels + 1)) (end_of h (h.levels + 1)) b
+reason_by there h b (Err NoRate) = because 18 0 14 1 0
+reason_by there h b (Err (ApproxSizeNotMatches a c)) = because 2 0 0 0 0
+reason_by there h b (Err (OutputSizeIsNotValid a c)) = because 3 0 0 0 0
+reason_by there h b (Err ZeroedBaseSize) = because 5 0 0 0 0
+reason_by there h b (Err (NoRoom a c)) = because 7 0 0 0 0
+reason_by there h b (Err (NoSuchPlace a c)) = because 13 0 0 0 0
+reason_by there h b (Err BookFull) = because 14 0 0 0 0
+reason_by there h b (Err AlreadyHeld) = because 15 0 0 0 0
+reason_by there h b (Err NotHeld) = because 16 0 0 0 0
+reason_by there h b (Err (DetailsSizeNotMatches a c)) = because 17 0 0 0 0
 
 -- the first checks of the opener: the file is not too long, and section 0 is there
-abbrev pub say_start : List ℕ → Refusal
-say_start s = first_refusal (start_checks s) (Done 0 0)
+abbrev pub say_start : List ℕ → Outcome
+say_start s = first_refusal (start_checks s) (told 0 0)
 
 -- the reason is that of what the opener says of the file alone
 unfoldable pub reason_of : List ℕ → ℕ → ℕ → Reason
 reason_of s w p = reason_by (done (say_start s)) (head_in s) (length s) (say_file s w p)
 
 -- what the opener can say of a file of b bytes whose section 0 says h: the sections are those that h tells of, and a cut is not behind the end of its section
-pub record Said (h : Head) (b : ℕ) (r : Refusal) : Type 0 where
+pub record Said (h : Head) (b : ℕ) (r : Outcome) : Type 0 where
   pub level : done r ≡ true → ((answer_of r).first ≡ 0 → ⊥) → ((answer_of r).first ≤ h.levels) × (b ≤ end_of h (h.levels + 2 - (answer_of r).first))
   pub wrong : says 9 r ≡ true → (1 ≤ (answer_of r).first) × ((answer_of r).first ≤ h.levels + 1)
   pub cut : says 10 r ≡ true → b ≤ end_of h 1

@@ -1,12 +1,11 @@
 // Why a file does not open: the first check that stopped the opener, in five numbers. Document 02, C-18.
 #![tactic(auto)]
 
-ghost use Rattle.std.specs.Prelude.{true, false, ◌≡◌, ◌+◌, ◌≤◌, ◌<◌, length};
-ghost use Rattle.base_answers.specs.Answers.{done};
+ghost use Rattle.std.specs.Prelude.{true, false, Err, ◌≡◌, ◌+◌, ◌≤◌, ◌<◌, length};
 ghost use Rattle.file_open.specs.Opens.{head_in, Read};
 ghost use Rattle.file_why.specs.Reasons.{because, end_of, place_of, missing, cut_in, reason_by, say_start, reason_of, Said};
 
-use base_answers::err::{Refusal, is_done, numbers};
+use base_answers::err::{Answer, Outcome, Refusal};
 use base_lengths::{MOST_SAMPLES, Wavelet, depth};
 use base_samples::le::read_u32;
 use file_open::MOST_BYTES;
@@ -38,6 +37,7 @@ fn because(number: usize, section: usize, place: usize, wanted: usize, found: us
 }
 
 // Where section j ends.
+#[tactic(auto, using(crate::proofs::Places::end_is, file_open::proofs::Ways::small))]
 fn end_of(h: Head, j: usize) -> usize
     requires { Read h × (1 ≤ j) × (j ≤ h.levels + 1) }
     ensures { (result ≡ end_of h j) × (result < 2199023255552) }
@@ -84,11 +84,11 @@ fn start_missing(s: &[u8]) -> usize
 }
 
 // The first checks refuse: a file that is too long, a wrong count of section 0, or a cut in it.
-fn start_reason(s: &[u8], start: Refusal) -> Reason
-    requires { (start ≡ say_start s.now) × (done start ≡ false) }
-    ensures { result ≡ reason_by false (head_in s.now) (length s.now) start }
+fn start_reason(s: &[u8], e: Refusal) -> Reason
+    requires { say_start s.now ≡ Err e }
+    ensures { result ≡ reason_by false (head_in s.now) (length s.now) (Err e) }
 {
-    match start {
+    match e {
         Refusal::TooLong => because(6, 0, 0, MOST_BYTES, s.len()),
         Refusal::BadCount(_, found) => because(9, 0, 0, NEW_COUNT, found),
         _ => because(10, 0, s.len(), start_missing(s), 0),
@@ -96,42 +96,42 @@ fn start_reason(s: &[u8], start: Refusal) -> Reason
 }
 
 // The reason of a file of b bytes whose section 0 says h, from what the opener says of it.
-fn file_reason(h: Head, b: usize, said: Refusal) -> Reason
+fn file_reason(h: Head, b: usize, said: Outcome) -> Reason
     requires { Read h × Said h b said }
     ensures { result ≡ reason_by true h b said }
 {
     match said {
-        Refusal::Done(level, _) => {
+        Ok((level, _)) => {
             if level == 0 {
                 return because(0, 0, 0, 0, 0);
             }
             cut_in(h, b, 0, h.levels + 2 - level)
         }
-        Refusal::MinFilterSize(n, least) => because(1, 0, 6, least, n),
-        Refusal::BufferWasTooSmallForLevel => {
+        Err(Refusal::MinFilterSize(n, least)) => because(1, 0, 6, least, n),
+        Err(Refusal::BufferWasTooSmallForLevel) => {
             because(4, 0, 5, depth(Wavelet::Cdf53, h.samples), h.levels)
         }
-        Refusal::TooLong => because(6, 0, 6, MOST_SAMPLES, h.samples),
-        Refusal::OtherWidth(file, asked) => because(8, 0, 4, asked, file),
-        Refusal::BadCount(j, found) => because(9, j, place_of(h, j), count_of(h, j), found),
-        Refusal::CutShort(_) => cut_in(h, b, 10, 1),
-        Refusal::OtherPoint(file, asked) => because(11, 0, 10, asked, file),
-        Refusal::Trailing(_) => {
+        Err(Refusal::TooLong) => because(6, 0, 6, MOST_SAMPLES, h.samples),
+        Err(Refusal::OtherWidth(file, asked)) => because(8, 0, 4, asked, file),
+        Err(Refusal::BadCount(j, found)) => because(9, j, place_of(h, j), count_of(h, j), found),
+        Err(Refusal::CutShort(_)) => cut_in(h, b, 10, 1),
+        Err(Refusal::OtherPoint(file, asked)) => because(11, 0, 10, asked, file),
+        Err(Refusal::Trailing(_)) => {
             let end = end_of(h, h.levels + 1);
             because(12, h.levels + 1, end, end, b)
         }
-        Refusal::NoRate => because(18, 0, 14, 1, 0),
-        _ => because(numbers(said).number as usize, 0, 0, 0, 0),
+        Err(Refusal::NoRate) => because(18, 0, 14, 1, 0),
+        Err(e) => because(Answer::from(e).number as usize, 0, 0, 0, 0),
     }
 }
 
 // The first check that stopped the opener, of a file that is asked for with width w and point p.
+#[tactic(auto, using(crate::proofs::Says::reason_later, crate::proofs::Says::said_past))]
 pub fn why(s: &[u8], w: usize, p: usize) -> Reason
     ensures { result ≡ reason_of s.now w p }
 {
-    let start = check_start(s);
-    if !is_done(start) {
-        return start_reason(s, start);
+    match check_start(s) {
+        Err(e) => start_reason(s, e),
+        Ok(()) => file_reason(head_in(s), s.len(), check_file(s, w, p)),
     }
-    file_reason(head_in(s), s.len(), check_file(s, w, p))
 }

@@ -1,4 +1,5 @@
-// Float 5/3 block by block, one level: forward, the approximations alone, and back. f32; filter_cdf53f_f64 has the same at f64.
+// Float 5/3 block by block, one level: forward, the approximations alone, and back. Once over f32 and f64.
 #![tactic(auto)]
 
-pub mod single;
+pub mod blocks;
+mod steps;

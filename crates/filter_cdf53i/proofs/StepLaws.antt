@@ -2,19 +2,10 @@
 -- its bias, which is its number plus 2 Q. So floor((x + z) / 2) + 2 Q is half the sum of two biases, a division of naturals.
 use Rattle.std.proofs.Common.{◌≡◌, ℕ, ◌+◌, ◌*◌, ◌/◌, ◌%◌, ◌^◌, ◌<◌, pos, ◌+ℤ◌, ◌-ℤ◌, sym, refl, ap, ◌∙◌, mod-lt, arith}
 use native.Mathlib.Nat.{mod-add-mod}
-use lib.Bits.{bit_and, bit_xor, xor_add_and}
 use lib.Signed.{shr_z}
 use Rattle.base_samples.specs.Integers.{Width, quarter, val, residue}
 use Rattle.base_samples.proofs.Diff.{sub_same, pos-sub, sub-add, sub-sub, floor-half, floor-quarter, residue-sub}
 use Rattle.base_samples.proofs.IntegerLaws.{bias, val-sub}
-
--- (p + q) / 2 = (p & q) + (p ^ q) / 2
-pub half-law : (p q : ℕ) → bit_and p q + bit_xor p q / 2 ≡ (p + q) / 2
-half-law p q = omega (arith, xor_add_and p q)
-
--- a word that half of all words was added to
-pub biased : (x : ℕ) {k q p : ℕ} → Width k → q ≡ quarter k → p ≡ (x + 2 * q) % 256 ^ k → p ≡ bias (quarter k) x
-biased x w e h = h ∙ rw (e, w.words)
 
 -- b and c are the biases of u and z; t is v less their mean, and the bias of t is the detail
 pub detail-word : (Q u v z b c t : ℕ) → u < 4 * Q → v < 4 * Q → z < 4 * Q → b ≡ bias Q u → c ≡ bias Q z → (t + (b + c) / 2) % (4 * Q) ≡ v
@@ -51,24 +42,28 @@ unapprox-word Q x d e b c t hx hd he eb ec p =
     (sym (residue-sub (4 * Q) (bias Q x + Q) (2 * Q + m) ((t + Q) % (4 * Q)) (mod-lt (t + Q) (omega arith))
     (rw (← p) (simp mod-add-mod (ap (λ (n : ℕ). n % (4 * Q)) (omega arith))))))
 
--- ---- the steps as the code takes them: M words, of which q is a quarter
-module _ (M Q : ℕ) (e : M ≡ 4 * Q) (q : ℕ) (eq : q ≡ Q) where
-  pub detail-step : (u v z m t r : ℕ) → u < M → v < M → z < M → m ≡ (bias Q u + bias Q z) / 2 → (t + m) % M ≡ v → r ≡ (t + 2 * q) % M
-      → r ≡ residue M (val M v -ℤ shr_z (val M u +ℤ val M z) 2)
-  detail-step u v z m t r hu hv hz em et er =
-      er ∙ rw (eq, e) (detail-word Q u v z (bias Q u) (bias Q z) t (rw e at hu) (rw e at hv) (rw e at hz) refl refl (rw (em, e) at et))
+-- ---- the steps as the code takes them: q is a quarter of the words, h half of them, and m a mean that is added or taken away
+module _ {k : ℕ} (w : Width k) where
+  pub detail-step : {u v z m h r : ℕ} (t : ℕ) → u < 256 ^ k → v < 256 ^ k → z < 256 ^ k → m ≡ (bias (quarter k) u + bias (quarter k) z) / 2 → (t + m) % 256 ^ k ≡ v → h ≡ 2 * quarter k → r ≡ (t + h) % 256 ^ k
+      → r ≡ residue (256 ^ k) (val (256 ^ k) v -ℤ shr_z (val (256 ^ k) u +ℤ val (256 ^ k) z) 2)
+  detail-step {u} {v} {z} {m} {h} {r} t hu hv hz em et eh er =
+      let e = w.words in
+      er ∙ rw (eh, e) (detail-word (quarter k) u v z (bias (quarter k) u) (bias (quarter k) z) t (rw e at hu) (rw e at hv) (rw e at hz) refl refl (rw (em, e) at et))
 
-  pub approx-step : (x d g m t r : ℕ) → x < M → d < M → g < M → m ≡ (bias Q d + bias Q g + 2) / 4 → (t + q) % M ≡ x → r ≡ (t + m) % M
-      → r ≡ residue M (val M x +ℤ shr_z (val M d +ℤ val M g +ℤ pos 2) 4)
-  approx-step x d g m t r hx hd hg em et er =
-      er ∙ rw (em, e) (approx-word Q x d g (bias Q d) (bias Q g) t (rw e at hx) (rw e at hd) (rw e at hg) refl refl (rw (eq, e) at et))
+  pub approx-step : {x d g m q r : ℕ} (t : ℕ) → x < 256 ^ k → d < 256 ^ k → g < 256 ^ k → m ≡ (bias (quarter k) d + bias (quarter k) g + 2) / 4 → q ≡ quarter k → (t + q) % 256 ^ k ≡ x → r ≡ (t + m) % 256 ^ k
+      → r ≡ residue (256 ^ k) (val (256 ^ k) x +ℤ shr_z (val (256 ^ k) d +ℤ val (256 ^ k) g +ℤ pos 2) 4)
+  approx-step {x} {d} {g} {m} {q} {r} t hx hd hg em eq et er =
+      let e = w.words in
+      er ∙ rw (em, e) (approx-word (quarter k) x d g (bias (quarter k) d) (bias (quarter k) g) t (rw e at hx) (rw e at hd) (rw e at hg) refl refl (rw (eq, e) at et))
 
-  pub odd_step : (u v z m t r : ℕ) → u < M → v < M → z < M → m ≡ (bias Q u + bias Q z) / 2 → (t + 2 * q) % M ≡ v → r ≡ (t + m) % M
-      → r ≡ residue M (val M v +ℤ shr_z (val M u +ℤ val M z) 2)
-  odd_step u v z m t r hu hv hz em et er =
-      er ∙ rw (em, e) (undetail-word Q u v z (bias Q u) (bias Q z) t (rw e at hu) (rw e at hv) (rw e at hz) refl refl (rw (eq, e) at et))
+  pub odd_step : {u v z m h r : ℕ} (t : ℕ) → u < 256 ^ k → v < 256 ^ k → z < 256 ^ k → m ≡ (bias (quarter k) u + bias (quarter k) z) / 2 → h ≡ 2 * quarter k → (t + h) % 256 ^ k ≡ v → r ≡ (t + m) % 256 ^ k
+      → r ≡ residue (256 ^ k) (val (256 ^ k) v +ℤ shr_z (val (256 ^ k) u +ℤ val (256 ^ k) z) 2)
+  odd_step {u} {v} {z} {m} {h} {r} t hu hv hz em eh et er =
+      let e = w.words in
+      er ∙ rw (em, e) (undetail-word (quarter k) u v z (bias (quarter k) u) (bias (quarter k) z) t (rw e at hu) (rw e at hv) (rw e at hz) refl refl (rw (eh, e) at et))
 
-  pub even_step : (x d g m t r : ℕ) → x < M → d < M → g < M → m ≡ (bias Q d + bias Q g + 2) / 4 → (t + m) % M ≡ x → r ≡ (t + q) % M
-      → r ≡ residue M (val M x -ℤ shr_z (val M d +ℤ val M g +ℤ pos 2) 4)
-  even_step x d g m t r hx hd hg em et er =
-      er ∙ rw (eq, e) (unapprox-word Q x d g (bias Q d) (bias Q g) t (rw e at hx) (rw e at hd) (rw e at hg) refl refl (rw (em, e) at et))
+  pub even_step : {x d g m q r : ℕ} (t : ℕ) → x < 256 ^ k → d < 256 ^ k → g < 256 ^ k → m ≡ (bias (quarter k) d + bias (quarter k) g + 2) / 4 → (t + m) % 256 ^ k ≡ x → q ≡ quarter k → r ≡ (t + q) % 256 ^ k
+      → r ≡ residue (256 ^ k) (val (256 ^ k) x -ℤ shr_z (val (256 ^ k) d +ℤ val (256 ^ k) g +ℤ pos 2) 4)
+  even_step {x} {d} {g} {m} {q} {r} t hx hd hg em et eq er =
+      let e = w.words in
+      er ∙ rw (eq, e) (unapprox-word (quarter k) x d g (bias (quarter k) d) (bias (quarter k) g) t (rw e at hx) (rw e at hd) (rw e at hg) refl refl (rw (em, e) at et))

@@ -1,15 +1,15 @@
 -- What a turn of each loop stores, once over the width: the word of a coefficient from the words that the code reads.
-use Rattle.std.proofs.Common.{◌≡◌, ℕ, ◌+◌, ◌-◌, ◌*◌, ◌/◌, ◌%◌, ◌^◌, ◌<◌, ◌≤◌, min, List, length, ℤ, pos, ◌+ℤ◌, ◌-ℤ◌, sym, refl, ap, ◌∙◌, subst, ⊎_elim, arith, eq-eqb, ne_eqb}
+use Rattle.std.proofs.Common.{◌≡◌, ℕ, ◌+◌, ◌-◌, ◌*◌, ◌/◌, ◌%◌, ◌^◌, ◌<◌, ◌≤◌, min, List, length, ℤ, pos, ◌+ℤ◌, ◌-ℤ◌, sym, refl, ap, ◌∙◌, arith, eq-eqb, ne_eqb}
 use lib.Signed.{shr_z}
 use Rattle.base_lengths.specs.Lengths.{approx_length, details_length}
-use Rattle.base_samples.specs.Words.{word_at, put_at, Holds, Front}
+use Rattle.base_samples.specs.Words.{word_at, put_at, Front}
 use Rattle.base_samples.specs.Integers.{val, residue, wrap, decode, Width}
 use Rattle.base_samples.proofs.LeLaws.{top_pos}
-use Rattle.base_samples.proofs.Words.{word-take, word-table, length-tabulate, get_or-tabulate, holds, holds_on}
+use Rattle.base_samples.proofs.Words.{word-take, word-table, length-tabulate, get_or-tabulate, holds}
 use Rattle.base_samples.proofs.Fronts.{front-more, front-all}
 use Rattle.base_samples.proofs.IntegerLaws.{length-decode, at-decode, encode-tabulate, word-wrap, residue-lt}
 use Rattle.filter_cdf53i.specs.Lift.{detail, details, approx, approxs, even, odd, sample, restored}
-use Rattle.filter_cdf53i.specs.Bands.{low, back, detail_word, approx_word, sample_word, even_word, details_from, evens_from, odds_from, InputBands, Restoring, EnoughWords}
+use Rattle.filter_cdf53i.specs.Bands.{low, back, detail_word, approx_word, sample_word, even_word, details_from, evens_from, odds_from, EnoughWords}
 
 -- a word of the front is read
 pub front_read : {k n i : ℕ} {g : ℕ → ℕ} {s : List ℕ} (j : ℕ) → Front k n i g s → j < i → g j < 256 ^ k → word_at k s j ≡ g j
@@ -17,10 +17,6 @@ front_read {k} {n} {i} {g} {s} j h l b =
     sym (word-take k s i j l)
     ∙ ap (λ (w : List ℕ). word_at k w j) h.front
     ∙ word-table k i g j l b
-
--- the words are as many as the list holds now
-pub front-now : {k n i : ℕ} {g : ℕ → ℕ} {s : List ℕ} → Front k n i g s → Front k (length s / k) i g s
-front-now h = rw h.holds.count h
 
 -- the number that sample i of s stands for
 abbrev pub sample_at : ℕ → List ℕ → ℕ → ℤ
@@ -44,6 +40,22 @@ module _ {k : ℕ} (w : Width k) where
   unfolding even
   even-at a d i l r h el er hl hr =
       rw (word-wrap w, length-decode, ← el, ← er, at-decode k a i h, at-decode k d l hl, at-decode k d r hr)
+
+  -- the same from the words that the code read
+  pub detail-made : (s : List ℕ) (i j : ℕ) {u v z g : ℕ} → 2 * i + 1 < length s / k → j ≡ min (i + 1) ((length s / k + 1) / 2 - 1)
+      → u ≡ word_at k s (2 * i) → v ≡ word_at k s (2 * i + 1) → z ≡ word_at k s (2 * j)
+      → g ≡ residue (256 ^ k) (val (256 ^ k) v -ℤ shr_z (val (256 ^ k) u +ℤ val (256 ^ k) z) 2) → g ≡ residue (256 ^ k) (detail (wrap k) (decode k s) i)
+  detail-made s i j h ej eu ev ez eg = eg ∙ rw (eu, ev, ez) (detail-at s i j h ej)
+
+  pub approx-made : (s d : List ℕ) (i l r : ℕ) {u v z g : ℕ} → 2 * i < length s / k → l ≡ i - 1 → r ≡ min i (length d / k - 1) → l < length d / k → r < length d / k
+      → u ≡ word_at k s (2 * i) → v ≡ word_at k d l → z ≡ word_at k d r
+      → g ≡ residue (256 ^ k) (val (256 ^ k) u +ℤ shr_z (val (256 ^ k) v +ℤ val (256 ^ k) z +ℤ pos 2) 4) → g ≡ residue (256 ^ k) (approx (wrap k) (decode k s) (decode k d) i)
+  approx-made s d i l r h el er hl hr eu ev ez eg = eg ∙ rw (eu, ev, ez) (approx-at s d i l r h el er hl hr)
+
+  pub even-made : (a d : List ℕ) (i l r : ℕ) {u v z g : ℕ} → i < length a / k → l ≡ i - 1 → r ≡ min i (length d / k - 1) → l < length d / k → r < length d / k
+      → u ≡ word_at k a i → v ≡ word_at k d l → z ≡ word_at k d r
+      → g ≡ residue (256 ^ k) (val (256 ^ k) u -ℤ shr_z (val (256 ^ k) v +ℤ val (256 ^ k) z +ℤ pos 2) 4) → g ≡ residue (256 ^ k) (even (wrap k) (decode k a) (decode k d) i)
+  even-made a d i l r h el er hl hr eu ev ez eg = eg ∙ rw (eu, ev, ez) (even-at a d i l r h el er hl hr)
 
   -- the word of what is stored stands for it: of a detail, of an even sample
   kept-val : (z : ℤ) (u : ℕ) → u ≡ residue (256 ^ k) (wrap k z) → val (256 ^ k) u ≡ wrap k z
@@ -165,34 +177,7 @@ module _ {k : ℕ} (w : Width k) where
   unfolding approx_word low approxs
   approximated x a i h e = rw (length-decode k x, encode-tabulate k (approx_length (length x / k)) (approx (wrap k) (decode k x) (details (wrap k) (decode k x)))) (front-all _ h e refl)
 
--- another list of as many samples has the same bands
-pub bands-on : {k : ℕ} {x a d : List ℕ} (t : List ℕ) → InputBands k x a d → Holds k (length x / k) t → InputBands k t a d
-bands-on {k} {x} {a} {d} t b h =
-    record {
-      input = record { width = b.input.width; long = rw h.count b.input.long; samples = rw h.count h };
-      approx = rw h.count b.approx;
-      details = rw h.count b.details;
-    }
-
-pub restoring-now : {k n : ℕ} {a d x : List ℕ} {i e : ℕ} → Restoring k n a d x i e → Restoring k (length x / k) a d x i e
-restoring-now r = rw r.front.holds.count r
-
-pub restoring-at : {k n : ℕ} {a d x : List ℕ} {i e : ℕ} (j : ℕ) → Restoring k n a d x i e → i ≡ j → Restoring k n a d x j e
-restoring-at {k} {n} {a} {d} {x} {e = e} j r q = subst (λ m. Restoring k n a d x m e) q r
-
 -- ---- the two areas of a block
 
 pub room_of : {k : ℕ} → 0 < k → (s : List ℕ) (m n : ℕ) → length s ≡ k * m → n ≤ m → EnoughWords k n s
 room_of p s m n e l = let h = holds p s m e in record { holds = rw h.count h; most = rw h.count l }
-
--- another list as long has the same room
-pub room-on : {k n : ℕ} {s : List ℕ} (t : List ℕ) → EnoughWords k n s → length t ≡ length s → EnoughWords k n t
-room-on {k} t r e = let h = holds_on t r.holds e in record { holds = rw h.count h; most = rw h.count r.most }
-
--- 1024 bytes and 1028 bytes are whole words, and 1028 hold one more at least
-pub whole_words : {k : ℕ} → Width k → (1024 ≡ k * (1024 / k)) × (1028 ≡ k * (1028 / k)) × (1024 / k + 1 ≤ 1028 / k) × (0 < 1024 / k)
-whole_words w =
-    ⊎_elim
-    (λ e. rw e (refl, refl, omega arith, omega arith))
-    (λ r. ⊎_elim (λ e. rw e (refl, refl, omega arith, omega arith)) (λ e. rw e (refl, refl, omega arith, omega arith)) r)
-    w.which

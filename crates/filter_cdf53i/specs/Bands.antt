@@ -2,7 +2,7 @@
 use Rattle.std.specs.Prelude.{◌≡◌, ℕ, ◌+◌, ◌-◌, ◌*◌, ◌/◌, ◌^◌, ◌<◌, ◌≤◌, List, length}
 use Rattle.base_lengths.specs.Lengths.{approx_length, details_length}
 use Rattle.base_samples.specs.Words.{Holds, Front}
-use Rattle.base_samples.specs.Integers.{Width, wrap, residue, decode, encode}
+use Rattle.base_samples.specs.Integers.{wrap, residue, decode, encode}
 use Rattle.filter_cdf53i.specs.Lift.{detail, details, approx, approxs, even, sample, restored}
 
 -- the bytes of the approximations and of the details of the samples in x
@@ -18,7 +18,6 @@ back k a d = encode k (restored (wrap k) (decode k a) (decode k d))
 
 -- x holds 3 samples or more of k bytes
 pub record Input (k : ℕ) (x : List ℕ) : Type 0 where
-  pub width : Width k
   pub long : 3 ≤ length x / k
   pub samples : Holds k (length x / k) x
 
@@ -39,7 +38,6 @@ approx_word k x i = residue (256 ^ k) (approx (wrap k) (decode k x) (details (wr
 pub record Approximating (k : ℕ) (x a : List ℕ) (i e : ℕ) : Type 0 where
   pub front : Front k (approx_length (length x / k)) i (approx_word k x) a
   pub left : e ≡ detail_word k x (i - 1)
-  pub small : e < 256 ^ k
 
 -- the samples in x have the details i to i + n: before the last no neighbour is mirrored
 pub record Unmirrored (k : ℕ) (x : List ℕ) (i n : ℕ) : Type 0 where
@@ -61,11 +59,9 @@ even_word k a d i = residue (256 ^ k) (even (wrap k) (decode k a) (decode k d) i
 pub record Restoring (k n : ℕ) (a d x : List ℕ) (i e : ℕ) : Type 0 where
   pub front : Front k n (2 * i) (sample_word k a d) x
   pub next : e ≡ even_word k a d i
-  pub small : e < 256 ^ k
 
 -- a has the approximations and d the details i to i + n: no neighbour is mirrored. Places of d fit a length
 pub record Inside (k : ℕ) (a d : List ℕ) (i n : ℕ) : Type 0 where
-  pub width : Width k
   pub approx : i + n < length a / k
   pub details : i + n < length d / k
   pub few : length d / k ≤ length d

@@ -2,12 +2,12 @@
 use mathlib.Core.Bool.{Bool, true, not}
 use mathlib.Core.List.{List}
 use mathlib.Core.Logic.{⊎_elim}
-use mathlib.Core.Path.{◌≡◌, refl, sym, ap, subst, ◌∙◌}
+use mathlib.Core.Path.{◌≡◌, refl, sym, subst, ◌∙◌}
 use Prim.Native.Nat.{ℕ, ◌+◌, ◌-◌, ◌*◌, ◌/◌, ◌%◌, ◌≤◌, ◌<◌, min}
 use native.Mathlib.Omega.{arith}
-use lib.Dec.{T}
-use lib.Ieee.{Float, nan, Format, binary32, binary64, add, mul, is_nan}
+use lib.Ieee.{Float, nan, Format, binary32, binary64, mul, is_nan}
 use lib.ListN.{length, get_or}
+use Rattle.std.specs.Bool.{IsTrue}
 use Rattle.base_order.proofs.Order.{lt-or-le}
 use Rattle.base_lengths.specs.declared.Wavelet.TheVariants.{Cdf97}
 use Rattle.base_lengths.specs.Lengths.{approx_length, details_length}
@@ -24,7 +24,7 @@ use Rattle.filter_small.proofs.Pieces.{stepped-piece}
 use Rattle.filter_small.proofs.Factors.{Factors, factors}
 use Rattle.filter_small.proofs.Lifts as lifts
 use Rattle.filter_small.proofs.Firsts as firsts
-use Rattle.filter_cdf97f_forward.specs.Ahead.{odds_one, evens_two, odds_three, evens_four, scaled_odds, scaled_evens, Samples, Ahead, Carried, Handed, Splitting, Split}
+use Rattle.filter_cdf97f_forward.specs.Ahead.{odds_one, evens_two, odds_three, evens_four, scaled_odds, scaled_evens, Samples, Carried, Handed, Splitting, Split}
 
 -- ---- four steps and a scaling stay far below the largest float
 
@@ -64,12 +64,12 @@ module _ {f : Format} {t : Set} {x : List ℕ} (v : Samples f t x) where
   -- ---- as the code makes them: r is the place of the right neighbour
 
   pub three_made : (i r : ℕ) {y z u : Float} → i < length x / width f / 2 → r ≡ min (i + 1) ((length x / width f + 1) / 2 - 1) → y ≡ get_or (evens_two f t x) i nan → z ≡ get_or (evens_two f t x) r nan
-      → u ≡ get_or (odds_one f t x) i nan → add f (mul f (add f y z) t.gamma) u ≡ get_or (odds_three f t x) i nan
+      → u ≡ get_or (odds_one f t x) i nan → lift f t.gamma y z u ≡ get_or (odds_three f t x) i nan
   unfolding odds_three
   three_made i r h er ey ez eu = lifts.odd-made f t.gamma (evens_two f t x) (odds_one f t x) i r (rw length-one h) (rw length_two er) ey ez eu
 
   pub low-made : (i l r : ℕ) {y z u : Float} → i < (length x / width f + 1) / 2 → l ≡ i - 1 → r ≡ min i (length x / width f / 2 - 1) → y ≡ get_or (odds_three f t x) l nan → z ≡ get_or (odds_three f t x) r nan
-      → u ≡ get_or (evens_two f t x) i nan → mul f (add f (mul f (add f y z) t.delta) u) t.k ≡ get_or (scaled_evens f t x) i nan
+      → u ≡ get_or (evens_two f t x) i nan → mul f (lift f t.delta y z u) t.k ≡ get_or (scaled_evens f t x) i nan
   unfolding scaled_evens evens_four
   low-made i l r h el er ey ez eu =
       lifts.scaled_made f t.k _ i (rw (lifts.length-evens f t.delta (evens_two f t x) (odds_three f t x), length_two) h)
@@ -84,21 +84,20 @@ module _ {f : Format} {t : Set} {x : List ℕ} (v : Samples f t x) where
   module _ (i n : ℕ) (h : i + n + 1 < length x / width f / 2) {y z u₀ u v₀ w w₀ s : List Float} {p q r : Float} (py : Piece (even_in f x) 0 (i + 1) (n + 1) y) (pz : Piece (odd_in f x) 0 (i + 1) n z)
       (c : Carried f t x i p q r) (one : Stepped f t.alpha y z n p u₀ u) (two : Stepped f t.beta u y n q v₀ w) (three : Stepped f t.gamma w u n r w₀ s) where
     ones : Piece (odds_one f t x) 0 i (n + 1) u
-    unfolding lift odds_to
+    unfolding odds_to
     ones =
         stepped-piece _ _ _ i one (omega arith) c.one (λ j k hj ek.
         lifts.odd-made f t.alpha (even_in f x) (odd_in f x) k (k + 1) (rw (lifts.length-odd_in f x) (omega arith)) (rw (lifts.length-even_in f x) (omega arith))
         (py.each j k (omega arith) (omega arith)) (py.each (j + 1) (k + 1) (omega arith) (omega arith)) (pz.each j k hj (omega arith)))
 
     twos : Piece (evens_two f t x) 0 i (n + 1) w
-    unfolding lift evens_to
+    unfolding evens_to
     twos =
         stepped-piece _ _ _ i two (omega arith) c.two (λ j k hj ek.
         lifts.even-made f t.beta (even_in f x) (odds_one f t x) k (i + j) k (rw (lifts.length-even_in f x) (omega arith)) (omega arith) (rw length-one (omega arith))
         (ones.each j _ (omega arith) (omega arith)) (ones.each (j + 1) k (omega arith) (omega arith)) (py.each j k (omega arith) (omega arith)))
 
     threes : Piece (odds_three f t x) 1 i (n + 1) s
-    unfolding lift
     threes =
         stepped-piece _ _ _ (i - 1) three refl c.three (λ j k hj ek.
         three_made k (k + 1) (omega arith) (omega arith) (twos.each j k (omega arith) (omega arith)) (twos.each (j + 1) (k + 1) (omega arith) (omega arith)) (ones.each j k (omega arith) (omega arith)))
@@ -134,13 +133,13 @@ module _ {f : Format} {t : Set} {x : List ℕ} (v : Samples f t x) where
       (small-le f (get_or (evens_two f t x) i nan) (size_read f + 9 + 9) (size_read f + 9 + 9 + 9) (two-small i h (small-part _ _ w (omega arith) (omega arith))) (omega arith))
 
   module _ {b : Bool} {e : Float} (i : ℕ) (w : SmallIf b f x (2 * i - 4) (2 * i + 5)) where
-    pub high-no-nan : i < length x / width f / 2 → e ≡ get_or (scaled_odds f t x) i nan → b ≡ true → T (not (is_nan e))
+    pub high-no-nan : i < length x / width f / 2 → e ≡ get_or (scaled_odds f t x) i nan → b ≡ true → IsTrue (not (is_nan e))
     unfolding scaled_odds
     high-no-nan h q s =
         lifts.no-nan-is f (size_read f + 9 + 9 + 9 + 3) (get_or (scaled_odds f t x) i nan)
         (lifts.scaled_small f t.invk (odds_three f t x) (size_read f + 9 + 9 + 9) i given.invk (omega (arith, far f)) (rw length_three h) (three-small i h (small-part _ _ (w s) (omega arith) (omega arith)))) q
 
-    pub low-no-nan : i < (length x / width f + 1) / 2 → e ≡ get_or (scaled_evens f t x) i nan → b ≡ true → T (not (is_nan e))
+    pub low-no-nan : i < (length x / width f + 1) / 2 → e ≡ get_or (scaled_evens f t x) i nan → b ≡ true → IsTrue (not (is_nan e))
     unfolding scaled_evens
     low-no-nan h q s =
         lifts.no-nan-is f (size_read f + 9 + 9 + 9 + 9 + 3) (get_or (scaled_evens f t x) i nan)
@@ -163,21 +162,11 @@ handed-at j k h l e ep eq er = record {
 
 -- ---- what the loop keeps
 
-pub ahead-on : {both : Bool} {f : Format} {t : Set} {x a d s u : List ℕ} {i : ℕ} → Ahead both f t x a d → Splitting both f t x s u i → Ahead both f t x s u
-ahead-on v r = record { samples = v.samples; approx = r.approx.holds; details = λ b. (r.details b).holds }
-
--- between two blocks: the bands' lengths, what of them is stored, and what the turns so far hand on
-pub record Between (both : Bool) (f : Format) (t : Set) (x a₀ d₀ a d : List ℕ) (i : ℕ) (p q r : Float) : Type 0 where
-  pub approx : length a ≡ length a₀
-  pub details : length d ≡ length d₀
-  pub stored : Splitting both f t x a d i
-  pub carried : Carried f t x i p q r
-
 pub splitting-at : {both : Bool} {f : Format} {t : Set} {x a d : List ℕ} {i : ℕ} (k : ℕ) → Splitting both f t x a d i → i ≡ k → Splitting both f t x a d k
-splitting-at {both} {f} {t} {x} {a} {d} k r w = subst (λ m. Splitting both f t x a d m) w r
+splitting-at k r e = rw (← e) r
 
 pub carried-at : {f : Format} {t : Set} {x : List ℕ} {i : ℕ} {p q r : Float} (k : ℕ) → Carried f t x i p q r → i ≡ k → Carried f t x k p q r
-carried-at {f} {t} {x} {p = p} {q = q} {r = r} k c w = subst (λ m. Carried f t x m p q r) w c
+carried-at k c e = rw (← e) c
 
 -- ---- by the set of the forward filter they are its bands
 
@@ -192,10 +181,6 @@ low-97 f x et e = e ∙ unfold scaled_evens evens_four odds_three evens_to odds_
 -- a number that is not even is one more than twice its half
 pub odd-count : (n : ℕ) → (n % 2 ≡ 0 → ⊥) → n ≡ 2 * (n / 2) + 1
 odd-count n ne = ⊎_elim (λ (z : n % 2 < 1). absurd (ne (omega arith))) (λ (z : 1 ≤ n % 2). omega arith) (lt-or-le (n % 2) 1)
-
--- the odd sample after the third step that a turn hands on is of the place before
-pub carried-three : {f : Format} {t : Set} {x : List ℕ} {p q r : Float} (i : ℕ) → Carried f t x (i + 1) p q r → r ≡ get_or (odds_three f t x) i nan
-carried-three {f} {t} {x} i c = c.three ∙ ap (λ (k : ℕ). get_or (odds_three f t x) k nan) (omega arith)
 
 -- a length that is not odd has as many approximations as details
 pub even-halves : (n : ℕ) → (n % 2 ≡ 1 → ⊥) → n / 2 ≡ (n + 1) / 2

@@ -1,11 +1,15 @@
 -- 9/7 forward as the blocks make it, by the set t: after the two steps that `odds_to` and `evens_to` are, two more and the scaling. Over the format.
-use Rattle.std.specs.Prelude.{Bool, true, List, ◌≡◌, ℕ, ◌+◌, ◌-◌, ◌/◌, ◌≤◌, Float, length, get_or}
+use Rattle.std.specs.Prelude.{Bool, true, List, ◌≡◌, ℕ, ◌+◌, ◌-◌, ◌/◌, ◌≤◌, Float, map, length, get_or}
 use Rattle.std.specs.Float.{nan, Format}
 use Rattle.base_lengths.specs.Lengths.{approx_length, details_length}
 use Rattle.base_samples.specs.Words.{Holds, Front}
 use Rattle.base_samples.specs.Floats.{width, encode_floats}
 use Rattle.filter_floats.specs.Steps.{lift, evens, odds, scaled}
+use Rattle.filter_floats.specs.declared.steps.Factors.{Factors}
 use Rattle.filter_floats.specs.Filters.{Set, factors_of}
+use Rattle.filter_floats.specs.Kinds.{set_of}
+use Rattle.filter_small.specs.declared.rows.Carry.{Carry}
+use Rattle.filter_small.specs.declared.rows.Rows.{Rows}
 use Rattle.filter_small.specs.Pieces.{Piece}
 use Rattle.filter_small.specs.Lists.{odds_to, evens_to, pattern_of}
 
@@ -53,6 +57,13 @@ pub record Handed (f : Format) (t : Set) (x : List ℕ) (i n : ℕ) (u v w : Lis
   pub one : Piece (odds_one f t x) 0 i (n + 1) u
   pub two : Piece (evens_two f t x) 0 i (n + 1) v
   pub three : Piece (odds_three f t x) 1 i (n + 1) w
+
+-- both of what the code holds, where v is what a float of it stands for
+abbrev pub Carries : {A : Type 0} → Format → (A → Float) → Factors A → List ℕ → ℕ → Carry A → Type 0
+Carries f v t x i s = Carried f (set_of v t) x i (v s.one) (v s.two) (v s.three)
+
+abbrev pub Hands : {A : Type 0} → Format → (A → Float) → Factors A → List ℕ → ℕ → ℕ → Rows A → Type 0
+Hands f v t x i n r = Handed f (set_of v t) x i n (map v r.u) (map v r.v) (map v r.w)
 
 -- the first i entries of the bands that are wanted are stored
 pub record Splitting (both : Bool) (f : Format) (t : Set) (x a d : List ℕ) (i : ℕ) : Type 0 where

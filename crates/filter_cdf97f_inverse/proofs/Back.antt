@@ -4,16 +4,16 @@ use mathlib.Core.List.{List}
 use mathlib.Core.Path.{◌≡◌, refl, sym, subst, ◌∙◌}
 use Prim.Native.Nat.{ℕ, ◌+◌, ◌-◌, ◌*◌, ◌/◌, ◌≤◌, ◌<◌, min}
 use native.Mathlib.Omega.{arith}
-use lib.Dec.{T}
-use lib.Ieee.{Float, nan, Format, binary32, binary64, add, mul, is_nan}
+use lib.Ieee.{Float, nan, Format, binary32, binary64, mul, is_nan}
 use lib.ListN.{length, get_or}
+use Rattle.std.specs.Bool.{IsTrue}
 use Rattle.base_lengths.specs.declared.Wavelet.TheVariants.{Cdf97}
 use Rattle.base_samples.specs.Words.{Front}
 use Rattle.base_samples.specs.Floats.{width, float_at, put_float, decode_floats}
 use Rattle.base_samples.proofs.Fronts.{front-none}
 use Rattle.base_samples.proofs.FloatLaws.{length-decode_floats, at-decode_floats}
 use Rattle.filter_floats.specs.Steps.{lift, evens, odds}
-use Rattle.filter_floats.specs.Filters.{Set, factors_of, turned, back97}
+use Rattle.filter_floats.specs.Filters.{Set, factors_of, back97}
 use Rattle.filter_floats.specs.Bands.{restored, back}
 use Rattle.filter_floats.specs.Loops.{Lent}
 use Rattle.filter_small.specs.Small.{Small, Factor, SmallFrom, BothSmallIf}
@@ -56,11 +56,11 @@ record Counted (f : Format) (a d : List ℕ) (p q : List Float) : Type 0 where
 -- entry i of e is what a step by c makes of p and q as the code makes it, at an even place and at an odd one: l and r are the places of the neighbours
 abbrev EvenMade : Format → Float → List ℕ → List ℕ → List Float → List Float → List Float → ℕ → ℕ → ℕ → Float → Float → Float → Type 0
 EvenMade f c a d p q e i l r y z w =
-    i < length a / width f → l ≡ i - 1 → r ≡ min i (length d / width f - 1) → y ≡ get_or q l nan → z ≡ get_or q r nan → w ≡ get_or p i nan → add f (mul f (add f y z) c) w ≡ get_or e i nan
+    i < length a / width f → l ≡ i - 1 → r ≡ min i (length d / width f - 1) → y ≡ get_or q l nan → z ≡ get_or q r nan → w ≡ get_or p i nan → lift f c y z w ≡ get_or e i nan
 
 abbrev OddMade : Format → Float → List ℕ → List ℕ → List Float → List Float → List Float → ℕ → ℕ → Float → Float → Float → Type 0
 OddMade f c a d p q e i r y z w =
-    i < length d / width f → r ≡ min (i + 1) (length a / width f - 1) → y ≡ get_or p i nan → z ≡ get_or p r nan → w ≡ get_or q i nan → add f (mul f (add f y z) c) w ≡ get_or e i nan
+    i < length d / width f → r ≡ min (i + 1) (length a / width f - 1) → y ≡ get_or p i nan → z ≡ get_or p r nan → w ≡ get_or q i nan → lift f c y z w ≡ get_or e i nan
 
 module _ {f : Format} {a d : List ℕ} {p q : List Float} (c : Float) (b : Counted f a d p q) where
   by-evens : (i l r : ℕ) {y z w : Float} → EvenMade f c a d p q (evens (lift f c) nan p q) i l r y z w
@@ -125,7 +125,7 @@ module _ {f : Format} {t : Set} {a d : List ℕ} (v : Bands97 f t a d) where
   three_made = by-evens t.beta two
 
   -- the odd sample of pair i
-  pub pair_made : (i : ℕ) {q r n : Float} → Pair f t a d i q r n → add f (mul f (add f r n) t.alpha) q ≡ get_or (odds_four f t a d) i nan
+  pub pair_made : (i : ℕ) {q r n : Float} → Pair f t a d i q r n → lift f t.alpha r n q ≡ get_or (odds_four f t a d) i nan
   unfolding odds_four
   pair_made i w = by-odds t.alpha three i _ w.inside refl w.three w.next w.two
 
@@ -135,30 +135,31 @@ module _ {f : Format} {t : Set} {a d : List ℕ} (v : Bands97 f t a d) where
     module _ {y z u₀ u v₀ w w₀ x : List Float} {p q r : Float} (py : Piece (times_of f t.k d) 0 (i + 1) (n + 1) y) (pz : Piece (times_of f t.invk a) 0 (i + 2) n z) (c : Carried f t a d i p q r)
         (one : Stepped f t.delta y z n p u₀ u) (two : Stepped f t.gamma u y n q v₀ w) (three : Stepped f t.beta w u n r w₀ x) where
       ones : Piece (evens_one f t a d) 0 (i + 1) (n + 1) u
-      unfolding lift
       ones =
           stepped-piece _ _ _ (i + 1) one (omega arith) c.one (λ j k hj ek.
           one-made k (i + 1 + j) k (omega (arith, v)) (omega arith) (omega arith) (py.each j _ (omega arith) (omega arith)) (py.each (j + 1) _ (omega arith) (omega arith)) (pz.each j _ hj (omega arith)))
 
-      pub twos : Piece (odds_two f t a d) 0 i (n + 1) w
-      unfolding lift
+      twos : Piece (odds_two f t a d) 0 i (n + 1) w
       twos =
           stepped-piece _ _ _ i two (omega arith) c.two (λ j k hj ek.
           two_made k (k + 1) (omega arith) (omega (arith, v)) (ones.each j _ (omega arith) (omega arith)) (ones.each (j + 1) _ (omega arith) (omega arith)) (py.each j _ (omega arith) (omega arith)))
 
-      pub threes : Piece (evens_three f t a d) 0 i (n + 1) x
-      unfolding lift
+      threes : Piece (evens_three f t a d) 0 i (n + 1) x
       threes =
           stepped-piece _ _ _ i three (omega arith) c.three (λ j k hj ek.
           three_made k (i + j) k (omega (arith, v)) (omega arith) (omega arith) (twos.each j _ (omega arith) (omega arith)) (twos.each (j + 1) _ (omega arith) (omega arith)) (ones.each j _ (omega arith) (omega arith)))
 
-      -- and what the next block is handed
-      pub block-carried : {e g h : Float} → e ≡ get_or u n nan → g ≡ get_or w n nan → h ≡ get_or x n nan → Carried f t a d (i + n) e g h
-      block-carried eo et eh = record {
-        one = eo ∙ ones.each n _ (omega arith) (omega arith);
-        two = et ∙ twos.each n _ (omega arith) (omega arith);
-        three = eh ∙ threes.each n _ (omega arith) (omega arith);
-      }
+      -- what is stored is made of these, and the next block is handed the last of them
+      pub block-made : {e g h : Float} → e ≡ get_or u n nan → g ≡ get_or w n nan → h ≡ get_or x n nan → Piece (odds_two f t a d) 0 i (n + 1) w × Piece (evens_three f t a d) 0 i (n + 1) x × Carried f t a d (i + n) e g h
+      block-made eo et eh = (
+        twos,
+        threes,
+        record {
+          one = eo ∙ ones.each n _ (omega arith) (omega arith);
+          two = et ∙ twos.each n _ (omega arith) (omega arith);
+          three = eh ∙ threes.each n _ (omega arith) (omega arith);
+        },
+      )
 
   -- ---- what is stored
 
@@ -194,10 +195,10 @@ module _ {f : Format} {t : Set} {a d : List ℕ} (v : Bands97 f t a d) where
 
   -- so what pair i stores is no NaN
   module _ {b : Bool} {i : ℕ} (w : BothSmallIf b f a d (i - 2) (i + 3)) where
-    pub even-no-nan : {e : Float} → i < length a / width f → e ≡ get_or (evens_three f t a d) i nan → b ≡ true → T (not (is_nan e))
+    pub even-no-nan : {e : Float} → i < length a / width f → e ≡ get_or (evens_three f t a d) i nan → b ≡ true → IsTrue (not (is_nan e))
     even-no-nan h q y = lifts.no-nan-is f _ (get_or (evens_three f t a d) i nan) (three-small (w.0 y) (w.1 y) i (omega arith) (omega arith) h) q
 
-    pub odd_no_nan : {o : Float} → i < length d / width f → o ≡ get_or (odds_four f t a d) i nan → b ≡ true → T (not (is_nan o))
+    pub odd_no_nan : {o : Float} → i < length d / width f → o ≡ get_or (odds_four f t a d) i nan → b ≡ true → IsTrue (not (is_nan o))
     odd_no_nan h q y = lifts.no-nan-is f _ (get_or (odds_four f t a d) i nan) (four-small (w.0 y) (w.1 y) i (omega arith) (omega arith) h) q
 
   all-stored : {x : List ℕ} {i : ℕ} → Front (width f) (length a / width f + length d / width f) i (in_turn f (evens_three f t a d) (odds_four f t a d)) x
@@ -222,17 +223,12 @@ pair-by i j h e two three next = record { inside = h; two = two; three = three; 
 pub next-at : {f : Format} {t : Set} {a d : List ℕ} {i : ℕ} {q r n : Float} (j : ℕ) → Pair f t a d i q r n → j ≡ min (i + 1) (length a / width f - 1) → n ≡ get_or (evens_three f t a d) j nan
 next-at j w e = rw e w.next
 
+pub carried-at : {f : Format} {t : Set} {a d : List ℕ} {i : ℕ} {p q r : Float} (k : ℕ) → Carried f t a d i p q r → i ≡ k → Carried f t a d k p q r
+carried-at k c e = rw (← e) c
+
 -- ---- from what the inverse is lent
 
 module _ {f : Format} {x a d : List ℕ} (l : Lent f x a d) where
-  pub bands-by : {t : Set} → 4 ≤ length x / width f → t ≡ turned (factors_of f) → Bands97 f t a d
-  bands-by h e = record {
-    long = omega (arith, l.details.count);
-    fewer = omega (arith, l.details.count, l.approx.count);
-    near = omega (arith, l.details.count, l.approx.count);
-    set = e;
-  }
-
   pub none-restored : (t : Set) → Restoring f t a d x 0
   none-restored t =
       let n : length x / width f ≡ length a / width f + length d / width f = omega (arith, l.details.count, l.approx.count) in

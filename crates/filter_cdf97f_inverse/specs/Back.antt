@@ -4,8 +4,12 @@ use Rattle.std.specs.Float.{nan, Format}
 use Rattle.base_samples.specs.Words.{Front}
 use Rattle.base_samples.specs.Floats.{width, decode_floats}
 use Rattle.filter_floats.specs.Steps.{lift, evens, odds, scaled}
+use Rattle.filter_floats.specs.declared.steps.Factors.{Factors}
 use Rattle.filter_floats.specs.Filters.{Set, factors_of, turned}
+use Rattle.filter_floats.specs.Kinds.{set_of}
+use Rattle.filter_small.specs.declared.rows.Carry.{Carry}
 use Rattle.filter_small.specs.Lists.{in_turn}
+use Rattle.filter_cdf97f_inverse.specs.declared.blocks.Parts.{Parts}
 
 -- each float in s times k
 unfoldable pub times_of : Format → Float → List ℕ → List Float
@@ -43,6 +47,13 @@ pub record Pair (f : Format) (t : Set) (a d : List ℕ) (i : ℕ) (q r n : Float
   pub two : q ≡ get_or (odds_two f t a d) i nan
   pub three : r ≡ get_or (evens_three f t a d) i nan
   pub next : n ≡ get_or (evens_three f t a d) (min (i + 1) (length a / width f - 1)) nan
+
+-- both of what the code holds, where v is what a float of it stands for
+abbrev pub Carries : {A : Type 0} → Format → (A → Float) → Factors A → List ℕ → List ℕ → ℕ → Carry A → Type 0
+Carries f v t a d i s = Carried f (set_of v t) a d i (v s.one) (v s.two) (v s.three)
+
+abbrev pub Pairs : {A : Type 0} → Format → (A → Float) → Factors A → List ℕ → List ℕ → ℕ → Parts A → Type 0
+Pairs f v t a d i p = Pair f (set_of v t) a d i (v p.two) (v p.three) (v p.next)
 
 -- x, which has room for the samples, holds the first 2 i of them
 abbrev pub Restoring : Format → Set → List ℕ → List ℕ → List ℕ → ℕ → Type 0

@@ -1,20 +1,15 @@
 -- What a turn of each loop over a band stores, and what its last one leaves, once over the format.
 use mathlib.Core.List.{List}
-use mathlib.Core.Path.{◌≡◌, refl, ◌∙◌}
+use mathlib.Core.Path.{◌≡◌, refl}
 use Prim.Native.Nat.{ℕ, ◌+◌, ◌-◌, ◌/◌, ◌≤◌, ◌<◌, min}
 use native.Mathlib.Omega.{arith}
-use lib.Ieee.{Float, nan, Format, add, mul}
+use lib.Ieee.{Float, nan, Format, mul}
 use lib.ListN.{length}
-use Rattle.base_samples.specs.Floats.{width, float_at, put_float, decode_floats, encode_floats}
+use Rattle.base_samples.specs.Floats.{width, float_at, put_float, decode_floats, encode_floats, Plain}
 use Rattle.base_samples.proofs.FloatLaws.{length-decode_floats, at-decode_floats}
 use Rattle.filter_floats.specs.Steps.{lift, odd_at, even_at, odds, evens, scaled}
 use Rattle.filter_floats.specs.Loops.{Stored, StoredBands}
-use Rattle.filter_floats.proofs.Midway.{Midway, floats_of, midway-none, midway-put, midway-later, midway-all, Ready, midway-ready, stored-ready}
-
--- what a lifted sample is stored as
-pub put-lifted : (f : Format) (s : List ℕ) (i : ℕ) (c l r : Float) {t : List ℕ} {x y : Float} → t ≡ put_float f s i y → y ≡ add f (mul f (add f l r) c) x → x ≡ float_at f s i → t ≡ put_float f s i (lift f c l r (float_at f s i))
-unfolding lift
-put-lifted f s i c l r e ey ex = e ∙ rw (ey, ex)
+use Rattle.filter_floats.proofs.Midway.{Midway, floats_of, midway-none, midway-put, midway-later, midway-all, midway-plain, stored-plain}
 
 module _ (f : Format) (c : Float) where
   -- the details after "odds c", the approximations after "evens c", and floats times c
@@ -49,32 +44,32 @@ module _ {f : Format} {c : Float} {a d : List ℕ} where
 
     -- in the loop: the two approximations, and the detail
     module _ (l : i < length d / width f - 1) where
-      pub odds-left : Ready f a i
-      odds-left = stored-ready h.bands.approx (omega (arith, h.bands.fewer))
+      pub odds-left : Plain f a i
+      odds-left = stored-plain h.bands.approx (omega (arith, h.bands.fewer))
 
-      pub odds-right : Ready f a (i + 1)
-      odds-right = stored-ready h.bands.approx (omega (arith, h.bands.fewer))
+      pub odds-right : Plain f a (i + 1)
+      odds-right = stored-plain h.bands.approx (omega (arith, h.bands.fewer))
 
-      pub odds-here : Ready f s i
-      odds-here = midway-ready d h.new (omega arith) (omega arith)
+      pub odds-here : Plain f s i
+      odds-here = midway-plain d h.new (omega arith) (omega arith)
 
       pub odds-next : {u v : Float} {t : List ℕ} → u ≡ float_at f a i → v ≡ float_at f a (i + 1) → t ≡ put_float f s i (lift f c u v (float_at f s i)) → OddsTo f c a d (i + 1) t
       odds-next eu ev put = record { bands = h.bands; up_to = omega arith; new = odds-turn refl (omega arith) (omega (arith, h.bands.fewer)) eu ev put }
 
     -- and after it: the approximation after the last is the last
-    pub odds-last-left : Ready f a (length d / width f - 1)
-    odds-last-left = stored-ready h.bands.approx (omega (arith, h.bands.some, h.bands.fewer))
+    pub odds-last-left : {p : ℕ} → p ≡ length d / width f - 1 → Plain f a p
+    odds-last-left e = stored-plain h.bands.approx (omega (arith, h.bands.some, h.bands.fewer))
 
-    pub odds-last-right : Ready f a (length a / width f - 1)
-    odds-last-right = stored-ready h.bands.approx (omega (arith, h.bands.some, h.bands.fewer))
+    pub odds-last-right : {q : ℕ} → q ≡ length a / width f - 1 → Plain f a q
+    odds-last-right e = stored-plain h.bands.approx (omega (arith, h.bands.some, h.bands.fewer))
 
-    pub odds-last : Ready f s (length d / width f - 1)
-    odds-last = midway-ready d h.new h.up_to (omega (arith, h.bands.some))
+    pub odds-last : {p : ℕ} → p ≡ length d / width f - 1 → Plain f s p
+    odds-last e = midway-plain d h.new (omega (arith, h.up_to)) (omega (arith, h.bands.some))
 
-    pub odds-all : {u v : Float} {t : List ℕ} → length d / width f - 1 ≤ i → u ≡ float_at f a (length d / width f - 1) → v ≡ float_at f a (length a / width f - 1)
-        → t ≡ put_float f s (length d / width f - 1) (lift f c u v (float_at f s (length d / width f - 1))) → t ≡ encode_floats f (odds (lift f c) nan (decode_floats f a) (decode_floats f d))
+    pub odds-all : {p q : ℕ} {u v : Float} {t : List ℕ} → p ≡ length d / width f - 1 → q ≡ length a / width f - 1 → p ≤ i → u ≡ float_at f a p → v ≡ float_at f a q
+        → t ≡ put_float f s p (lift f c u v (float_at f s p)) → t ≡ encode_floats f (odds (lift f c) nan (decode_floats f a) (decode_floats f d))
     unfolding odds
-    odds-all l eu ev put =
+    odds-all ep eq l eu ev put =
         let b = h.bands in
         rw (length-decode_floats f d) (midway-all (odds-turn (omega (arith, h.up_to)) (omega (arith, b.some)) (omega (arith, b.some, b.fewer, b.near)) eu ev put) (omega arith))
 
@@ -86,8 +81,8 @@ pub record EvensTo (f : Format) (c : Float) (a d : List ℕ) (i : ℕ) (l : Floa
   pub left : l ≡ float_at f d (i - 1)
   pub new : Midway f (length a / width f) i (evens_of f c a d) (floats_of f a) s
 
-pub evens-first : {f : Format} {a d : List ℕ} → StoredBands f a d → Ready f d 0
-evens-first b = stored-ready b.details b.some
+pub evens-first : {f : Format} {a d : List ℕ} → StoredBands f a d → Plain f d 0
+evens-first b = stored-plain b.details b.some
 
 module _ {f : Format} {c : Float} {a d : List ℕ} where
   pub evens-none : {l : Float} → StoredBands f a d → l ≡ float_at f d 0 → EvensTo f c a d 0 l a
@@ -105,11 +100,11 @@ module _ {f : Format} {c : Float} {a d : List ℕ} where
         midway-put m hp (rw (el, er, midway-later a m p hp (omega arith), length-decode_floats f d, ← eq, at-decode_floats f d (p - 1) (omega arith), at-decode_floats f d q (omega arith))) put
 
     module _ (k : i < length d / width f) where
-      pub evens-right : Ready f d i
-      evens-right = stored-ready h.bands.details k
+      pub evens-right : Plain f d i
+      evens-right = stored-plain h.bands.details k
 
-      pub evens-here : Ready f s i
-      evens-here = midway-ready a h.new (omega arith) (omega (arith, h.bands.fewer))
+      pub evens-here : Plain f s i
+      evens-here = midway-plain a h.new (omega arith) (omega (arith, h.bands.fewer))
 
       pub evens-next : {r : Float} {t : List ℕ} → r ≡ float_at f d i → t ≡ put_float f s i (lift f c l r (float_at f s i)) → EvensTo f c a d (i + 1) r t
       evens-next er put =
@@ -124,16 +119,15 @@ module _ {f : Format} {c : Float} {a d : List ℕ} where
     pub evens-all : length d / width f ≤ i → length a / width f ≤ length d / width f → s ≡ encode_floats f (evens (lift f c) nan (decode_floats f a) (decode_floats f d))
     evens-all k same = evens-made h.new (omega arith)
 
-    module _ (more : length d / width f < length a / width f) where
-      pub evens-last : Ready f s (length d / width f)
-      evens-last = midway-ready a h.new h.up_to more
+    module _ {p : ℕ} (e : p ≡ length d / width f) (more : p < length a / width f) where
+      pub evens-last : Plain f s p
+      evens-last = midway-plain a h.new (omega (arith, h.up_to)) more
 
-      pub evens-all-last : {t : List ℕ} → length d / width f ≤ i → t ≡ put_float f s (length d / width f) (lift f c l l (float_at f s (length d / width f)))
-          → t ≡ encode_floats f (evens (lift f c) nan (decode_floats f a) (decode_floats f d))
+      pub evens-all-last : {t : List ℕ} → p ≤ i → t ≡ put_float f s p (lift f c l l (float_at f s p)) → t ≡ encode_floats f (evens (lift f c) nan (decode_floats f a) (decode_floats f d))
       evens-all-last k put =
-          let e : i ≡ length d / width f = omega (arith, h.up_to) in
-          let el : l ≡ float_at f d (length d / width f - 1) = rw e at h.left in
-          evens-made (evens-turn e more (omega (arith, h.bands.some)) el put) (omega (arith, h.bands.near))
+          let ei : i ≡ p = omega (arith, h.up_to) in
+          let el : l ≡ float_at f d (p - 1) = rw ei at h.left in
+          evens-made (evens-turn ei more (omega (arith, h.bands.some)) el put) (omega (arith, h.bands.near))
 
 -- ---- times c: the first i of the floats s₀ are new
 
@@ -145,8 +139,8 @@ module _ {f : Format} {c : Float} {s₀ : List ℕ} where
   scaled-none h = record { new = midway-none _ h }
 
   module _ {i : ℕ} {s : List ℕ} (h : ScaledTo f c s₀ i s) where
-    pub scaled-here : i < length s₀ / width f → Ready f s i
-    scaled-here l = midway-ready s₀ h.new (omega arith) l
+    pub scaled-here : i < length s₀ / width f → Plain f s i
+    scaled-here l = midway-plain s₀ h.new (omega arith) l
 
     pub scaled-next : {t : List ℕ} → i < length s₀ / width f → t ≡ put_float f s i (mul f (float_at f s i) c) → ScaledTo f c s₀ (i + 1) t
     scaled-next l put = record { new = midway-put h.new l (rw (midway-later s₀ h.new i l (omega arith))) put }
@@ -154,3 +148,6 @@ module _ {f : Format} {c : Float} {s₀ : List ℕ} where
     pub scaled-all : length s₀ / width f ≤ i → s ≡ encode_floats f (scaled f c (decode_floats f s₀))
     unfolding scaled
     scaled-all l = rw (length-decode_floats f s₀) (midway-all h.new l)
+
+-- what the loop of a scaling cites
+pub ruleset scaled_turns = (scaled-none, scaled-here, scaled-next, scaled-all)

@@ -9,14 +9,14 @@ use lib.Dec.{eqb}
 use lib.Ieee.{Float, nan, Format, mul}
 use lib.ListN.{length, get_or}
 use Rattle.base_samples.specs.Halves.{even_of, odd_of}
-use Rattle.base_samples.specs.Floats.{width, float_at, put_float, decode_floats, encode_floats}
+use Rattle.base_samples.specs.Floats.{width, float_at, put_float, decode_floats, encode_floats, Plain}
 use Rattle.base_samples.proofs.Words.{length-tabulate, get_or-tabulate}
 use Rattle.base_samples.proofs.Halves.{length-even, length-odd, at-even, at-odd, joined_is}
 use Rattle.base_samples.proofs.FloatLaws.{length-decode_floats, at-decode_floats}
 use Rattle.filter_floats.specs.Steps.{lift, odd_at, even_at, odds, evens, scaled, oddly, evenly, scaling}
 use Rattle.filter_floats.specs.Loops.{Stored}
 use Rattle.filter_floats.specs.Lanes.{left_of, right_of, lane_at, lane, scaled_lanes, run_on, Lanes}
-use Rattle.filter_floats.proofs.Midway.{Midway, floats_of, midway-none, midway-put, midway-skip, midway-later, midway-kept, kept-plain, midway-all, Ready, midway-ready, stored-ready}
+use Rattle.filter_floats.proofs.Midway.{Midway, floats_of, midway-none, midway-put, midway-skip, midway-later, midway-kept, kept-plain, midway-all, midway-plain, stored-plain}
 
 module _ (f : Format) (x : List Float) where
   halves : length (even_of nan x) + length (odd_of nan x) ≡ length x
@@ -85,15 +85,15 @@ pub record LaneTo (f : Format) (c : Float) (p : ℕ) (x : List ℕ) (j : ℕ) (l
   pub new : Midway f (length x / width f) j (lane_of f x c p) (floats_of f x) s
 
 -- the loop starts at place 0 or 1, and the float before it is at the other of the two
-pub lane_first : {f : Format} {p : ℕ} {x : List ℕ} → Lanes f x × (p < 2) → Ready f x (1 - p)
-lane_first l = stored-ready l.0.stored (omega (arith, l.0.long))
+pub lane_first : {f : Format} {p : ℕ} {x : List ℕ} → Lanes f x × (p < 2) → Plain f x (1 - p)
+lane_first l = stored-plain l.0.stored (omega (arith, l.0.long))
 
 module _ {f : Format} {c : Float} {p : ℕ} {x : List ℕ} where
-  pub lane-none : {l : Float} → Lanes f x × (p < 2) → l ≡ float_at f x (1 - p) → LaneTo f c p x p l x
-  lane-none h e =
+  pub lane-none : {j : ℕ} {l : Float} → j ≡ p → Lanes f x × (p < 2) → l ≡ float_at f x (1 - p) → LaneTo f c p x j l x
+  lane-none ej h e =
       let long = h.0.long in
       let left : left_of p ≡ 1 - p = omega (arith, h.1) in
-      record {
+      rw ej record {
         lanes = h.0;
         up_to = omega (arith, h.1);
         parity = omega (arith, h.1);
@@ -117,18 +117,18 @@ module _ {f : Format} {c : Float} {p : ℕ} {x : List ℕ} where
       other : lane_of f x c p (j + 1) ≡ floats_of f x (j + 1)
       other = let parity = m.parity in lane-other f x c p (j + 1) (λ q. omega arith)
 
-      pub lane-right : Ready f s (j + 1)
-      lane-right = (rw m.new.holds.count h, kept-plain x m.new (j + 1) h other)
+      pub lane-right : Plain f s (j + 1)
+      lane-right = kept-plain x m.new (j + 1) h other
 
-      pub lane_here : Ready f s j
-      lane_here = midway-ready x m.new (omega arith) (omega arith)
+      pub lane_here : Plain f s j
+      lane_here = midway-plain x m.new (omega arith) (omega arith)
 
-      pub lane-next : {r : Float} {t : List ℕ} → r ≡ float_at f s (j + 1) → t ≡ put_float f s j (lift f c l r (float_at f s j)) → LaneTo f c p x (j + 2) r t
-      lane-next er put =
+      pub lane-next : {k : ℕ} {r : Float} {t : List ℕ} → k ≡ j + 2 → r ≡ float_at f s (j + 1) → t ≡ put_float f s j (lift f c l r (float_at f s j)) → LaneTo f c p x k r t
+      lane-next ek er put =
           let r' = er ∙ midway-kept x m.new (j + 1) h other in
           let left : left_of (j + 2) ≡ j + 1 = omega arith in
           let right : right_of (length x / width f) j ≡ j + 1 = omega arith in
-          record { lanes = m.lanes; up_to = omega arith; parity = omega (arith, m.parity); left = rw left r'; new = lane-turn (omega arith) (rw right r') put }
+          rw ek record { lanes = m.lanes; up_to = omega arith; parity = omega (arith, m.parity); left = rw left r'; new = lane-turn (omega arith) (rw right r') put }
 
     lane_made : {k : ℕ} {t : List ℕ} → Midway f (length x / width f) k (lane_of f x c p) (floats_of f x) t → length x / width f ≤ k → t ≡ encode_floats f (lane f c p (decode_floats f x))
     unfolding lane
@@ -138,15 +138,16 @@ module _ {f : Format} {c : Float} {p : ℕ} {x : List ℕ} where
     lane-all h = lane_made m.new h
 
     -- the last place: the float after it is the one before it
-    module _ (h : j < length x / width f) where
-      pub lane-last : Ready f s j
-      lane-last = midway-ready x m.new (omega arith) h
+    module _ {k : ℕ} (e : j ≡ k) (h : k < length x / width f) where
+      pub lane-last : Plain f s k
+      lane-last = midway-plain x m.new (omega arith) h
 
-      pub lane-all-last : {t : List ℕ} → length x / width f ≤ j + 1 → t ≡ put_float f s j (lift f c l l (float_at f s j)) → t ≡ encode_floats f (lane f c p (decode_floats f x))
+      pub lane-all-last : {t : List ℕ} → length x / width f ≤ k + 1 → t ≡ put_float f s k (lift f c l l (float_at f s k)) → t ≡ encode_floats f (lane f c p (decode_floats f x))
       lane-all-last last put =
           let long = m.lanes.long in
           let same : right_of (length x / width f) j ≡ left_of j = omega arith in
-          lane_made (lane-turn h (rw same m.left) put) (omega arith)
+          let put' = rw (← e) at put in
+          lane_made (lane-turn (omega arith) (rw same m.left) put') (omega arith)
 
 -- ---- a scaling: i floats of even places and i of odd ones are new
 
@@ -168,15 +169,15 @@ module _ {f : Format} {p q : Float} {x : List ℕ} where
     lanes-made q h = rw (length-decode_floats f x) (midway-all q h)
 
     module _ (h : i < length x / width f / 2) where
-      pub lanes-even : Ready f s (2 * i)
-      lanes-even = midway-ready x m.new (omega arith) (omega arith)
+      pub lanes-even : Plain f s (2 * i)
+      lanes-even = midway-plain x m.new (omega arith) (omega arith)
 
       module _ {t : List ℕ} (even : t ≡ put_float f s (2 * i) (mul f (float_at f s (2 * i)) p)) where
         half : Midway f (length x / width f) (2 * i + 1) (lanes_of f x p q) (floats_of f x) t
         half = lanes-turn m.new (omega arith) (rw (eq-eqb (2 * i % 2) 0 (omega arith))) even
 
-        pub lanes-odd : Ready f t (2 * i + 1)
-        lanes-odd = midway-ready x half (omega arith) (omega arith)
+        pub lanes-odd : Plain f t (2 * i + 1)
+        lanes-odd = midway-plain x half (omega arith) (omega arith)
 
         pub lanes_next : {r : List ℕ} → r ≡ put_float f t (2 * i + 1) (mul f (float_at f t (2 * i + 1)) q) → LanesTo f p q x (i + 1) r
         lanes_next odd =
@@ -187,13 +188,11 @@ module _ {f : Format} {p q : Float} {x : List ℕ} where
     lanes_all h even = lanes-made m.new (omega arith)
 
     -- an odd number of floats ends in one of an even place
-    module _ (odd : length x / width f % 2 ≡ 1) where
-      pub lanes-last : Ready f s (2 * (length x / width f / 2))
-      lanes-last = midway-ready x m.new (omega (arith, m.up_to)) (omega arith)
+    module _ {k : ℕ} (odd : length x / width f ≡ suc k) (even : k % 2 ≡ 0) where
+      pub lanes-last : Plain f s k
+      lanes-last = midway-plain x m.new (omega (arith, m.up_to)) (omega arith)
 
-      pub lanes-all-odd : {t : List ℕ} → length x / width f / 2 ≤ i
-          → t ≡ put_float f s (2 * (length x / width f / 2)) (mul f (float_at f s (2 * (length x / width f / 2))) p) → t ≡ encode_floats f (scaled_lanes f p q (decode_floats f x))
+      pub lanes-all-odd : {t : List ℕ} → k ≤ 2 * i → t ≡ put_float f s k (mul f (float_at f s k) p) → t ≡ encode_floats f (scaled_lanes f p q (decode_floats f x))
       lanes-all-odd h put =
-          let n = length x / width f in
-          let e : i ≡ n / 2 = omega (arith, m.up_to) in
-          lanes-made (lanes-turn (rw e at m.new) (omega arith) (rw (eq-eqb (2 * (n / 2) % 2) 0 (omega arith))) put) (omega arith)
+          let e : 2 * i ≡ k = omega (arith, m.up_to) in
+          lanes-made (lanes-turn (rw e at m.new) (omega arith) (rw (eq-eqb (k % 2) 0 even)) put) (omega arith)

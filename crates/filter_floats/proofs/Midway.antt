@@ -3,7 +3,7 @@ use mathlib.Core.Bool.{cond}
 use mathlib.Core.List.{List}
 use mathlib.Core.Logic.{⊎_elim}
 use mathlib.Core.Path.{◌≡◌, sym, ap, ◌∙◌}
-use Prim.Native.Nat.{ℕ, ◌+◌, ◌/◌, ◌≤◌, ◌<◌}
+use Prim.Native.Nat.{ℕ, ◌+◌, ◌≤◌, ◌<◌}
 use native.Mathlib.Omega.{arith}
 use borrow.Author.Tests.{lt-ltb, le-ltb}
 use lib.Dec.{T, ltb}
@@ -106,7 +106,7 @@ module _ {f : Format} {n j : ℕ} {new : ℕ → Float} {s : List ℕ} (t : List
     pub midway-later : float_at f s i ≡ floats_of f t i
     midway-later = same (mix-old new (floats_of f t) j i k)
 
-    pub later-plain : Plain f s i
+    later-plain : Plain f s i
     later-plain = plain (mix-old new (floats_of f t) j i k)
 
   module _ (e : new i ≡ floats_of f t i) where
@@ -119,13 +119,9 @@ module _ {f : Format} {n j : ℕ} {new : ℕ → Float} {s : List ℕ} (t : List
     pub kept-plain : Plain f s i
     kept-plain = plain stays
 
--- what reading or writing float i of s asks: of a float that is not passed yet, and of any float of a band
-abbrev pub Ready : Format → List ℕ → ℕ → Type 0
-Ready f s i = (i < length s / width f) × Plain f s i
-
 module _ {f : Format} {n : ℕ} {s : List ℕ} where
-  pub midway-ready : {j i : ℕ} {new : ℕ → Float} (t : List ℕ) → Midway f n j new (floats_of f t) s → j ≤ i → i < n → Ready f s i
-  midway-ready {i = i} t m k l = (rw m.holds.count l, later-plain t m i l k)
+  pub midway-plain : {j i : ℕ} {new : ℕ → Float} (t : List ℕ) → Midway f n j new (floats_of f t) s → j ≤ i → i < n → Plain f s i
+  midway-plain {i = i} t m k l = later-plain t m i l k
 
-  pub stored-ready : {i : ℕ} → Stored f n s → i < n → Ready f s i
-  stored-ready h l = midway-ready s (midway-none (floats_of f s) h) (omega arith) l
+  pub stored-plain : {i : ℕ} → Stored f n s → i < n → Plain f s i
+  stored-plain h l = midway-plain s (midway-none (floats_of f s) h) (omega arith) l

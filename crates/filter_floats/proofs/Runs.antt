@@ -1,16 +1,15 @@
 -- Schedules on two bands, once over the format: lengths stay, one step more, and what a whole schedule leaves.
 use mathlib.Core.List.{List, [], ◌∷◌, ◌++◌, map}
-use mathlib.Core.Path.{◌≡◌, refl, sym, ◌∙◌}
-use Prim.Native.Nat.{ℕ, ◌+◌, ◌/◌, ◌≤◌, ◌<◌}
+use mathlib.Core.Path.{◌≡◌, refl, sym, ap, ◌∙◌}
+use Prim.Native.Nat.{ℕ, ◌+◌, ◌/◌, ◌<◌}
 use native.Mathlib.Numerals.{add-one}
-use native.Mathlib.Omega.{arith}
-use lib.Ieee.{Float, nan, Format}
+use lib.Ieee.{Float, Format}
 use lib.ListN.{length, get_or, take, length-map, get_or-map}
-use lib.Seq.{take-suc, take_all}
-use Rattle.base_samples.specs.Floats.{width, decode_floats, encode_floats}
+use lib.Seq.{take-suc}
+use Rattle.base_samples.specs.Floats.{width, decode_floats}
 use Rattle.base_samples.proofs.Words.{length-tabulate}
 use Rattle.base_samples.proofs.FloatLaws.{length-decode_floats}
-use Rattle.filter_floats.specs.Steps.{lift, odds, evens, scaled, Step, oddly, evenly, scaling, step_a, step_d, run_a, run_d}
+use Rattle.filter_floats.specs.Steps.{odds, evens, scaled, Step, oddly, evenly, scaling, step_a, step_d, run_a, run_d}
 use Rattle.filter_floats.specs.Loops.{Stored, StoredBands, Ran}
 use Rattle.filter_floats.proofs.Fits.{stored-encode, fit-decode, fit-run_a, fit-run_d}
 
@@ -44,19 +43,9 @@ module _ (f : Format) where
   run_d-append [] ts a d = refl
   run_d-append (s ∷ ss) ts a d = run_d-append ss ts (step_a f s a d) (step_d f s a d)
 
-pub ran-scaled : {f : Format} {p q : Float} {a d a' d' : List ℕ} → a' ≡ encode_floats f (scaled f p (decode_floats f a)) → d' ≡ encode_floats f (scaled f q (decode_floats f d)) → Ran f (scaling p q ∷ []) a d a' d'
-ran-scaled ea ed = record { approx = ea; details = ed }
-
 module _ {f : Format} {a d : List ℕ} (b : StoredBands f a d) where
   ran-none : Ran f [] a d a d
   ran-none = record { approx = sym b.approx.plain; details = sym b.details.plain }
-
-  -- one step, which may leave a band as it is
-  pub ran-odds : {c : Float} {d' : List ℕ} → d' ≡ encode_floats f (odds (lift f c) nan (decode_floats f a) (decode_floats f d)) → Ran f (oddly c ∷ []) a d a d'
-  ran-odds e = record { approx = sym b.approx.plain; details = e }
-
-  pub ran-evens : {c : Float} {a' : List ℕ} → a' ≡ encode_floats f (evens (lift f c) nan (decode_floats f a) (decode_floats f d)) → Ran f (evenly c ∷ []) a d a' d
-  ran-evens e = record { approx = e; details = sym b.details.plain }
 
   module _ {ss : List Step} {a' d' : List ℕ} (r : Ran f ss a d a' d') where
     -- a schedule leaves as many floats
@@ -72,12 +61,6 @@ module _ {f : Format} {a d : List ℕ} (b : StoredBands f a d) where
         let nd = stored_d.holds.count in
         record { approx = rw na stored_a; details = rw nd stored_d; some = rw nd b.some; fewer = rw (na, nd) b.fewer; near = rw (na, nd) b.near }
 
-    ran-length_a : length a' ≡ length a
-    ran-length_a = stored_a.holds.size ∙ sym b.approx.holds.size
-
-    ran-length_d : length d' ≡ length d
-    ran-length_d = stored_d.holds.size ∙ sym b.details.holds.size
-
 -- the steps ss, and then the steps ts
 ran_then : {f : Format} (ss ts : List Step) {a d a₁ d₁ a₂ d₂ : List ℕ} → Ran f ss a d a₁ d₁ → Ran f ts a₁ d₁ a₂ d₂ → Ran f (ss ++ ts) a d a₂ d₂
 ran_then {f} ss ts {a} {d} {a₁} {d₁} r q =
@@ -90,37 +73,22 @@ ran_then {f} ss ts {a} {d} {a₁} {d₁} r q =
       details = q.details ∙ rw (ea, ed, run_d-append f ss ts x y);
     }
 
--- the front of a schedule in an array, with one step more
-pub front-step {ℓ} : {S : Type ℓ} (kind : S → Step) (s : List S) (z : S) (i : ℕ) → i < length s → take (i + 1) (map kind s) ≡ take i (map kind s) ++ (kind (get_or s i z) ∷ [])
-front-step kind s z i h = rw add-one (take-suc (map kind s) i (kind z) (rw (length-map s kind) h) ∙ rw (get_or-map kind s i z))
+-- the front of a schedule, with one step more
+pub front-step {ℓ} : {S : Type ℓ} (kind : S → Step) (s : List S) (z : S) (i : ℕ) → z ≡ get_or s i z → i < length s → take (i + 1) (map kind s) ≡ take i (map kind s) ++ (kind z ∷ [])
+front-step kind s z i e h = rw add-one (take-suc (map kind s) i (kind z) (rw (length-map s kind) h) ∙ ap (λ w. take i (map kind s) ++ (w ∷ [])) (get_or-map kind s i z ∙ ap kind (sym e)))
 
--- the loop over a schedule of k steps: the bands are what the first i of them leave
-pub record RanTo (f : Format) {S : Type 0} (kind : S → Step) (s : List S) (k : ℕ) (a d : List ℕ) (i : ℕ) (a₁ d₁ : List ℕ) : Type 0 where
+-- the loop over a schedule: the bands are what its first i steps leave
+pub record RanTo (f : Format) {S : Type 0} (kind : S → Step) (s : List S) (a d : List ℕ) (i : ℕ) (a₁ d₁ : List ℕ) : Type 0 where
   pub bands : StoredBands f a d
-  pub count : length s ≡ k
   pub ran : Ran f (take i (map kind s)) a d a₁ d₁
 
-module _ {f : Format} {S : Type 0} {kind : S → Step} {s : List S} {k : ℕ} {a d : List ℕ} where
-  pub ran_to-none : StoredBands f a d → length s ≡ k → RanTo f kind s k a d 0 a d
-  ran_to-none b n = record { bands = b; count = n; ran = ran-none b }
+module _ {f : Format} {S : Type 0} {kind : S → Step} {s : List S} {a d : List ℕ} where
+  pub ran_to-none : StoredBands f a d → RanTo f kind s a d 0 a d
+  ran_to-none b = record { bands = b; ran = ran-none b }
 
-  module _ {i : ℕ} {a₁ d₁ : List ℕ} (r : RanTo f kind s k a d i a₁ d₁) where
+  module _ {i : ℕ} {a₁ d₁ : List ℕ} (r : RanTo f kind s a d i a₁ d₁) where
     pub ran_to-bands : StoredBands f a₁ d₁
     ran_to-bands = ran-bands r.bands r.ran
 
-    pub ran_to-length_a : length a₁ ≡ length a
-    ran_to-length_a = ran-length_a r.bands r.ran
-
-    pub ran_to-length_d : length d₁ ≡ length d
-    ran_to-length_d = ran-length_d r.bands r.ran
-
-    pub ran_to-more : (z : S) {a₂ d₂ : List ℕ} → i < k → Ran f (kind (get_or s i z) ∷ []) a₁ d₁ a₂ d₂ → RanTo f kind s k a d (i + 1) a₂ d₂
-    ran_to-more z h q =
-        record {
-          bands = r.bands;
-          count = r.count;
-          ran = rw (front-step kind s z i (omega (arith, r.count))) (ran_then (take i (map kind s)) (kind (get_or s i z) ∷ []) r.ran q);
-        }
-
-    pub ran_to-all : k ≤ i → Ran f (map kind s) a d a₁ d₁
-    ran_to-all h = rw (take_all i (map kind s) (rw (length-map s kind) (omega (arith, r.count)))) at r.ran
+    pub ran_to-more : {z : S} {a₂ d₂ : List ℕ} → z ≡ get_or s i z → i < length s → Ran f (kind z ∷ []) a₁ d₁ a₂ d₂ → RanTo f kind s a d (i + 1) a₂ d₂
+    ran_to-more {z} e h q = record { bands = r.bands; ran = rw (front-step kind s z i e h) (ran_then (take i (map kind s)) (kind z ∷ []) r.ran q) }

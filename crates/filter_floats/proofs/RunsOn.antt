@@ -4,8 +4,7 @@ use mathlib.Core.Path.{◌≡◌, sym, ap, ◌∙◌}
 use Prim.Native.Nat.{ℕ, ◌+◌, ◌/◌, ◌≤◌, ◌<◌}
 use native.Mathlib.Omega.{arith}
 use lib.Ieee.{Float, nan, Format}
-use lib.ListN.{length, get_or, take, length-map}
-use lib.Seq.{take_all}
+use lib.ListN.{length, get_or, take}
 use Rattle.base_samples.specs.Halves.{even_of, odd_of}
 use Rattle.base_samples.specs.Floats.{width, decode_floats, encode_floats}
 use Rattle.base_samples.proofs.Halves.{length-even, length-odd, length-joined, joined-halves, even-joined, odd-joined}
@@ -62,9 +61,6 @@ module _ {f : Format} {x : List ℕ} (l : Lanes f x) where
     stored_on : Stored f (length x / width f) x'
     stored_on = stored-encode f _ (run_on f ss (decode_floats f x)) x' r.output (length-run_on f ss _ ∙ length-decode_floats f x) (fit-run_on f ss x)
 
-    ran_on-length : length x' ≡ length x
-    ran_on-length = stored_on.holds.size ∙ sym l.stored.holds.size
-
     ran_on-lanes : Lanes f x'
     ran_on-lanes = let n = stored_on.holds.count in record { stored = rw n stored_on; long = rw n l.long }
 
@@ -74,30 +70,21 @@ ran_on-then {f} ss ts {x} {x₁} r q =
     let e : decode_floats f x₁ ≡ run_on f ss (decode_floats f x) = rw r.output (fit-run_on f ss x) in
     record { output = q.output ∙ rw (e, run_on-append f ss ts (decode_floats f x)) }
 
--- the loop over a schedule of k steps: the list is what the first i of them leave
-pub record RanOnTo (f : Format) {S : Type 0} (kind : S → Step) (s : List S) (k : ℕ) (x : List ℕ) (i : ℕ) (x₁ : List ℕ) : Type 0 where
+-- the loop over a schedule: the list is what its first i steps leave
+pub record RanOnTo (f : Format) {S : Type 0} (kind : S → Step) (s : List S) (x : List ℕ) (i : ℕ) (x₁ : List ℕ) : Type 0 where
   pub lanes : Lanes f x
-  pub count : length s ≡ k
   pub ran : RanOn f (take i (map kind s)) x x₁
 
-module _ {f : Format} {S : Type 0} {kind : S → Step} {s : List S} {k : ℕ} {x : List ℕ} where
-  pub ran_on_to-none : Lanes f x → length s ≡ k → RanOnTo f kind s k x 0 x
-  ran_on_to-none l n = record { lanes = l; count = n; ran = ran_on-none l }
+module _ {f : Format} {S : Type 0} {kind : S → Step} {s : List S} {x : List ℕ} where
+  pub ran_on_to-none : Lanes f x → RanOnTo f kind s x 0 x
+  ran_on_to-none l = record { lanes = l; ran = ran_on-none l }
 
-  module _ {i : ℕ} {x₁ : List ℕ} (r : RanOnTo f kind s k x i x₁) where
+  module _ {i : ℕ} {x₁ : List ℕ} (r : RanOnTo f kind s x i x₁) where
     pub ran_on_to-lanes : Lanes f x₁
     ran_on_to-lanes = ran_on-lanes r.lanes r.ran
 
-    pub ran_on_to-length : length x₁ ≡ length x
-    ran_on_to-length = ran_on-length r.lanes r.ran
+    pub ran_on_to-more : {z : S} {x₂ : List ℕ} → z ≡ get_or s i z → i < length s → RanOn f (kind z ∷ []) x₁ x₂ → RanOnTo f kind s x (i + 1) x₂
+    ran_on_to-more {z} e h q = record { lanes = r.lanes; ran = rw (front-step kind s z i e h) (ran_on-then (take i (map kind s)) (kind z ∷ []) r.ran q) }
 
-    pub ran_on_to-more : (z : S) {x₂ : List ℕ} → i < k → RanOn f (kind (get_or s i z) ∷ []) x₁ x₂ → RanOnTo f kind s k x (i + 1) x₂
-    ran_on_to-more z h q =
-        record {
-          lanes = r.lanes;
-          count = r.count;
-          ran = rw (front-step kind s z i (omega (arith, r.count))) (ran_on-then (take i (map kind s)) (kind (get_or s i z) ∷ []) r.ran q);
-        }
-
-    pub ran_on_to-all : k ≤ i → RanOn f (map kind s) x x₁
-    ran_on_to-all h = rw (take_all i (map kind s) (rw (length-map s kind) (omega (arith, r.count)))) at r.ran
+-- what the three steps cite
+pub ruleset ran_on_steps = (ran_on-odds, ran_on-evens, ran_on-scaled)

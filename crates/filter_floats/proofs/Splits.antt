@@ -77,9 +77,8 @@ module _ {f : Format} {x : List ℕ} where
     halved-done l even = (evens-done f x h.evens (omega arith), odds-done f x h.odds (omega arith))
 
     -- the last of an odd number of samples is an even one
-    pub halved-done-odd : {a' : List ℕ} → length x / width f / 2 ≤ i → length x / width f % 2 ≡ 1
-        → a' ≡ put_float f a (length x / width f / 2) (float_at f x (2 * (length x / width f / 2))) → Split f x a' d
-    halved-done-odd l odd ea = (evens-done f x (evens-more f x h.evens (omega arith) (omega arith) ea) (omega arith), odds-done f x h.odds (omega arith))
+    pub halved-done-odd : {k : ℕ} {a' : List ℕ} → k ≡ length x / width f / 2 → k ≤ i → length x / width f % 2 ≡ 1 → a' ≡ put_float f a k (float_at f x (2 * k)) → Split f x a' d
+    halved-done-odd e l odd ea = (evens-done f x (evens-more f x h.evens (omega arith) (omega arith) ea) (omega arith), odds-done f x h.odds (omega arith))
 
 module _ (f : Format) (a d : List ℕ) where
   -- float j of a and d, one of each in turn
@@ -126,9 +125,9 @@ module _ {f : Format} {a d x : List ℕ} where
     paired-done l even = joined_at h.pairs (omega (arith, h.up_to))
 
     -- the last of an odd number of samples is an approximation
-    pub paired-done-odd : {t : List ℕ} → length x / width f / 2 ≤ i → length x / width f % 2 ≡ 1
-        → t ≡ put_float f s (2 * (length x / width f / 2)) (float_at f a (length x / width f / 2)) → t ≡ encode_floats f (joined nan (decode_floats f a) (decode_floats f d))
-    paired-done-odd l odd et =
+    pub paired-done-odd : {k : ℕ} {t : List ℕ} → k ≡ length x / width f / 2 → k ≤ i → length x / width f % 2 ≡ 1
+        → t ≡ put_float f s (2 * k) (float_at f a k) → t ≡ encode_floats f (joined nan (decode_floats f a) (decode_floats f d))
+    paired-done-odd {k} e l odd et =
         let n = length x / width f in
         let na = h.lent.approx.count in
-        joined_at (floats-more f n (join_at f a d) h.pairs (omega arith) (omega arith) (join-even f a d (n / 2) (omega arith)) et) (omega arith)
+        joined_at (floats-more f n (join_at f a d) h.pairs (omega arith) (omega arith) (join-even f a d k (omega arith)) et) (omega arith)

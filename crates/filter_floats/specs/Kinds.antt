@@ -1,25 +1,16 @@
--- The steps and the sets of factors as the code holds them, f32 and f64, and which of document 01's they are.
-use Rattle.filter_floats.specs.declared.single.Step32.{Step32}
-use Rattle.filter_floats.specs.declared.single.Step32.TheVariants as s32
-use Rattle.filter_floats.specs.declared.double.Step64.{Step64}
-use Rattle.filter_floats.specs.declared.double.Step64.TheVariants as s64
-use Rattle.filter_floats.specs.declared.single.Factors32.{Factors32}
-use Rattle.filter_floats.specs.declared.double.Factors64.{Factors64}
+-- The steps and the set of factors as the code holds them, over the kind of float, and which of document 01's they are.
+use Rattle.std.specs.Prelude.{Float}
+use Rattle.filter_floats.specs.declared.steps.Step as code
+use Rattle.filter_floats.specs.declared.steps.Step.TheVariants.{Odds, Evens, Scale}
+use Rattle.filter_floats.specs.declared.steps.Factors.{Factors}
 use Rattle.filter_floats.specs.Steps.{Step, oddly, evenly, scaling}
 use Rattle.filter_floats.specs.Filters.{Set}
 
-abbrev pub kind32 : Step32 → Step
-kind32 (s32.Odds c) = oddly c
-kind32 (s32.Evens c) = evenly c
-kind32 (s32.Scale p q) = scaling p q
+-- v is what a float of the code stands for
+abbrev pub kind_of : {A : Type 0} → (A → Float) → code.Step A → Step
+kind_of v (Odds c) = oddly (v c)
+kind_of v (Evens c) = evenly (v c)
+kind_of v (Scale p q) = scaling (v p) (v q)
 
-abbrev pub kind64 : Step64 → Step
-kind64 (s64.Odds c) = oddly c
-kind64 (s64.Evens c) = evenly c
-kind64 (s64.Scale p q) = scaling p q
-
-abbrev pub set32 : Factors32 → Set
-set32 t = record { alpha = t.alpha; beta = t.beta; gamma = t.gamma; delta = t.delta; k = t.k; invk = t.invk }
-
-abbrev pub set64 : Factors64 → Set
-set64 t = record { alpha = t.alpha; beta = t.beta; gamma = t.gamma; delta = t.delta; k = t.k; invk = t.invk }
+abbrev pub set_of : {A : Type 0} → (A → Float) → Factors A → Set
+set_of v t = record { alpha = v t.alpha; beta = v t.beta; gamma = v t.gamma; delta = v t.delta; k = v t.k; invk = v t.invk }

@@ -3,9 +3,10 @@ use mathlib.Core.List.{List}
 use mathlib.Core.Path.{◌≡◌, refl, ◌∙◌}
 use Prim.Native.Nat.{ℕ, ◌+◌, ◌-◌, ◌*◌, ◌/◌, ◌≤◌, ◌<◌, min}
 use native.Mathlib.Omega.{arith}
-use lib.Ieee.{Float, nan, Format, binary32, binary64, add, mul}
+use lib.Ieee.{Float, nan, Format, binary32, binary64}
 use lib.ListN.{length, get_or}
 use Rattle.base_samples.specs.Floats.{width, float_at}
+use Rattle.filter_floats.specs.Steps.{lift}
 use Rattle.filter_small.specs.Small.{Small, Factor, SmallFrom}
 use Rattle.filter_small.specs.Lists.{even_in, odd_in, odds_to, evens_to}
 use Rattle.filter_small.proofs.Sizes as sizes
@@ -24,7 +25,7 @@ module _ (f : Format) (x : List ℕ) (long : 3 ≤ length x / width f) where
 
     -- as the code makes them, of the samples l, m and r of x
     pub odd-made : (i j l m r : ℕ) {y z t : Float} → i < length x / width f / 2 → j ≡ min (i + 1) ((length x / width f + 1) / 2 - 1) → l ≡ 2 * i → m ≡ 2 * i + 1 → r ≡ 2 * j
-        → y ≡ float_at f x l → z ≡ float_at f x r → t ≡ float_at f x m → add f (mul f (add f y z) c) t ≡ get_or (odds_to f c x) i nan
+        → y ≡ float_at f x l → z ≡ float_at f x r → t ≡ float_at f x m → lift f c y z t ≡ get_or (odds_to f c x) i nan
     unfolding odds_to
     odd-made i j l m r h ej el em er ey ez et =
         lifts.odd-made f c (even_in f x) (odd_in f x) i j (rw (length-odd_in f x) h) (rw (length-even_in f x) ej)
@@ -44,7 +45,7 @@ module _ (f : Format) (x : List ℕ) (long : 3 ≤ length x / width f) where
       length-evens_to = lifts.length-evens f g (even_in f x) (odds_to f c x) ∙ length-even_in f x
 
       pub even-made : (i l r k : ℕ) {y z t : Float} → i < (length x / width f + 1) / 2 → l ≡ i - 1 → r ≡ min i (length x / width f / 2 - 1) → k ≡ 2 * i
-          → y ≡ get_or (odds_to f c x) l nan → z ≡ get_or (odds_to f c x) r nan → t ≡ float_at f x k → add f (mul f (add f y z) g) t ≡ get_or (evens_to f c g x) i nan
+          → y ≡ get_or (odds_to f c x) l nan → z ≡ get_or (odds_to f c x) r nan → t ≡ float_at f x k → lift f g y z t ≡ get_or (evens_to f c g x) i nan
       unfolding evens_to
       even-made i l r k h el er ek ey ez et =
           lifts.even-made f g (even_in f x) (odds_to f c x) i l r (rw (length-even_in f x) h) el (rw length-odds_to er) ey ez (et ∙ even-in f x i k ek (omega arith))

@@ -1,13 +1,13 @@
 -- A lifting step on two lists of floats, entry by entry as code makes it, how large it leaves an entry, and how a list is stored. Once over the format.
-use mathlib.Core.Bool.{Bool, true, false, not, cond}
+use mathlib.Core.Bool.{Bool, true, not, cond}
 use mathlib.Core.List.{List}
-use mathlib.Core.Path.{◌≡◌, refl, sym, ap, subst, ◌∙◌}
+use mathlib.Core.Path.{◌≡◌, refl, sym, ap, ◌∙◌}
 use Prim.Native.Nat.{ℕ, ◌+◌, ◌-◌, ◌*◌, ◌/◌, ◌%◌, ◌≤◌, ◌<◌, min}
 use native.Mathlib.Omega.{arith}
 use borrow.Author.Tests.{eq-eqb, ne_eqb}
-use lib.Dec.{T}
-use lib.Ieee.{Float, nan, Format, add, mul, to_bits, is_nan}
+use lib.Ieee.{Float, nan, Format, mul, to_bits, is_nan}
 use lib.ListN.{length, get_or}
+use Rattle.std.specs.Bool.{IsTrue}
 use Rattle.base_samples.specs.Words.{Front}
 use Rattle.base_samples.specs.Halves.{joined}
 use Rattle.base_samples.specs.Floats.{width, float_at, put_float, decode_floats, encode_floats}
@@ -51,33 +51,23 @@ module _ (f : Format) (c : Float) (p q : List Float) where
   unfolding evens
   length-evens = length-tabulate _ _
 
-  odd-at : (i r : ℕ) → i < length q → r ≡ min (i + 1) (length p - 1) → get_or (odds (lift f c) nan p q) i nan ≡ lift f c (get_or p i nan) (get_or p r nan) (get_or q i nan)
-  unfolding odds odd_at
-  odd-at i r h er = rw (get_or-tabulate (length q) (odd_at (lift f c) nan p q) i nan h, ← er)
-
-  even-at : (i l r : ℕ) → i < length p → l ≡ i - 1 → r ≡ min i (length q - 1) → get_or (evens (lift f c) nan p q) i nan ≡ lift f c (get_or q l nan) (get_or q r nan) (get_or p i nan)
-  unfolding evens even_at
-  even-at i l r h el er = rw (get_or-tabulate (length p) (even_at (lift f c) nan p q) i nan h, ← el, ← er)
-
   -- as the code makes them: r is the place of the right neighbour, l of the left one
-  pub odd-made : (i r : ℕ) {y z t : Float} → i < length q → r ≡ min (i + 1) (length p - 1) → y ≡ get_or p i nan → z ≡ get_or p r nan → t ≡ get_or q i nan
-      → add f (mul f (add f y z) c) t ≡ get_or (odds (lift f c) nan p q) i nan
-  unfolding lift
-  odd-made i r h er ey ez et = rw (ey, ez, et) (sym (odd-at i r h er))
+  pub odd-made : (i r : ℕ) {y z t : Float} → i < length q → r ≡ min (i + 1) (length p - 1) → y ≡ get_or p i nan → z ≡ get_or p r nan → t ≡ get_or q i nan → lift f c y z t ≡ get_or (odds (lift f c) nan p q) i nan
+  unfolding odds odd_at
+  odd-made i r h er ey ez et = rw (ey, ez, et, er) (sym (get_or-tabulate (length q) (odd_at (lift f c) nan p q) i nan h))
 
-  pub even-made : (i l r : ℕ) {y z t : Float} → i < length p → l ≡ i - 1 → r ≡ min i (length q - 1) → y ≡ get_or q l nan → z ≡ get_or q r nan → t ≡ get_or p i nan
-      → add f (mul f (add f y z) c) t ≡ get_or (evens (lift f c) nan p q) i nan
-  unfolding lift
-  even-made i l r h el er ey ez et = rw (ey, ez, et) (sym (even-at i l r h el er))
+  pub even-made : (i l r : ℕ) {y z t : Float} → i < length p → l ≡ i - 1 → r ≡ min i (length q - 1) → y ≡ get_or q l nan → z ≡ get_or q r nan → t ≡ get_or p i nan → lift f c y z t ≡ get_or (evens (lift f c) nan p q) i nan
+  unfolding evens even_at
+  even-made i l r h el er ey ez et = rw (ey, ez, et, el, er) (sym (get_or-tabulate (length p) (even_at (lift f c) nan p q) i nan h))
 
   -- small neighbours leave a float of at most 2 ^ 9 times the size
   module _ (j : ℕ) (k : Factor c) (far : j + 9 < ceiling f) where
     pub odd-small : (i r : ℕ) → i < length q → r ≡ min (i + 1) (length p - 1) → Small f j (get_or p i nan) → Small f j (get_or p r nan) → Small f j (get_or q i nan) → Small f (j + 9) (get_or (odds (lift f c) nan p q) i nan)
-    odd-small i r h er sy sz st = rw (odd-at i r h er) (lift-small f c (get_or p i nan) (get_or p r nan) (get_or q i nan) j (j + 9) k sy sz st (omega arith) far)
+    odd-small i r h er sy sz st = rw (← odd-made i r h er refl refl refl) (lift-small f c (get_or p i nan) (get_or p r nan) (get_or q i nan) j (j + 9) k sy sz st (omega arith) far)
 
     pub even-small : (i l r : ℕ) → i < length p → l ≡ i - 1 → r ≡ min i (length q - 1) → Small f j (get_or q l nan) → Small f j (get_or q r nan) → Small f j (get_or p i nan)
         → Small f (j + 9) (get_or (evens (lift f c) nan p q) i nan)
-    even-small i l r h el er sy sz st = rw (even-at i l r h el er) (lift-small f c (get_or q l nan) (get_or q r nan) (get_or p i nan) j (j + 9) k sy sz st (omega arith) far)
+    even-small i l r h el er sy sz st = rw (← even-made i l r h el er refl refl refl) (lift-small f c (get_or q l nan) (get_or q r nan) (get_or p i nan) j (j + 9) k sy sz st (omega arith) far)
 
 -- ---- a scaling
 
@@ -107,8 +97,8 @@ module _ {f : Format} {x : List ℕ} {lo hi : ℕ} (w : SmallFrom f x lo hi) (i 
   odd-in-small a b h = rw (← odd-in f x i (2 * i + 1) refl h) (float_small w (2 * i + 1) a b h)
 
 -- a finite float is no NaN
-pub no-nan-is : (f : Format) (j : ℕ) (z : Float) {e : Float} → Small f j z → e ≡ z → T (not (is_nan e))
-no-nan-is f j z s q = subst (λ (y : Float). T (not (is_nan y))) (sym q) (small-no-nan f j z s)
+pub no-nan-is : (f : Format) (j : ℕ) (z : Float) {e : Float} → Small f j z → e ≡ z → IsTrue (not (is_nan e))
+no-nan-is f j z s q = rw q (small-no-nan f j z s)
 
 -- ---- a list that is stored
 
@@ -119,10 +109,6 @@ stored_more f l h hn q put = front-more h refl hn (ap (to_bits f) q) put
 pub stored-all : (f : Format) (l : List Float) {n i : ℕ} {s : List ℕ} → Front (width f) n i (pattern_of f l) s → i ≡ n → n ≡ length l → s ≡ encode_floats f l
 unfolding pattern_of
 stored-all f l h e en = front-all (length l) h e en ∙ sym (ap (encode_floats f) (sym (tabulate-get_or l nan)) ∙ encode_floats-tabulate f (length l) (λ i. get_or l i nan))
-
--- nothing is asked where a flag is not set
-pub never : {A : Type 0} → false ≡ true → A
-never e = absurd (let z : ◌≡◌ {A = ℕ} 0 1 = cc in omega arith)
 
 -- a float that was wanted is put
 pub put_wanted : {b : Bool} (s : List ℕ) {t r : List ℕ} → b ≡ true → r ≡ cond b t s → r ≡ t

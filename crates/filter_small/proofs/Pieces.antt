@@ -1,51 +1,55 @@
 -- Pieces of lists: an entry more, and what a lifting step makes of two pieces. Once over the format.
-use mathlib.Core.List.{List}
+use mathlib.Core.List.{List, map}
 use mathlib.Core.Logic.{⊎_elim}
-use mathlib.Core.Path.{◌≡◌, refl, subst, ◌∙◌}
+use mathlib.Core.Path.{◌≡◌, sym, ap, subst, ◌∙◌}
 use Prim.Native.Nat.{ℕ, ◌+◌, ◌-◌, ◌≤◌, ◌<◌}
 use native.Mathlib.Omega.{arith}
-use lib.Ieee.{Float, nan, Format, add, mul}
-use lib.ListN.{length, get_or, set, length-set}
-use lib.Seq.{get_or-set_same, get_or-set_other}
+use lib.Ieee.{Float, nan, Format}
+use lib.ListN.{length, get_or, set, length-set, length-map}
+use lib.Seq.{get_or-set_same, get_or-set_other, map-set}
+use Rattle.std.proofs.lemmas.List.{get_or-map}
 use Rattle.base_order.proofs.Order.{lt-or-le}
 use Rattle.filter_floats.specs.Steps.{lift}
-use Rattle.filter_small.specs.Pieces.{Piece, Stepped, Rooms}
+use Rattle.filter_small.specs.Pieces.{Piece, Stepped}
 
 -- ---- a piece
 
-pub piece-none : (l : List Float) (m i : ℕ) (u : List Float) → Piece l m i 0 u
-piece-none l m i u = record { each = λ j k h e. absurd (omega arith) }
-
-pub piece-more : {l : List Float} {m i n : ℕ} {u : List Float} {x : Float} (k : ℕ) → Piece l m i n u → n < length u → k ≡ i + n - m → x ≡ get_or l k nan → Piece l m i (n + 1) (set u n x)
-piece-more {l} {m} {i} {n} {u} {x} k w h ek ex =
+-- an entry more of a list whose entries stand for floats
+pub piece-more : {A : Type 0} {l : List Float} {m i n : ℕ} (v : A → Float) (u : List A) {x : A} (k : ℕ) → Piece l m i n (map v u) → n < length u → k ≡ i + n - m → v x ≡ get_or l k nan → Piece l m i (n + 1) (map v (set u n x))
+piece-more {A} {l} {m} {i} {n} v u {x} k w h ek ex =
     record {
-      each = λ j p hj ep. ⊎_elim
-          (λ (q : j < n). get_or-set_other u n j x nan (λ e. omega arith) ∙ w.each j p q ep)
-          (λ (q : n ≤ j). let e : j ≡ n = omega arith in let ek' : k ≡ p = omega arith in rw (e, ← ek') (get_or-set_same u n x nan h ∙ ex))
-          (lt-or-le j n);
+      each = λ j p hj ep. rw (map-set v u n x) (⊎_elim
+          (λ (q : j < n). get_or-set_other (map v u) n j (v x) nan (λ e. omega arith) ∙ w.each j p q ep)
+          (λ (q : n ≤ j). let e : j ≡ n = omega arith in let ek' : k ≡ p = omega arith in rw (e, ← ek') (get_or-set_same (map v u) n (v x) nan (rw (length-map u v) h) ∙ ex))
+          (lt-or-le j n));
     }
+
+-- the float that an entry stands for
+pub entry : {A : Type 0} (v : A → Float) (l : List A) {i : ℕ} {x : A} → x ≡ get_or l i x → i < length l → v x ≡ get_or (map v l) i nan
+entry v l {i} {x} e h = ap v e ∙ sym (get_or-map v l i x nan h)
 
 -- ---- a step
 
-pub stepped-none : (f : Format) (c : Float) (p q r : List Float) (e : Float) → 0 < length r → Stepped f c p q 0 e (set r 0 e) (set r 0 e)
-stepped-none f c p q r e h = record { same = refl; first = get_or-set_same r 0 e nan h; each = λ j h. absurd (omega arith) }
+-- of a list whose entries stand for floats
+module _ {A : Type 0} (v : A → Float) {f : Format} {c : Float} {p q : List Float} where
+  pub stepped-none : (r : List A) (e : A) → 0 < length r → Stepped f c p q 0 (v e) (map v r) (map v (set r 0 e))
+  stepped-none r e h = record {
+    same = length-map (set r 0 e) v ∙ length-set r 0 e ∙ sym (length-map r v);
+    first = rw (map-set v r 0 e) (get_or-set_same (map v r) 0 (v e) nan (rw (length-map r v) h));
+    each = λ j h. absurd (omega arith);
+  }
 
-pub stepped-more : {f : Format} {c : Float} {p q : List Float} {n : ℕ} {e : Float} {s r : List Float} → Stepped f c p q n e s r → n + 1 < length r
-    → Stepped f c p q (n + 1) e s (set r (n + 1) (add f (mul f (add f (get_or p n nan) (get_or p (n + 1) nan)) c) (get_or q n nan)))
-unfolding lift
-stepped-more {f} {c} {p} {q} {n} {e} {s} {r} w h =
-    let x = add f (mul f (add f (get_or p n nan) (get_or p (n + 1) nan)) c) (get_or q n nan) in
-    record {
-      same = length-set r (n + 1) x ∙ w.same;
-      first = get_or-set_other r (n + 1) 0 x nan (λ e. omega arith) ∙ w.first;
-      each = λ j hj. ⊎_elim
-          (λ (l : j < n). get_or-set_other r (n + 1) (j + 1) x nan (λ e. omega arith) ∙ w.each j l)
-          (λ (l : n ≤ j). let e : j ≡ n = omega arith in rw e (get_or-set_same r (n + 1) x nan h))
-          (lt-or-le j n);
-    }
-
-pub stepped-from : {f : Format} {c : Float} {p q r s : List Float} {n : ℕ} {e : Float} (t : List Float) → Stepped f c p q n e s r → length s ≡ length t → Stepped f c p q n e t r
-stepped-from t w e = record { same = w.same ∙ e; first = w.first; each = w.each }
+  pub stepped-more : {n : ℕ} {e : Float} {s : List Float} (r : List A) (y : A) → Stepped f c p q n e s (map v r) → n + 1 < length r → v y ≡ lift f c (get_or p n nan) (get_or p (n + 1) nan) (get_or q n nan)
+      → Stepped f c p q (n + 1) e s (map v (set r (n + 1) y))
+  stepped-more {n} {e} {s} r y w h made =
+      record {
+        same = length-map (set r (n + 1) y) v ∙ length-set r (n + 1) y ∙ sym (length-map r v) ∙ w.same;
+        first = rw (map-set v r (n + 1) y) (get_or-set_other (map v r) (n + 1) 0 (v y) nan (λ e. omega arith) ∙ w.first);
+        each = λ j hj. rw (map-set v r (n + 1) y) (⊎_elim
+            (λ (l : j < n). get_or-set_other (map v r) (n + 1) (j + 1) (v y) nan (λ e. omega arith) ∙ w.each j l)
+            (λ (l : n ≤ j). let e : j ≡ n = omega arith in rw e (get_or-set_same (map v r) (n + 1) (v y) nan (rw (length-map r v) h) ∙ made))
+            (lt-or-le j n));
+      }
 
 -- what it leaves is a piece of l, if l's entries are e and what the step makes
 pub stepped-piece : {f : Format} {c : Float} {p q s r : List Float} {n : ℕ} {e : Float} (l : List Float) (m i o : ℕ) → Stepped f c p q n e s r → o ≡ i - m → e ≡ get_or l o nan
@@ -57,15 +61,3 @@ stepped-piece {f} {c} {p} {q} {s} {r} {n} {e} l m i o w eo q₀ made =
           (λ (h₀ : j ≤ 0). let z : j ≡ 0 = omega arith in let b : o ≡ k = omega arith in rw (z, ← b) (w.first ∙ q₀))
           (lt-or-le 0 j);
     }
-
--- ---- five local arrays, of an entry more than a block has turns
-
-pub record Arrays (y z u v w : List Float) : Type 0 where
-  pub first : length y ≡ 257
-  pub second : length z ≡ 257
-  pub third : length u ≡ 257
-  pub fourth : length v ≡ 257
-  pub fifth : length w ≡ 257
-
-pub rooms : {n : ℕ} {y z u v w : List Float} → Arrays y z u v w → n ≤ 257 → Rooms n y z u v w
-rooms a h = record { first = omega (arith, a); second = omega (arith, a); third = omega (arith, a); fourth = omega (arith, a); fifth = omega (arith, a) }

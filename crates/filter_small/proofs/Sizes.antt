@@ -8,20 +8,19 @@ use native.Mathlib.Nat.{mul_comm, mul_assoc, mul_left_comm, mul_right_comm, add-
 use native.Mathlib.Omega.{arith}
 use borrow.Author.Tests.{ne_eqb}
 use lib.Bits.{bit_or, or_add_and, and_le_l, and_le_r}
-use lib.Dec.{T, ltb, leb}
+use lib.Dec.{ltb, leb}
 use lib.ListN.{length}
 use lib.Pow.{pow_pos, pow_mono, pow-lt, pow-add}
-use lib.Ieee.{Float, nan, inf, fin, Format, binary32, binary64, prec, emax, low, hid, ones, top, up, down, size, odd, units, round, sum, add, mul, is_nan, nan_bits, of_fields, of_bits}
+use lib.Ieee.{Float, nan, inf, fin, Format, binary32, binary64, prec, emax, low, hid, ones, top, up, down, size, odd, units, round, sum, add, mul, is_nan, of_fields, of_bits}
 use lib.Ieee.Digits.{size_reaches}
 use lib.Ieee.Fits.{round_is, nearest-le, down_pos, two}
 use lib.Ieee.Exact.{HasValue, odd_sign, units_val}
 use lib.Ieee.Nearest.{closest}
+use Rattle.std.specs.Bool.{IsTrue}
 use Rattle.base_order.proofs.Order.{lt-or-le}
-use Rattle.base_samples.specs.Words.{word_at}
 use Rattle.base_samples.specs.Floats.{width, float_at}
-use Rattle.base_samples.proofs.FloatLaws.{no_nan}
 use Rattle.filter_floats.specs.Steps.{lift}
-use Rattle.filter_small.specs.Small.{Small, Factor, edge, SmallFrom, SmallIf, BothSmallIf}
+use Rattle.filter_small.specs.Small.{Small, Factor, edge, SmallFrom, SmallIf}
 
 -- from so many units on a value is an infinity: 2 ^ this
 abbrev pub ceiling : Format → ℕ
@@ -32,11 +31,11 @@ small-le f nan j k h l = h
 small-le f (inf s) j k h l = h
 small-le f (fin s m e) j k h l = le_trans h (mul-le-mul_right (down e) (pow_mono l))
 
-pub small-no-nan : (f : Format) (j : ℕ) (x : Float) → Small f j x → T (not (is_nan x))
+pub small-no-nan : (f : Format) (j : ℕ) (x : Float) → Small f j x → IsTrue (not (is_nan x))
 unfolding is_nan
-small-no-nan f j nan h = h
+small-no-nan f j nan h = absurd h
 small-no-nan f j (inf s) h = absurd h
-small-no-nan f j (fin s m e) h = tt
+small-no-nan f j (fin s m e) h = refl
 
 cond_small : (f : Format) (j : ℕ) (b : Bool) (x y : Float) → Small f j x → Small f j y → Small f j (cond b x y)
 cond_small f j true x y p q = p
@@ -186,17 +185,9 @@ bits_small : (f : Format) (n : ℕ) → n % top f < edge f → Small f (size_rea
 unfolding of_bits
 bits_small f n h = fields-small f (leb (top f) n) (n % top f / hid f) (n % hid f) (field f) (field-le f n h) (field_lt f) (mod-lt n (hid-pos f))
 
-below_nan : (f : Format) (n : ℕ) → n % top f < edge f → n % top f ≤ ones f * hid f
-below_nan binary32 n h = omega arith
-below_nan binary64 n h = omega arith
-
-module _ {f : Format} {s : List ℕ} {i j : ℕ} (h : SmallFrom f s i j) (p : ℕ) (ip : i ≤ p) (pj : p < j) (l : p < length s / width f) where
-  pub float_small : Small f (size_read f) (float_at f s p)
-  unfolding float_at
-  float_small = bits_small f _ (h.each p ip pj l)
-
-  pub word-no-nan : T (not (nan_bits f (word_at (width f) s p)))
-  word-no-nan = no_nan f _ (below_nan f _ (h.each p ip pj l))
+pub float_small : {f : Format} {s : List ℕ} {i j : ℕ} (h : SmallFrom f s i j) (p : ℕ) → i ≤ p → p < j → p < length s / width f → Small f (size_read f) (float_at f s p)
+unfolding float_at
+float_small {f} h p ip pj l = bits_small f _ (h.each p ip pj l)
 
 -- a part of them
 pub small-part : {f : Format} {s : List ℕ} {i j : ℕ} (k l : ℕ) → SmallFrom f s i j → i ≤ k → l ≤ j → SmallFrom f s k l
@@ -205,20 +196,8 @@ small-part k l h ik lj = record { each = λ p kp pl n. h.each p (omega arith) (o
 pub part-if : {b : Bool} {f : Format} {s : List ℕ} {i j : ℕ} (k l : ℕ) → SmallIf b f s i j → i ≤ k → l ≤ j → SmallIf b f s k l
 part-if k l h ik lj = λ q. small-part k l (h q) ik lj
 
-pub both-part-if : {b : Bool} {f : Format} {a d : List ℕ} {i j : ℕ} (k l : ℕ) → BothSmallIf b f a d i j → i ≤ k → l ≤ j → BothSmallIf b f a d k l
-both-part-if k l h ik lj = (part-if k l h.0 ik lj, part-if k l h.1 ik lj)
+-- ---- the look through a slice
 
--- ---- the look through a slice: a sum that stays below H leaves its word below E
-
-pub seen : (k E K H any i j w : ℕ) (s : List ℕ) → H ≡ E + K → (any < H → (p : ℕ) → i ≤ p → p < j → word_at k s p % H < E) → w ≡ word_at k s j
-    → bit_or any (w % H + K) < H → (p : ℕ) → i ≤ p → p < j + 1 → word_at k s p % H < E
-seen k E K H any i j w s eh h e l p ip pj =
-    let o = or_add_and any (w % H + K) in
-    ⊎_elim
-    (λ (q : p < j). h (omega (arith, and_le_r any (w % H + K))) p ip q)
-    (λ (q : j ≤ p). let pe : p ≡ j = omega arith in rw (pe, ← e) (omega (arith, and_le_l any (w % H + K))))
-    (lt-or-le p j)
-
--- nor was it too large before
-pub seen-before : (x y H : ℕ) → bit_or x y < H → x < H
-seen-before x y H h = let o = or_add_and x y in omega (arith, and_le_r x y)
+-- what is seen stays below a bound only if both parts are below it
+pub seen_both : (x y H : ℕ) → bit_or x y < H → (x < H) × (y < H)
+seen_both x y H h = let o = or_add_and x y in (omega (arith, and_le_r x y), omega (arith, and_le_l x y))

@@ -14,7 +14,7 @@ pub record Stepped (f : Format) (c : Float) (p q : List Float) (n : ℕ) (e : Fl
   pub each : (j : ℕ) → j < n → get_or r (j + 1) nan ≡ lift f c (get_or p j nan) (get_or p (j + 1) nan) (get_or q j nan)
 
 -- five lists of n entries or more
-pub record Rooms (n : ℕ) (y z u v w : List Float) : Type 0 where
+pub record Rooms {A : Type 0} (n : ℕ) (y z u v w : List A) : Type 0 where
   pub first : n ≤ length y
   pub second : n ≤ length z
   pub third : n ≤ length u

@@ -6,8 +6,7 @@ use mathlib.Core.Path.{◌≡◌}
 use Prim.Native.Nat.{ℕ, ◌-◌, ◌≤◌}
 use lib.ListN.{length, take, drop}
 use Rattle.base_answers.specs.declared.err.Answer.{Answer}
-use Rattle.base_answers.specs.declared.err.Refusal.TheVariants.{Done}
-use Rattle.base_answers.specs.Answers.{done}
+use Rattle.base_answers.specs.Answers.{told, done}
 use Rattle.base_samples.specs.Le.{Bytes}
 use Rattle.file_open.specs.Opens.{filter_of, head_in, rate_in, samples_in, say_open, rate_opened}
 use Rattle.law_cuts.specs.Sees.{Openings}
@@ -26,7 +25,7 @@ pub each_opens : (b : List ℕ) → Bytes b → data_at ≤ length b → length 
     → let m = map_after (length b - data_at) [] cs in (q : ℕ) → has q m ≡ true
     → let s = file_for q m in
     let h = head_in s in
-    (say_find b' q ≡ Done (place_for q m) (length s))
+    (say_find b' q ≡ told (place_for q m) (length s))
     × (take (length s) (drop (place_for q m) b') ≡ s)
     × Openings h.body (filter_of h.width) h.levels h.samples q (samples_in s) s
     × ((c : ℕ) → c ≤ length s → (k p o u v : ℕ) → done (say_open (take c s) k p o u v) ≡ true → rate_opened (take c s) k p o u v ≡ rate_in s)

@@ -9,8 +9,7 @@ use borrow.Author.Tests.{eqb-false, not-false}
 use lib.Dec.{eqb}
 use lib.ListN.{length, take, drop, replicate, length-replicate, drop_of_length-le}
 use lib.Seq.{take_at}
-use Rattle.base_answers.specs.declared.err.Refusal.TheVariants.{Done}
-use Rattle.base_answers.specs.Answers.{done}
+use Rattle.base_answers.specs.Answers.{told, done}
 use Rattle.base_answers.specs.Checks.{first_refusal}
 use Rattle.base_answers.proofs.Passed.{Passing, passing, roomy}
 use Rattle.base_lengths.specs.declared.Wavelet.TheVariants.{Cdf53}
@@ -23,7 +22,7 @@ use Rattle.levels_filter.specs.declared.filter.Filter.{Filter}
 use Rattle.levels_filter.specs.Filters.{width_of}
 use Rattle.file_open.specs.Files.{old_count, new_count, is_count, count_by, common_of, rate_of, body_of, file_of, file_size}
 use Rattle.file_open.specs.Opens.{filter_of, head_in, is_new, field_checks}
-use Rattle.file_open.proofs.Opening.{filter-width, filter-integers, which-count, fields-refuse}
+use Rattle.file_open.proofs.Opening.{filter-width, filter-integers, which-count}
 use Rattle.file_open.proofs.Writing.{common-length, file-parts}
 use Rattle.law_cuts.proofs.Filed.{Recording, all-length}
 use Rattle.law_cuts.proofs.WrittenHead.{filed}
@@ -71,11 +70,11 @@ module _ (e : List ℕ) (he : is_head e ≡ true) (be : Bytes e) (long : length 
   x = replicate (w * n) 0
 
   -- what the entry says can be recorded
-  counted : (is_count (le_at 4 e 0) ≡ true) × (done (first_refusal (field_checks (head_in e) w p) (Done 0 0)) ≡ true)
+  counted : (is_count (le_at 4 e 0) ≡ true) × (done (first_refusal (field_checks (head_in e) w p) (told 0 0)) ≡ true)
   counted = (and-eq-true_iff (is_count (le_at 4 e 0)) _).0 he
 
   fields : Passing (field_checks (head_in e) w p)
-  fields = passing (field_checks (head_in e) w p) (Done 0 0) (fields-refuse e w p) counted.1
+  fields = passing (field_checks (head_in e) w p) (told 0 0) counted.1
 
   width : width_of f ≡ w
   width = filter-width w (not-false (is_width w) fields.1.0)

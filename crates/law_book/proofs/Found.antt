@@ -7,10 +7,10 @@ use native.Mathlib.Omega.{arith}
 use borrow.Author.Tests.{eq-eqb, eqb-true}
 use lib.Dec.{eqb}
 use lib.ListN.{length, take, drop}
+use Rattle.std.specs.Prelude.{Err}
 use Rattle.base_answers.specs.declared.err.Answer.{Answer}
-use Rattle.base_answers.specs.declared.err.Refusal.{Refusal}
-use Rattle.base_answers.specs.declared.err.Refusal.TheVariants.{Done, NotHeld}
-use Rattle.base_answers.specs.Answers.{answer_of, done}
+use Rattle.base_answers.specs.declared.err.Refusal.TheVariants.{NotHeld}
+use Rattle.base_answers.specs.Answers.{Outcome, told, answer_of, done}
 use Rattle.base_answers.proofs.Endings.{is-done}
 use Rattle.base_samples.specs.Le.{Bytes}
 use Rattle.book_entries.specs.Books.{data_at, point_by, size_by, entries_in, data_in, is_held, are_entries}
@@ -29,20 +29,20 @@ finds-file b st q h = let p = (shows b st).present q h in record { place = place
 pub file-found : (b : List ℕ) → Standing b → (q : ℕ) (f : List ℕ) → Finds b q f → (has q (map_in b) ≡ true) × (file_for q (map_in b) ≡ f)
 file-found b st q f w = pick (has q (map_in b)) refl (sym (find-says b st 0 q) ∙ w.says)
   where
-    pick : (t : Bool) → has q (map_in b) ≡ t → cond t (Done (place_for q (map_in b)) (length (file_for q (map_in b)))) NotHeld ≡ Done w.place (length f)
+    pick : (t : Bool) → has q (map_in b) ≡ t → cond t (told (place_for q (map_in b)) (length (file_for q (map_in b)))) (Err NotHeld) ≡ told w.place (length f)
         → (has q (map_in b) ≡ true) × (file_for q (map_in b) ≡ f)
     pick true e z =
-        let place : place_for q (map_in b) ≡ w.place = ap (λ (s : Refusal). (answer_of s).first) z in
-        let size : length (file_for q (map_in b)) ≡ length f = ap (λ (s : Refusal). (answer_of s).second) z in
+        let place : place_for q (map_in b) ≡ w.place = ap (λ (s : Outcome). (answer_of s).first) z in
+        let size : length (file_for q (map_in b)) ≡ length f = ap (λ (s : Outcome). (answer_of s).second) z in
         (e, sym ((shows b st).present q e).1 ∙ ap₂ (λ (n p : ℕ). take n (drop p b)) size place ∙ w.there)
-    pick false e z = absurd (let y : 16 ≡ 0 = ap (λ (s : Refusal). (answer_of s).number) z in omega arith)
+    pick false e z = absurd (let y : 16 ≡ 0 = ap (λ (s : Outcome). (answer_of s).number) z in omega arith)
 
 -- and where finding is 16 the map has none
-pub not_found : (b : List ℕ) → Standing b → (q : ℕ) → say_find b q ≡ NotHeld → has q (map_in b) ≡ false
+pub not_found : (b : List ℕ) → Standing b → (q : ℕ) → say_find b q ≡ Err NotHeld → has q (map_in b) ≡ false
 not_found b st q w = pick (has q (map_in b)) (sym (find-says b st 0 q) ∙ w)
   where
-    pick : (t : Bool) → cond t (Done (place_for q (map_in b)) (length (file_for q (map_in b)))) NotHeld ≡ NotHeld → t ≡ false
-    pick true z = absurd (let y : 0 ≡ 16 = ap (λ (s : Refusal). (answer_of s).number) z in omega arith)
+    pick : (t : Bool) → cond t (told (place_for q (map_in b)) (length (file_for q (map_in b)))) (Err NotHeld) ≡ (Err NotHeld) → t ≡ false
+    pick true z = absurd (let y : 0 ≡ 16 = ap (λ (s : Outcome). (answer_of s).number) z in omega arith)
     pick false z = refl
 
 -- ---- after adding
@@ -85,7 +85,7 @@ removed-none p (e ∷ es) d h =
     pick false z new i = ap₂ (λ a c. a || c) z i
 
 -- finding is 16
-pub withdrawn-gone : (b : List ℕ) → Standing b → (p : ℕ) (r : Answer) (b' : List ℕ) → Withdraw b p r b' → r.number ≡ 0 → Standing b' × (say_find b' p ≡ NotHeld)
+pub withdrawn-gone : (b : List ℕ) → Standing b → (p : ℕ) (r : Answer) (b' : List ℕ) → Withdraw b p r b' → r.number ≡ 0 → Standing b' × (say_find b' p ≡ Err NotHeld)
 unfolding map_in
 withdrawn-gone b st p r b' a z =
     let n = length b - data_at in

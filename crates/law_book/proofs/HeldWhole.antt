@@ -6,12 +6,10 @@ use Prim.Native.Nat.{ℕ}
 use borrow.Author.Tests.{eqb-true}
 use lib.Dec.{T, eqb}
 use lib.ListN.{length}
-use Rattle.base_answers.specs.declared.err.Refusal.TheVariants.{Done}
-use Rattle.base_answers.specs.Answers.{done}
-use Rattle.base_answers.proofs.Passed.{Passing, passing, both-refuse, both-pass}
+use Rattle.base_answers.specs.Answers.{told, done}
+use Rattle.base_answers.proofs.Passed.{Passing, passing, both-pass}
 use Rattle.base_samples.specs.Le.{Bytes}
 use Rattle.book_entries.specs.Checks.{whole_checks}
-use Rattle.book_entries.proofs.Passed.{whole-refuses}
 use Rattle.law_book.specs.PlainMap.{BookCall, fresh, add, withdraw, find, room, Lent, AllLent, Map, has, file_for, removed, map_checks, map_says, changed, on_map, map_after}
 
 -- a file of bytes that adding takes for point p
@@ -58,8 +56,7 @@ taken-on n hs c l a = pick (done (map_says n hs c)) (each c l)
     each fresh l d = tt
     each (add p s) l d =
         let rest = map_checks n hs p (length s) in
-        let refuse = both-refuse (whole_checks s p) rest (whole-refuses s p) (refl, (refl, (refl, tt))) in
-        taken_more hs p s a (l, (both-pass (whole_checks s p) rest (passing (whole_checks s p ++ rest) (Done 0 0) refuse d)).0)
+        taken_more hs p s a (l, (both-pass (whole_checks s p) rest (passing (whole_checks s p ++ rest) (told 0 0) d)).0)
     each (withdraw p) l d = taken-less hs p a
     each (find p) l d = a
     each room l d = a

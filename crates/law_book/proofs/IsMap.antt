@@ -8,9 +8,10 @@ use native.Mathlib.Omega.{arith}
 use borrow.Author.Tests.{ltb-true, ltb-false, leb-true, leb-false}
 use lib.Dec.{ltb, leb}
 use lib.ListN.{length}
+use Rattle.std.specs.Prelude.{Err}
 use Rattle.base_answers.specs.declared.err.Answer.{Answer}
-use Rattle.base_answers.specs.declared.err.Refusal.TheVariants.{Done, BookFull, AlreadyHeld}
-use Rattle.base_answers.specs.Answers.{say, answer_of}
+use Rattle.base_answers.specs.declared.err.Refusal.TheVariants.{BookFull, AlreadyHeld}
+use Rattle.base_answers.specs.Answers.{told, say, answer_of}
 use Rattle.base_answers.specs.Checks.{first_refusal}
 use Rattle.base_answers.proofs.Passed.{Passing, pass_on}
 use Rattle.base_samples.specs.Le.{Bytes}
@@ -65,8 +66,8 @@ is-map b h long short r b₀ f cs l rs b' ran =
 
 -- what its checks leave to the map
 left-to-map : (b : List ℕ) → Standing b → (p : ℕ) (s : List ℕ) → Passing (whole_checks s p) → (r : Answer) (b' : List ℕ) → Add b p s r b'
-    → r ≡ answer_of (first_refusal (map_checks (length b - data_at) (map_in b) p (length s)) (Done 0 0))
-left-to-map b st p s c r b' a = a.answer ∙ ap answer_of (add-says b st p s ∙ pass_on (whole_checks s p) (map_checks (length b - data_at) (map_in b) p (length s)) (Done 0 0) c)
+    → r ≡ answer_of (first_refusal (map_checks (length b - data_at) (map_in b) p (length s)) (told 0 0))
+left-to-map b st p s c r b' a = a.answer ∙ ap answer_of (add-says b st p s ∙ pass_on (whole_checks s p) (map_checks (length b - data_at) (map_in b) p (length s)) (told 0 0) c)
 
 -- it is taken, or refused with 15 or 14
 pub whole-answers : (b : List ℕ) → Standing b → (p : ℕ) (s : List ℕ) → Passing (whole_checks s p) → (r : Answer) (b' : List ℕ) → Add b p s r b'
@@ -75,7 +76,7 @@ whole-answers b st p s c r b' a =
     let hs = map_in b in
     pick (has p hs) (leb most (length hs)) (ltb (length b - data_at - map_total hs) (length s)) (left-to-map b st p s c r b' a)
   where
-    pick : (h t u : Bool) → r ≡ answer_of (cond h AlreadyHeld (cond t BookFull (cond u BookFull (Done 0 0)))) → (r ≡ say 0 0 0) ⊎ ((r ≡ say 15 0 0) ⊎ (r ≡ say 14 0 0))
+    pick : (h t u : Bool) → r ≡ answer_of (cond h (Err AlreadyHeld) (cond t (Err BookFull) (cond u (Err BookFull) (told 0 0)))) → (r ≡ say 0 0 0) ⊎ ((r ≡ say 15 0 0) ⊎ (r ≡ say 14 0 0))
     pick true t u z = inr (inl z)
     pick false true u z = inr (inr z)
     pick false false true z = inr (inr z)
@@ -89,11 +90,11 @@ full-exactly b st p s c new r b' a =
     let n = length b - data_at in
     let hs = map_in b in
     let says = left-to-map b st p s c r b' a
-    ∙ ap (λ (t : Bool). answer_of (cond t AlreadyHeld (cond (leb most (length hs)) BookFull (cond (ltb (n - map_total hs) (length s)) BookFull (Done 0 0))))) new in
+    ∙ ap (λ (t : Bool). answer_of (cond t (Err AlreadyHeld) (cond (leb most (length hs)) (Err BookFull) (cond (ltb (n - map_total hs) (length s)) (Err BookFull) (told 0 0))))) new in
     pick (leb most (length hs)) refl (ltb (n - map_total hs) (length s)) refl says
   where
     pick : (t : Bool) → leb most (length (map_in b)) ≡ t → (u : Bool) → ltb (length b - data_at - map_total (map_in b)) (length s) ≡ u
-        → r ≡ answer_of (cond t BookFull (cond u BookFull (Done 0 0)))
+        → r ≡ answer_of (cond t (Err BookFull) (cond u (Err BookFull) (told 0 0)))
         → let full = (most ≤ length (map_in b)) ⊎ (length b - data_at - map_total (map_in b) < length s) in
         (r ≡ say 14 0 0 → full) × (full → r ≡ say 14 0 0) × ((full → ⊥) → r ≡ say 0 0 0)
     pick true et u eu z = let yes = leb-true most (length (map_in b)) et in (λ _. inl yes, λ _. z, λ no. absurd (no (inl yes)))

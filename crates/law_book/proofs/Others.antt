@@ -4,6 +4,7 @@ use mathlib.Core.List.{List}
 use mathlib.Core.Path.{◌≡◌, refl, ap, subst, ◌∙◌}
 use Prim.Native.Nat.{ℕ, ◌-◌}
 use lib.ListN.{length}
+use Rattle.std.specs.Prelude.{Err}
 use Rattle.base_answers.specs.declared.err.Answer.{Answer}
 use Rattle.base_answers.specs.declared.err.Refusal.TheVariants.{NotHeld}
 use Rattle.base_answers.specs.Answers.{done}
@@ -43,8 +44,8 @@ others-stay b st q f w cs s l rs b' (next {b₁ = b₁} {c = c} {cs = more} {r =
     others-stay b₁ on.stands q f (subst (Finds b₁ q) (ap (file_for q) on.map ∙ same.1 ∙ was.1) now) more s.1 l.1 rest b' ran
 
 -- nor does it come to be held
-pub absent-stays : (b : List ℕ) → Standing b → (q : ℕ) → say_find b q ≡ NotHeld → (cs : List BookCall) → AllSpare q cs → AllLent cs
-    → (rs : List Answer) (b' : List ℕ) → Ran b cs rs b' → say_find b' q ≡ NotHeld
+pub absent-stays : (b : List ℕ) → Standing b → (q : ℕ) → say_find b q ≡ Err NotHeld → (cs : List BookCall) → AllSpare q cs → AllLent cs
+    → (rs : List Answer) (b' : List ℕ) → Ran b cs rs b' → say_find b' q ≡ Err NotHeld
 unfolding AllLent AllSpare
 absent-stays b st q w cs s l rs b' none = w
 absent-stays b st q w cs s l rs b' (next {b₁ = b₁} {c = c} {cs = more} {r = r} {rs = rest} d ran) =

@@ -9,9 +9,7 @@ use lib.Dec.{eqb}
 use lib.ListN.{length, take, drop, replicate, length-append, length-drop, length-replicate, take-append-drop}
 use lib.Seq.{take_at, length-take-le}
 use Rattle.base_answers.specs.declared.err.Answer.{Answer}
-use Rattle.base_answers.specs.declared.err.Refusal.{Refusal}
-use Rattle.base_answers.specs.declared.err.Refusal.TheVariants.{Done}
-use Rattle.base_answers.specs.Answers.{say, answer_of, done}
+use Rattle.base_answers.specs.Answers.{Outcome, told, say, answer_of, done}
 use Rattle.base_answers.specs.Checks.{left}
 use Rattle.base_answers.proofs.Passed.{Passing, pass-both, through}
 use Rattle.base_samples.proofs.LeLaws.{le_at-lt}
@@ -141,13 +139,13 @@ one y ys es d c k e st fits =
       map-has c st p ∙ at.1,
       (lt-leb most (length hs) (omega (arith, map-count c st, k.few)), (le-ltb (n - map_total hs) (length s) (omega (arith, map-total c st)), tt)),
     ) in
-    let says : map_says n hs (add p s) ≡ Done 0 0 =
-    through (whole_checks s p ++ map_checks n hs p (length s)) (Done 0 0) (pass-both (whole_checks s p) (map_checks n hs p (length s)) (from-taken y at.0 bytes sized) room) in
+    let says : map_says n hs (add p s) ≡ told 0 0 =
+    through (whole_checks s p ++ map_checks n hs p (length s)) (told 0 0) (pass-both (whole_checks s p) (map_checks n hs p (length s)) (from-taken y at.0 bytes sized) room) in
     let yes : done (map_says n hs (add p s)) ≡ true = ap done says in
     let all = add-says c st p s ∙ says in
     let on = added c st p s (from_bytes y) yes in
     record {
-      does = record { answer = sym (ap answer_of all); book = sym (ap (λ (m : Refusal). left m (added_in c s) c) all) };
+      does = record { answer = sym (ap answer_of all); book = sym (ap (λ (m : Outcome). left m (added_in c s) c) all) };
       stands = on.stands;
       size = on.size;
       entries = added-entries c st p s (from_bytes y) yes ∙ ap (λ (x : List ℕ). xs ++ (x ∷ [])) (from-entry y at.0 bytes sized);

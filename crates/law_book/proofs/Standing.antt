@@ -7,10 +7,10 @@ use native.Mathlib.Omega.{arith}
 use borrow.Author.Tests.{le-ltb}
 use lib.ListN.{length, take, drop, length-append, length-drop, take-append-drop}
 use lib.Seq.{drop-drop}
+use Rattle.std.specs.Prelude.{Err}
 use Rattle.base_answers.specs.declared.err.Answer.{Answer}
-use Rattle.base_answers.specs.declared.err.Refusal.{Refusal}
-use Rattle.base_answers.specs.declared.err.Refusal.TheVariants.{Done, NotHeld}
-use Rattle.base_answers.specs.Answers.{answer_of}
+use Rattle.base_answers.specs.declared.err.Refusal.TheVariants.{NotHeld}
+use Rattle.base_answers.specs.Answers.{Outcome, told, answer_of}
 use Rattle.base_answers.proofs.Passed.{Passing, passing, pass_on, through}
 use Rattle.base_answers.proofs.Endings.{is-done}
 use Rattle.base_samples.specs.Le.{Bytes}
@@ -18,7 +18,7 @@ use Rattle.filter_cdf53i.proofs.Lengths.{bytes-join}
 use Rattle.law_levels.proofs.Undone.{bytes_take, bytes_drop}
 use Rattle.book_entries.specs.Books.{most, entry_size, entry_start, data_at, joined, book_of, entry_at, is_used, used_from, entries_in, total_by, total_in, data_in, free_in, slot_of, is_held, place_at, size_at}
 use Rattle.book_entries.specs.Checks.{most_area, book_checks, say_find, say_room}
-use Rattle.book_entries.proofs.Passed.{book-refuses, book-passes}
+use Rattle.book_entries.proofs.Passed.{book-passes}
 use Rattle.book_entries.proofs.Entries.{entries-few}
 use Rattle.book_entries.proofs.Laid.{book-length, entries-sized, data-length, checked}
 use Rattle.book_calls.specs.Calls.{holding}
@@ -47,7 +47,7 @@ used-bytes (suc n) i b h = pick (is_used (entry_at b i)) (used-bytes n (suc i) b
     pick false g = record { byte = λ i. omega arith }
 
 -- 16 where the point is not held, and what is said where it is
-pub if-held : (t : Bool) (x y : Refusal) → (t ≡ true → x ≡ y) → cond (not t) NotHeld x ≡ cond t y NotHeld
+pub if-held : (t : Bool) (x y : Outcome) → (t ≡ true → x ≡ y) → cond (not t) (Err NotHeld) x ≡ cond t y (Err NotHeld)
 if-held true x y h = h refl
 if-held false x y h = refl
 
@@ -99,17 +99,17 @@ module _ (b : List ℕ) (st : Standing b) where
   unfolding say_find map_in
   find-says n p =
       let i = slot_of p es in
-      let told = Done (data_at + place_at i es) (size_at i es) in
-      pass_on (book_checks b) ((not (is_held p es), NotHeld) ∷ []) told checks-pass
-      ∙ if-held (is_held p es) told (Done (place_for p hs) (length (file_for p hs)))
-      (λ h. ap₂ (λ a c. Done (data_at + a) c) (sym (files-place p es (data_in b) enough)) (sym (files-size p es (data_in b) enough h)))
-      ∙ ap (λ t. cond t (Done (place_for p hs) (length (file_for p hs))) NotHeld) (sym (map-has p))
+      let there = told (data_at + place_at i es) (size_at i es) in
+      pass_on (book_checks b) ((not (is_held p es), NotHeld) ∷ []) there checks-pass
+      ∙ if-held (is_held p es) there (told (place_for p hs) (length (file_for p hs)))
+      (λ h. ap₂ (λ a c. told (data_at + a) c) (sym (files-place p es (data_in b) enough)) (sym (files-size p es (data_in b) enough h)))
+      ∙ ap (λ t. cond t (told (place_for p hs) (length (file_for p hs))) (Err NotHeld)) (sym (map-has p))
 
   pub room_says : (n : ℕ) → n ≡ length b - data_at → say_room b ≡ map_says n hs room
   unfolding say_room
   room_says n e =
-      through (book_checks b) (Done (free_in b) (length es)) checks-pass
-      ∙ ap₂ (λ a c. Done a c) (ap₂ (λ a c. a - c) (sym e) (sym map-total)) (sym map-count)
+      through (book_checks b) (told (free_in b) (length es)) checks-pass
+      ∙ ap₂ (λ a c. told a c) (ap₂ (λ a c. a - c) (sym e) (sym map-total)) (sym map-count)
 
   -- ---- it shows its map
 
@@ -121,9 +121,9 @@ module _ (b : List ℕ) (st : Standing b) where
   -- what is found, at the place that is named
   pub shows : Shows b (length b - data_at) hs
   shows = record {
-    absent = λ q h. find-says (length b - data_at) q ∙ ap (λ t. cond t (Done (place_for q hs) (length (file_for q hs))) NotHeld) h;
+    absent = λ q h. find-says (length b - data_at) q ∙ ap (λ t. cond t (told (place_for q hs) (length (file_for q hs))) (Err NotHeld)) h;
     present = λ q h. (
-      find-says (length b - data_at) q ∙ ap (λ t. cond t (Done (place_for q hs) (length (file_for q hs))) NotHeld) h,
+      find-says (length b - data_at) q ∙ ap (λ t. cond t (told (place_for q hs) (length (file_for q hs))) (Err NotHeld)) h,
       ap (take (length (file_for q hs))) (sym (drop-drop (bytes_before q hs) data_at b))
           ∙ subst (λ (m : Map). take (length (file_for q m)) (drop (bytes_before q m) (drop data_at b)) ≡ file_for q m) (sym map-behind)
           (files-bytes q es (drop data_at b) (omega (arith, length-drop data_at b, total-fits))),
@@ -136,7 +136,7 @@ module _ (b : List ℕ) (st : Standing b) where
 -- an area of which `room` is answered with 0 passes the check
 pub asked-stands : (b : List ℕ) → Bytes b → (r : Answer) → r ≡ answer_of (say_room b) → r.number ≡ 0 → Standing b
 unfolding say_room
-asked-stands b h r e z = record { bytes = h; book = book-passes b (passing (book_checks b) (Done (free_in b) (length (entries_in b))) (book-refuses b) (is-done (say_room b) r e z)) }
+asked-stands b h r e z = record { bytes = h; book = book-passes b (passing (book_checks b) (told (free_in b) (length (entries_in b))) (is-done (say_room b) r e z)) }
 
 -- ---- a book laid in an area
 

@@ -10,9 +10,8 @@ use lib.Dec.{ltb}
 use lib.ListN.{length, take, drop}
 use lib.Seq.{take_all}
 use Rattle.base_answers.specs.declared.err.Answer.{Answer}
-use Rattle.base_answers.specs.declared.err.Refusal.{Refusal}
-use Rattle.base_answers.specs.declared.err.Refusal.TheVariants.{Done, CutShort}
-use Rattle.base_answers.specs.Answers.{answer_of}
+use Rattle.base_answers.specs.declared.err.Refusal.TheVariants.{CutShort}
+use Rattle.base_answers.specs.Answers.{Outcome, told, answer_of}
 use Rattle.base_answers.proofs.Passed.{Passing, pass-both}
 use Rattle.base_lengths.specs.Levels.{levels_of}
 use Rattle.base_samples.specs.Le.{Bytes}
@@ -74,19 +73,19 @@ module _ {f : Filter} {l n p : ℕ} {x s : List ℕ} {z : ℕ} (d : Filed z f l 
 
   -- so it does from any area that shows a map with it
   pub taken-opens : (b : List ℕ) (m : ℕ) (hs : Map) → Shows b m hs → has p hs ≡ true → file_for p hs ≡ s
-      → (place len : ℕ) → say_find b p ≡ Done place len → Openings z f l n p x (take len (drop place b))
+      → (place len : ℕ) → say_find b p ≡ told place len → Openings z f l n p x (take len (drop place b))
   taken-opens b m hs shows held file place len says =
       let named = shows.present p held in
       let found : Finds b p (file_for p hs) = record { place = place_for p hs; says = named.0; there = named.1 } in
       let here : Finds b p s = subst (Finds b p) file found in
       let same = sym here.says ∙ says in
       subst (Openings z f l n p x)
-      (ap₂ (λ (c q : ℕ). take c (drop q b)) (ap (λ (s : Refusal). (answer_of s).second) same) (ap (λ (s : Refusal). (answer_of s).first) same)) (found-opens b here)
+      (ap₂ (λ (c q : ℕ). take c (drop q b)) (ap (λ (s : Outcome). (answer_of s).second) same) (ap (λ (s : Outcome). (answer_of s).first) same)) (found-opens b here)
 
   -- and from the book to which it was added, whatever was called since for other points: finding is done, and gives the file's size
   pub kept-opens : Bytes s → (b : List ℕ) → Standing b → (r : Answer) (b₁ : List ℕ) → Add b p s r b₁ → r.number ≡ 0
       → (cs : List BookCall) → AllSpare p cs → AllLent cs → (rs : List Answer) (b' : List ℕ) → Ran b₁ cs rs b'
-      → (place : ℕ) × (say_find b' p ≡ Done place (length s)) × Openings z f l n p x (take (length s) (drop place b'))
+      → (place : ℕ) × (say_find b' p ≡ told place (length s)) × Openings z f l n p x (take (length s) (drop place b'))
   kept-opens bytes b st r b₁ add done cs spare lent rs b' ran =
       let added = added-found b st p s bytes r b₁ add done in
       let found = others-stay b₁ added.0 p s added.1 cs spare lent rs b' ran in
@@ -115,5 +114,5 @@ module _ (f : Filter) (l p rate : ℕ) (x : List ℕ) (i : Integers f) (bx : Byt
   -- so it stays in a book, and opens from there
   pub written-opens : (b : List ℕ) → Standing b → (r : Answer) (b₁ : List ℕ) → Add b p file r b₁ → r.number ≡ 0
       → (cs : List BookCall) → AllSpare p cs → AllLent cs → (rs : List Answer) (b' : List ℕ) → Ran b₁ cs rs b'
-      → (place : ℕ) × (say_find b' p ≡ Done place (length file)) × Openings new_size f (levels_of l) (length x / width_of f) p x (take (length file) (drop place b'))
+      → (place : ℕ) × (say_find b' p ≡ told place (length file)) × Openings new_size f (levels_of l) (length x / width_of f) p x (take (length file) (drop place b'))
   written-opens = kept-opens written-filed written-bytes

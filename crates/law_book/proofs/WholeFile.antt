@@ -9,8 +9,8 @@ use borrow.Author.Tests.{ltb-false, eqb-false}
 use lib.Dec.{ltb, eqb}
 use lib.ListN.{length, take, drop, take-append-drop}
 use lib.Seq.{length-take-le, drop-drop}
-use Rattle.base_answers.specs.declared.err.Refusal.TheVariants.{Done, CutShort}
-use Rattle.base_answers.specs.Answers.{done}
+use Rattle.base_answers.specs.declared.err.Refusal.TheVariants.{CutShort}
+use Rattle.base_answers.specs.Answers.{told, done}
 use Rattle.base_answers.specs.Checks.{first_refusal}
 use Rattle.base_answers.proofs.Passed.{Passing, both-pass, through, right}
 use Rattle.base_samples.specs.Le.{le_at, le_bytes, Bytes}
@@ -100,12 +100,12 @@ whole-went s k l n at (Short j) e h c z =
 whole-went s k l n at (Wrong j found) e h c z = absurd (let y : ◌≡◌ {A = ℕ} 0 1 = ap (λ b. cond b 0 1) c.0 in omega arith)
 
 -- the fields of section 0 pass for their own width and point
-own-fields : (h : Head) (w p : ℕ) → Passing (field_checks h w p) → done (first_refusal (field_checks h h.width h.point) (Done 0 0)) ≡ true
+own-fields : (h : Head) (w p : ℕ) → Passing (field_checks h w p) → done (first_refusal (field_checks h h.width h.point) (told 0 0)) ≡ true
 own-fields h w p c =
     let ew : h.width ≡ w = right h.width w c.0 in
     let ep : h.point ≡ p = right h.point p c.1.1.1.1.1.1.0 in
     let own : Passing (field_checks h h.width h.point) = subst (λ (j : ℕ). Passing (field_checks h j h.point)) (sym ew) (subst (λ (j : ℕ). Passing (field_checks h w j)) (sym ep) c) in
-    ap done (through (field_checks h h.width h.point) (Done 0 0) own)
+    ap done (through (field_checks h h.width h.point) (told 0 0) own)
 
 -- what passes is whole
 pub whole-file : (s : List ℕ) (p : ℕ) → Passing (whole_checks s p) → Whole s p
@@ -122,7 +122,7 @@ whole-file s p c =
     let size : length s ≡ file_size h.body h.width h.levels h.samples = (walk-size h.levels s h.width h.samples h.body (length s) there.1 way).0 in
     record {
       entry = length-take-le entry_size s there.0;
-      head = subst (λ (g : Head). (is_count (le_at 4 e 0) && done (first_refusal (field_checks g g.width g.point) (Done 0 0))) ≡ true) (sym (head_in-take s))
+      head = subst (λ (g : Head). (is_count (le_at 4 e 0) && done (first_refusal (field_checks g g.width g.point) (told 0 0))) ≡ true) (sym (head_in-take s))
           ((and-eq-true_iff (is_count (le_at 4 e 0)) _).1 (count, own-fields h w p section.1));
       point = ap (λ (g : Head). g.point) (head_in-take s) ∙ right h.point p section.1.1.1.1.1.1.1.0;
       size = size ∙ sym (ap (λ (g : Head). file_size g.body g.width g.levels g.samples) (head_in-take s));

@@ -1,10 +1,9 @@
 -- A sequence of calls on a book, and the plain map from point numbers to files that it is to be, from C-14: "adding, withdrawing and finding a point behave as a
 -- map from number to file over any sequence of calls on a fresh book".
-use Rattle.std.specs.Prelude.{Bool, true, false, cond, ◌||◌, List, [], ◌∷◌, ◌++◌, ◌≡◌, ℕ, ◌+◌, ◌-◌, ◌^◌, ◌≤◌, ◌<◌, ltb, leb, eqb, length, take, drop}
+use Rattle.std.specs.Prelude.{Err, Bool, true, false, cond, ◌||◌, List, [], ◌∷◌, ◌++◌, ◌≡◌, ℕ, ◌+◌, ◌-◌, ◌^◌, ◌≤◌, ◌<◌, ltb, leb, eqb, length, take, drop}
 use Rattle.base_answers.specs.declared.err.Answer.{Answer}
-use Rattle.base_answers.specs.declared.err.Refusal.{Refusal}
-use Rattle.base_answers.specs.declared.err.Refusal.TheVariants.{Done, BookFull, AlreadyHeld, NotHeld}
-use Rattle.base_answers.specs.Answers.{say, answer_of, done}
+use Rattle.base_answers.specs.declared.err.Refusal.TheVariants.{BookFull, AlreadyHeld, NotHeld}
+use Rattle.base_answers.specs.Answers.{Outcome, told, say, answer_of, done}
 use Rattle.base_answers.specs.Checks.{Check, first_refusal}
 use Rattle.base_samples.specs.Le.{Bytes}
 use Rattle.book_entries.specs.Books.{most, data_at, point_by, size_by, entries_in, data_in}
@@ -94,12 +93,12 @@ place_for p hs = data_at + bytes_before p hs
 abbrev pub map_checks : ℕ → Map → ℕ → ℕ → List Check
 map_checks n hs p m = (has p hs, AlreadyHeld) ∷ (leb most (length hs), BookFull) ∷ (ltb (n - map_total hs) m, BookFull) ∷ []
 
-abbrev pub map_says : ℕ → Map → BookCall → Refusal
-map_says n hs fresh = Done 0 0
-map_says n hs (add p s) = first_refusal (whole_checks s p ++ map_checks n hs p (length s)) (Done 0 0)
-map_says n hs (withdraw p) = cond (has p hs) (Done 0 0) NotHeld
-map_says n hs (find p) = cond (has p hs) (Done (place_for p hs) (length (file_for p hs))) NotHeld
-map_says n hs room = Done (n - map_total hs) (length hs)
+abbrev pub map_says : ℕ → Map → BookCall → Outcome
+map_says n hs fresh = told 0 0
+map_says n hs (add p s) = first_refusal (whole_checks s p ++ map_checks n hs p (length s)) (told 0 0)
+map_says n hs (withdraw p) = cond (has p hs) (told 0 0) (Err NotHeld)
+map_says n hs (find p) = cond (has p hs) (told (place_for p hs) (length (file_for p hs))) (Err NotHeld)
+map_says n hs room = told (n - map_total hs) (length hs)
 
 -- of a call that is done
 abbrev pub changed : Map → BookCall → Map
@@ -144,16 +143,16 @@ pub record Onward (b : List ℕ) (hs : Map) (b' : List ℕ) : Type 0 where
 
 -- the area b shows the map hs, of so much data room: what finding each point and asking for the room answer, and the bytes at the place that finding names
 pub record Shows (b : List ℕ) (n : ℕ) (hs : Map) : Type 0 where
-  pub absent : (q : ℕ) → has q hs ≡ false → say_find b q ≡ NotHeld
-  pub present : (q : ℕ) → has q hs ≡ true → (say_find b q ≡ Done (place_for q hs) (length (file_for q hs))) × (take (length (file_for q hs)) (drop (place_for q hs) b) ≡ file_for q hs)
-  pub room : say_room b ≡ Done (n - map_total hs) (length hs)
+  pub absent : (q : ℕ) → has q hs ≡ false → say_find b q ≡ Err NotHeld
+  pub present : (q : ℕ) → has q hs ≡ true → (say_find b q ≡ told (place_for q hs) (length (file_for q hs))) × (take (length (file_for q hs)) (drop (place_for q hs) b) ≡ file_for q hs)
+  pub room : say_room b ≡ told (n - map_total hs) (length hs)
   pub fits : map_total hs ≤ n
   pub few : length hs ≤ most
 
 -- finding q in the area b is done, and the bytes that it names are f
 pub record Finds (b : List ℕ) (q : ℕ) (f : List ℕ) : Type 0 where
   pub place : ℕ
-  pub says : say_find b q ≡ Done place (length f)
+  pub says : say_find b q ≡ told place (length f)
   pub there : take (length f) (drop place b) ≡ f
 
 -- ---- "no other point's bytes change"

@@ -7,10 +7,10 @@ use Prim.Native.Nat.{ℕ, zero, suc, ◌-◌, ◌≤◌, ◌<◌}
 use native.Mathlib.Omega.{arith}
 use lib.ListN.{take}
 use lib.Seq.{take_all}
+use Rattle.std.specs.Prelude.{Err}
 use Rattle.base_answers.specs.declared.err.Answer.{Answer}
-use Rattle.base_answers.specs.declared.err.Refusal.{Refusal}
-use Rattle.base_answers.specs.declared.err.Refusal.TheVariants.{Done, CutShort}
-use Rattle.base_answers.specs.Answers.{answer_of}
+use Rattle.base_answers.specs.declared.err.Refusal.TheVariants.{CutShort}
+use Rattle.base_answers.specs.Answers.{Outcome, told, answer_of}
 use Rattle.base_answers.specs.Checks.{first_refusal}
 use Rattle.base_order.proofs.Order.{lt-or-le}
 use Rattle.base_lengths.specs.Lengths.{approx_length}
@@ -51,10 +51,10 @@ pub record Unmixed (r : Answer) : Type 0 where
 abbrev pub Plain : Answer → Type 0
 Plain r = (r.number ≡ 0) ⊎ ((r.number ≡ 7) ⊎ (r.number ≡ 10))
 
-plain-is : (s t : Refusal) → s ≡ t → Plain (answer_of t) → Plain (answer_of s)
-plain-is s t e h = subst (λ (a : Refusal). Plain (answer_of a)) (sym e) h
+plain-is : (s t : Outcome) → s ≡ t → Plain (answer_of t) → Plain (answer_of s)
+plain-is s t e h = subst (λ (a : Outcome). Plain (answer_of a)) (sym e) h
 
-rooms-plain : (k c o u v i : ℕ) → Plain (answer_of (first_refusal (rooms_for k c o u v) (Done i c)))
+rooms-plain : (k c o u v i : ℕ) → Plain (answer_of (first_refusal (rooms_for k c o u v) (told i c)))
 rooms-plain k c o u v i = ⊎_elim inl (λ e. inr (inl e)) (rooms-say k c o u v i)
 
 module _ {z : ℕ} {f : Filter} {l n p : ℕ} {x s : List ℕ} (d : Filed z f l n p x s) {o u v : ℕ} (a : Sampled (width_of f) o u v) where
@@ -77,9 +77,9 @@ module _ {z : ℕ} {f : Filter} {l n p : ℕ} {x s : List ℕ} (d : Filed z f l 
   plain b e =
       let i = level_left z k l n b in
       ⊎_elim
-      (λ (h : b < needed z k l n). plain-is (say_open (take b s) k p o u v) (CutShort b) (cut_short d a b h) (inr (inr refl)))
+      (λ (h : b < needed z k l n). plain-is (say_open (take b s) k p o u v) (Err (CutShort b)) (cut_short d a b h) (inr (inr refl)))
       (λ (h : needed z k l n ≤ b).
-      plain-is (say_open (take b s) k p o u v) (first_refusal (rooms_for k (count_at i n) o u v) (Done i (count_at i n))) (rooms-decide d a b h e) (rooms-plain k (count_at i n) o u v i))
+      plain-is (say_open (take b s) k p o u v) (first_refusal (rooms_for k (count_at i n) o u v) (told i (count_at i n))) (rooms-decide d a b h e) (rooms-plain k (count_at i n) o u v i))
       (lt-or-le b (needed z k l n))
 
   -- and never refused as a file that is not this one

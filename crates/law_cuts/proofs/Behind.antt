@@ -6,7 +6,9 @@ use native.Mathlib.Omega.{arith}
 use borrow.Author.Tests.{lt-ltb}
 use lib.ListN.{length, take, length-append}
 use lib.Seq.{take_all}
-use Rattle.base_answers.specs.declared.err.Refusal.TheVariants.{Done, Trailing}
+use Rattle.std.specs.Prelude.{Err}
+use Rattle.base_answers.specs.declared.err.Refusal.TheVariants.{Trailing}
+use Rattle.base_answers.specs.Answers.{told}
 use Rattle.base_answers.specs.Checks.{Check, first_refusal}
 use Rattle.base_answers.proofs.Chain.{stop}
 use Rattle.base_answers.proofs.Passed.{pass_on}
@@ -55,10 +57,10 @@ module _ {f : Filter} {l n p : ℕ} {x : List ℕ} (d : Recording f l n p x) {ra
       (walk-cut f l n x (head_of k l n p rate) t (length rest) d.size (omega (arith, d.most)) (omega arith))
       ∙ sym (within-whole k l n z (length rest) (omega (arith, rest-long)))
 
-  pub behind-file : (o u v : ℕ) → Sampled k o u v → say_open (file_of f l p rate x ++ t) k p o u v ≡ Trailing (length t)
+  pub behind-file : (o u v : ℕ) → Sampled k o u v → say_open (file_of f l p rate x ++ t) k p o u v ≡ Err (Trailing (length t))
   unfolding say_open
   behind-file o u v a =
-      let end = Done (level_in y) (count_in y) in
+      let end = told (level_in y) (count_in y) in
       let rooms = rooms_for k (count_in y) o u v in
       let heads = head_checks y k p in
       let ways = way_checks (way_in y (head_in y)) (length y) in
@@ -67,4 +69,4 @@ module _ {f : Filter} {l n p : ℕ} {x : List ℕ} (d : Recording f l n p x) {ra
       ∙ ap (λ (m : List Check). first_refusal m end) (append_assoc heads ways rooms)
       ∙ pass_on heads (ways ++ rooms) end (head-pass d hr rest (omega (arith, long)))
       ∙ ap (λ (v : Way). first_refusal (way_checks v (length y) ++ rooms) end) way
-      ∙ sym (stop _ (lt-ltb (z + body_size k l n) (length y) (omega (arith, long))) (ap Trailing (omega (arith, long))))
+      ∙ sym (stop _ (lt-ltb (z + body_size k l n) (length y) (omega (arith, long))) (ap (λ (n : ℕ). Err (Trailing n)) (omega (arith, long))))

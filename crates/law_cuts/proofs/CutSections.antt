@@ -10,9 +10,10 @@ use native.Mathlib.Omega.{arith}
 use borrow.Author.Tests.{le-ltb, ne_eqb}
 use lib.ListN.{length, take, drop}
 use lib.Seq.{drop_at}
+use Rattle.std.specs.Prelude.{Err}
 use Rattle.base_answers.proofs.Passed.{pass_on}
-use Rattle.base_answers.specs.declared.err.Refusal.{Refusal}
-use Rattle.base_answers.specs.declared.err.Refusal.TheVariants.{Done, CutShort}
+use Rattle.base_answers.specs.declared.err.Refusal.TheVariants.{CutShort}
+use Rattle.base_answers.specs.Answers.{Outcome, told}
 use Rattle.base_answers.specs.Checks.{Check, first_refusal}
 use Rattle.base_order.proofs.Order.{lt-or-le}
 use Rattle.base_lengths.specs.Lengths.{approx_length, details_length}
@@ -51,7 +52,7 @@ body-deeper f (suc i) j n x =
     ∙ append_assoc (body_of f j (count_at i (approx_length n)) (approx_at f i (low_of f x))) (rest_of f i (approx_length n) (low_of f x)) (section_of (details_length n) (high_of f x)))
 
 -- what refuses where a walk is short
-short-stops : (v : Way) (j b : ℕ) (s : Refusal) → v ≡ Short j → first_refusal (section_checks v b) s ≡ CutShort b
+short-stops : (v : Way) (j b : ℕ) (s : Outcome) → v ≡ Short j → first_refusal (section_checks v b) s ≡ Err (CutShort b)
 short-stops v j b s e = ap (λ (w : Way). first_refusal (section_checks w b) s) e
 
 -- where the bytes of the last section start
@@ -74,9 +75,9 @@ module _ {z : ℕ} {f : Filter} {l n p : ℕ} {x s : List ℕ} (d : Filed z f l 
   h = head_in (take b s)
 
   -- cut in section 0: "10", whatever the number
-  pub section-early : (q : ℕ) → b < z → say_section t k p q ≡ CutShort b
+  pub section-early : (q : ℕ) → b < z → say_section t k p q ≡ Err (CutShort b)
   unfolding say_section
-  section-early q a = d.early b a (number_checks q h.levels ++ section_checks (way_to t h q) (length t)) (Done (start_of t h q) (length_of h q))
+  section-early q a = d.early b a (number_checks q h.levels ++ section_checks (way_to t h q) (length t)) (told (start_of t h q) (length_of h q))
 
   -- cut after it
   module _ (c : z ≤ b) (e : b ≤ file_size z (width_of f) l n) where
@@ -116,32 +117,32 @@ module _ {z : ℕ} {f : Filter} {l n p : ℕ} {x s : List ℕ} (d : Filed z f l 
     start_is q some most up = ap₂ (λ (v : Way) (m : ℕ). end_by v - m) (went q some most up) (length-is q)
 
     -- section 0 and the number let by
-    by_number : (q : ℕ) → 1 ≤ q → q ≤ l + 1 → (m : List Check) (w : Refusal) → first_refusal (head_checks t k p ++ (number_checks q h.levels ++ m)) w ≡ first_refusal m w
+    by_number : (q : ℕ) → 1 ≤ q → q ≤ l + 1 → (m : List Check) (w : Outcome) → first_refusal (head_checks t k p ++ (number_checks q h.levels ++ m)) w ≡ first_refusal m w
     by_number q some most m w =
         let el = ap (λ (i : Head). i.levels) (d.head b c) in
         pass_on (head_checks t k p) (number_checks q h.levels ++ m) w (d.passes b c e)
         ∙ pass_on (number_checks q h.levels) m w (ne_eqb q 0 (λ z. omega arith), (le-ltb (h.levels + 1) q (omega arith), tt))
 
     -- a section that is whole is found
-    pub section-found : (q : ℕ) → 1 ≤ q → q ≤ l + 1 → size_through z k l n q ≤ b → say_section t k p q ≡ Done (start_of t h q) (length_of h q)
+    pub section-found : (q : ℕ) → 1 ≤ q → q ≤ l + 1 → size_through z k l n q ≤ b → say_section t k p q ≡ told (start_of t h q) (length_of h q)
     unfolding say_section
     section-found q some most up =
-        let end = Done (start_of t h q) (length_of h q) in
+        let end = told (start_of t h q) (length_of h q) in
         by_number q some most (section_checks (way_to t h q) (length t)) end ∙ ap (λ (v : Way). first_refusal (section_checks v (length t)) end) (went q some most up)
 
     -- "a cut at or before it is 10"
-    pub section-cut : (q : ℕ) → 1 ≤ q → q ≤ l + 1 → b < size_through z k l n q → say_section t k p q ≡ CutShort b
+    pub section-cut : (q : ℕ) → 1 ≤ q → q ≤ l + 1 → b < size_through z k l n q → say_section t k p q ≡ Err (CutShort b)
     unfolding say_section
     section-cut q some most up =
         let m = count_at (l + 1 - q) n in
         let j = b - z in
-        let end = Done (start_of t h q) (length_of h q) in
+        let end = told (start_of t h q) (length_of h q) in
         by_number q some most (section_checks (way_to t h q) (length t)) end
         ∙ ⊎_elim
         (λ (a : j < body_size k 0 (count_at (q - 1) m)). short-stops (way_to t h q) 1 (length t) end (way-to q some most ∙ within_none k (q - 1) m z j a))
         (λ (a : body_size k 0 (count_at (q - 1) m) ≤ j). short-stops (way_to t h q) (whole_in k (q - 1) m j + 2) (length t) end (way-to q some most ∙ within-short k (q - 1) m z j a (omega arith)))
         (lt-or-le j (body_size k 0 (count_at (q - 1) m)))
-        ∙ ap CutShort (cut-length d b e)
+        ∙ ap (λ (n : ℕ). Err (CutShort n)) (cut-length d b e)
 
     -- section 1 is the deepest approximations
     pub section-approx : size_through z k l n 1 ≤ b → take (length_of h 1) (drop (start_of t h 1) t) ≡ approx_at f l x

@@ -7,8 +7,7 @@ use native.Mathlib.Omega.{arith}
 use borrow.Author.Tests.{ne_eqb}
 use lib.ListN.{length}
 use Rattle.base_answers.specs.declared.err.Answer.{Answer}
-use Rattle.base_answers.specs.declared.err.Refusal.TheVariants.{Done}
-use Rattle.base_answers.specs.Answers.{say, answer_of}
+use Rattle.base_answers.specs.Answers.{told, say, answer_of}
 use Rattle.base_lengths.specs.declared.Wavelet.TheVariants.{Cdf53}
 use Rattle.base_lengths.specs.Lengths.{most_samples}
 use Rattle.base_lengths.specs.Levels.{depth_of, levels_of}
@@ -36,7 +35,7 @@ pub demand3-levels : (f : Filter) → Integers f → (l n p rate : ℕ) → leve
 demand3-levels f i l n p rate deep most hp some hr x bx size b u v file first second a b' u' v' w =
     let k = width_of f in
     let en : length x / k ≡ n = count-is k n (length x) (width-pos f) size in
-    let says : say_write f l rate (length x) (length b) (length u) (length v) ≡ Done 0 0 =
+    let says : say_write f l rate (length x) (length b) (length u) (length v) ≡ told 0 0 =
     write-fits f l n rate (length u / k) (length v / k) (length x) (length b) (length u) (length v) (lent-ready f i l n deep most x u v size first second) file some first.samples second.samples in
     let done : a ≡ say 0 0 0 = w.answer ∙ ap answer_of says in
     let z : a.number ≡ 0 = ap (λ (q : Answer). q.number) done in

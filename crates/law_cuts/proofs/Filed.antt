@@ -6,7 +6,8 @@ use Prim.Native.Nat.{ℕ, ◌+◌, ◌-◌, ◌*◌, ◌^◌, ◌≤◌, ◌<◌
 use native.Mathlib.Omega.{arith}
 use lib.ListN.{length, take}
 use lib.Seq.{length-take-le, take-append-add}
-use Rattle.base_answers.specs.declared.err.Refusal.{Refusal}
+use Rattle.std.specs.Prelude.{Err}
+use Rattle.base_answers.specs.Answers.{Outcome}
 use Rattle.base_answers.specs.declared.err.Refusal.TheVariants.{CutShort}
 use Rattle.base_answers.specs.Checks.{Check, first_refusal}
 use Rattle.base_answers.proofs.Passed.{Passing}
@@ -41,7 +42,7 @@ pub record Filed (z : ℕ) (f : Filter) (l n p : ℕ) (x s : List ℕ) : Type 0 
   pub head : (b : ℕ) → z ≤ b → head_in (take b s) ≡ record { width = width_of f; levels = l; samples = n; point = p; body = z }
   pub passes : (b : ℕ) → z ≤ b → b ≤ file_size z (width_of f) l n → Passing (head_checks (take b s) (width_of f) p)
   -- cut in section 0 it is 10, whatever else is checked
-  pub early : (b : ℕ) → b < z → (m : List Check) (e : Refusal) → first_refusal (head_checks (take b s) (width_of f) p ++ m) e ≡ CutShort b
+  pub early : (b : ℕ) → b < z → (m : List Check) (e : Outcome) → first_refusal (head_checks (take b s) (width_of f) p ++ m) e ≡ Err (CutShort b)
 
 module _ {z : ℕ} {f : Filter} {l n p : ℕ} {x s : List ℕ} (d : Filed z f l n p x s) where
   -- what is left of a file that was cut after section 0: section 0, and of the rest so many bytes less

@@ -5,10 +5,10 @@ use mathlib.Core.Path.{◌≡◌, sym, ap, subst, ◌∙◌}
 use Prim.Native.Nat.{ℕ, ◌/◌, ◌^◌, ◌≤◌, ◌<◌}
 use native.Mathlib.Omega.{arith}
 use lib.ListN.{length, take}
+use Rattle.std.specs.Prelude.{Err}
 use Rattle.base_answers.specs.declared.err.Answer.{Answer}
-use Rattle.base_answers.specs.declared.err.Refusal.{Refusal}
-use Rattle.base_answers.specs.declared.err.Refusal.TheVariants.{Done, CutShort}
-use Rattle.base_answers.specs.Answers.{say, answer_of, done}
+use Rattle.base_answers.specs.declared.err.Refusal.TheVariants.{CutShort}
+use Rattle.base_answers.specs.Answers.{Outcome, told, say, answer_of, done}
 use Rattle.base_answers.specs.Checks.{Check, first_refusal}
 use Rattle.base_answers.proofs.Endings.{is-done}
 use Rattle.base_lengths.specs.Levels.{levels_of}
@@ -53,8 +53,8 @@ pub early-told : {f : Filter} {l n p : ℕ} {x : List ℕ} (d : Recording f l n 
 unfolding say_head
 early-told {f} {l} {n} {p} {x} d {rate} hr c h t m =
     let s = take c (file_of f l p rate x) in
-    let e : say_head s ≡ CutShort c = ap (λ (q : List Check). first_refusal q (Done 0 0)) (sym (append-nil (start_checks s))) ∙ early d hr c h [] (Done 0 0) in
-    let none : (q : ℕ) → told_of s q ≡ 0 = λ q. ap (λ (r : Refusal). cond (done r) q 0) e in
+    let e : say_head s ≡ Err (CutShort c) = ap (λ (q : List Check). first_refusal q (told 0 0)) (sym (append-nil (start_checks s))) ∙ early d hr c h [] (told 0 0) in
+    let none : (q : ℕ) → told_of s q ≡ 0 = λ q. ap (λ (r : Outcome). cond (done r) q 0) e in
     let g = head_in s in (
       m.answer ∙ ap answer_of e,
       record {

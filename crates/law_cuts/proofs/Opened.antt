@@ -7,8 +7,7 @@ use Prim.Native.Nat.{ℕ, ◌*◌, ◌≤◌, ◌<◌}
 use native.Mathlib.Omega.{arith}
 use lib.ListN.{length, take, drop, drop_of_length-le}
 use Rattle.base_answers.specs.declared.err.Answer.{Answer}
-use Rattle.base_answers.specs.declared.err.Refusal.{Refusal}
-use Rattle.base_answers.specs.Answers.{say, answer_of}
+use Rattle.base_answers.specs.Answers.{Outcome, say, answer_of}
 use Rattle.base_answers.specs.Checks.{left}
 use Rattle.base_order.proofs.Order.{lt-or-le}
 use Rattle.base_lengths.specs.Levels.{after_levels, count_at}
@@ -33,7 +32,7 @@ module _ {z : ℕ} {f : Filter} {l n p : ℕ} {x s : List ℕ} (d : Filed z f l 
   abbrev j : ℕ
   j = level_left z k l n c
 
-  abbrev output_by : Refusal → List ℕ
+  abbrev output_by : Outcome → List ℕ
   output_by m = left m (samples_in (take c s) ++ drop (k * count_in (take c s)) o) o
 
   -- cut in section 0 or 1, opening says 10 and leaves the output as it was

@@ -8,9 +8,10 @@ use native.Mathlib.Omega.{arith}
 use borrow.Author.Tests.{ne_eqb}
 use lib.IntN.{pos}
 use lib.ListN.{length, take}
+use Rattle.std.specs.Prelude.{Err}
 use Rattle.base_answers.specs.declared.err.Answer.{Answer}
-use Rattle.base_answers.specs.declared.err.Refusal.TheVariants.{Done, CutShort}
-use Rattle.base_answers.specs.Answers.{say, answer_of, done}
+use Rattle.base_answers.specs.declared.err.Refusal.TheVariants.{CutShort}
+use Rattle.base_answers.specs.Answers.{told, say, answer_of, done}
 use Rattle.base_answers.specs.Checks.{outside}
 use Rattle.base_answers.proofs.Passed.{through}
 use Rattle.base_order.proofs.Order.{lt-or-le}
@@ -51,12 +52,12 @@ module _ {z : ℕ} {f : Filter} {l n p : ℕ} {x s : List ℕ} (d : Filed z f l 
   below : c < needed z k l n → (q.answer ≡ say 10 c 0) × (q.sample ≡ pos 0)
   unfolding say_peek
   below e =
-      let h : say_peek (take c s) k p j ≡ CutShort c = file-short d c e (outside j (count_in (take c s)) ∷ []) (Done 0 0) in
+      let h : say_peek (take c s) k p j ≡ Err (CutShort c) = file-short d c e (outside j (count_in (take c s)) ∷ []) (told 0 0) in
       (m.answer ∙ ap answer_of h, m.sample ∙ peek-none (take c s) k p j (ap done h))
 
-  taken : needed z k l n ≤ c → say_file (take c s) k p ≡ Done (level_in (take c s)) (count_in (take c s))
+  taken : needed z k l n ≤ c → say_file (take c s) k p ≡ told (level_in (take c s)) (count_in (take c s))
   unfolding say_file
-  taken e = through (file_checks (take c s) k p) (Done (level_in (take c s)) (count_in (take c s))) (file-passes d c e most)
+  taken e = through (file_checks (take c s) k p) (told (level_in (take c s)) (count_in (take c s))) (file-passes d c e most)
 
   within : needed z k l n ≤ c → j < count_at i n → (q.answer ≡ say 0 0 0) × (q.sample ≡ val (256 ^ k) (word_at k (approx_at f i x) j))
   within e h =

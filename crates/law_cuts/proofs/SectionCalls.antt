@@ -8,8 +8,7 @@ use native.Mathlib.Nat.{mul-le-mul_left}
 use native.Mathlib.Omega.{arith}
 use lib.ListN.{length, take, drop}
 use Rattle.base_answers.specs.declared.err.Answer.{Answer}
-use Rattle.base_answers.specs.declared.err.Refusal.{Refusal}
-use Rattle.base_answers.specs.Answers.{done}
+use Rattle.base_answers.specs.Answers.{Outcome, done}
 use Rattle.base_answers.proofs.Endings.{is-done}
 use Rattle.base_lengths.specs.Lengths.{details_length}
 use Rattle.base_lengths.specs.Levels.{count_at, levels_of}
@@ -46,7 +45,7 @@ module _ {z : ℕ} {f : Filter} {l n p : ℕ} {x s : List ℕ} (d : Filed z f l 
   found-bytes q some most up =
       let t = take c s in
       let h = head_in t in
-      ap (λ (r : Refusal). cond (done r) (take (length_of h q) (drop (start_of t h q) t)) []) (section-found d c (headed q up) e q some most up)
+      ap (λ (r : Outcome). cond (done r) (take (length_of h q) (drop (start_of t h q) t)) []) (section-found d c (headed q up) e q some most up)
 
   -- section 1 is the deepest approximations, and section 1 + j the details of level L + 1 - j, of a file of either kind
   pub file-first : size_through z (width_of f) l n 1 ≤ c → section_in (take c s) (width_of f) p 1 ≡ approx_at f l x

@@ -10,8 +10,9 @@ use native.Mathlib.Omega.{arith}
 use borrow.Author.Tests.{le-ltb, ne_eqb}
 use lib.Dec.{ltb}
 use lib.ListN.{length, take, length-append}
-use Rattle.base_answers.specs.declared.err.Refusal.{Refusal}
-use Rattle.base_answers.specs.declared.err.Refusal.TheVariants.{Done, CutShort}
+use Rattle.std.specs.Prelude.{Err}
+use Rattle.base_answers.specs.declared.err.Refusal.TheVariants.{CutShort}
+use Rattle.base_answers.specs.Answers.{Outcome, told}
 use Rattle.base_answers.specs.Checks.{Check, first_refusal}
 use Rattle.base_order.proofs.Order.{lt-or-le}
 use Rattle.base_answers.proofs.Passed.{Passing, pass-both, through, pass_on}
@@ -109,7 +110,7 @@ module _ {z : ℕ} {f : Filter} {l n p : ℕ} {x s : List ℕ} (d : Filed z f l 
       (restored-cut f r.integers l n x d.front [] j r.bytes r.size (own-depth f r.integers l n r.deep) (omega arith)))
 
   -- cut in section 0 or 1: "10", whatever is checked after the file
-  pub file-short : (b : ℕ) → b < needed z k l n → (m : List Check) (e : Refusal) → first_refusal (file_checks (take b s) k p ++ m) e ≡ CutShort b
+  pub file-short : (b : ℕ) → b < needed z k l n → (m : List Check) (e : Outcome) → first_refusal (file_checks (take b s) k p ++ m) e ≡ Err (CutShort b)
   file-short b c m e =
       let t = take b s in
       let heads = head_checks t k p in
@@ -121,7 +122,7 @@ module _ {z : ℕ} {f : Filter} {l n p : ℕ} {x s : List ℕ} (d : Filed z f l 
       (λ (h : z ≤ b).
       pass_on heads (ways ++ m) e (d.passes b h most)
       ∙ ap (λ (y : Way). first_refusal (way_checks y (length t) ++ m) e) (way-is b h most ∙ within_none k l n z (b - z) (omega arith))
-      ∙ ap CutShort (cut-length d b most))
+      ∙ ap (λ (n : ℕ). Err (CutShort n)) (cut-length d b most))
       (lt-or-le b z)
 
   -- cut later, or not at all, the file passes
@@ -129,24 +130,24 @@ module _ {z : ℕ} {f : Filter} {l n p : ℕ} {x s : List ℕ} (d : Filed z f l 
   file-passes b c e = let t = take b s in pass-both (head_checks t k p) (way_checks (way_in t (head_in t)) (length t)) (d.passes b (omega arith) e) (way-passes b c e)
 
   module _ {o u v : ℕ} (a : Sampled (width_of f) o u v) where
-    areas-by : (m : List Check) (e : Refusal) → first_refusal (area_checks k o u v ++ m) e ≡ first_refusal m e
+    areas-by : (m : List Check) (e : Outcome) → first_refusal (area_checks k o u v ++ m) e ≡ first_refusal m e
     areas-by m e = pass_on (area_checks k o u v) m e (whole-areas-pass k o u v (λ _. (a.output, a.first, a.second)))
 
     -- cut in section 0 or 1: "10"
-    pub cut_short : (b : ℕ) → b < needed z k l n → say_open (take b s) k p o u v ≡ CutShort b
+    pub cut_short : (b : ℕ) → b < needed z k l n → say_open (take b s) k p o u v ≡ Err (CutShort b)
     unfolding say_open
     cut_short b c = let t = take b s in let rooms = rooms_for k (count_in t) o u v in areas-by (file_checks t k p ++ rooms) _ ∙ file-short b c rooms _
 
     -- cut later, or not at all: nothing but the room decides
     pub rooms-decide : (b : ℕ) → needed z k l n ≤ b → b ≤ file_size z k l n
-        → let i = level_left z k l n b in say_open (take b s) k p o u v ≡ first_refusal (rooms_for k (count_at i n) o u v) (Done i (count_at i n))
+        → let i = level_left z k l n b in say_open (take b s) k p o u v ≡ first_refusal (rooms_for k (count_at i n) o u v) (told i (count_at i n))
     unfolding say_open
     rooms-decide b c e =
         let t = take b s in
         let rooms = rooms_for k (count_in t) o u v in
         areas-by (file_checks t k p ++ rooms) _
         ∙ pass_on (file_checks t k p) rooms _ (file-passes b c e)
-        ∙ ap₂ (λ (i j : ℕ). first_refusal (rooms_for k j o u v) (Done i j)) (level-is b c e) (count_left b c e)
+        ∙ ap₂ (λ (i j : ℕ). first_refusal (rooms_for k j o u v) (told i j)) (level-is b c e) (count_left b c e)
 
     -- with room for the level that the whole sections reach: that level, and just its approximations
     pub survives : (b : ℕ) → needed z k l n ≤ b → b ≤ file_size z k l n
@@ -154,6 +155,6 @@ module _ {z : ℕ} {f : Filter} {l n p : ℕ} {x s : List ℕ} (d : Filed z f l 
     survives b c e g =
         let i = level_left z k l n b in
         record {
-          says = rooms-decide b c e ∙ through (rooms_for k (count_at i n) o u v) (Done i (count_at i n)) (rooms-pass k (count_at i n) o u v (width-pos f) g);
+          says = rooms-decide b c e ∙ through (rooms_for k (count_at i n) o u v) (told i (count_at i n)) (rooms-pass k (count_at i n) o u v (width-pos f) g);
           samples = samples-are b c e;
         }

@@ -6,7 +6,8 @@ use native.Mathlib.Omega.{arith}
 use native.Mathlib.Nat.{le_of_mul-le-mul_left}
 use borrow.Author.Tests.{le-ltb, ne_eqb}
 use lib.Dec.{eqb}
-use Rattle.base_answers.specs.declared.err.Refusal.TheVariants.{Done, NoRate}
+use Rattle.base_answers.specs.declared.err.Refusal.TheVariants.{NoRate}
+use Rattle.base_answers.specs.Answers.{told}
 use Rattle.base_answers.specs.Checks.{ragged}
 use Rattle.base_answers.proofs.Passed.{through}
 use Rattle.base_lengths.specs.Lengths.{most_samples}
@@ -21,14 +22,14 @@ use Rattle.file_open.specs.Writes.{write_checks, say_write}
 
 -- n samples that have the levels, a rate, a file area of b bytes with room for the file, and work areas of p and q samples
 pub write-fits : (f : Filter) (l n rate p q x b u v : ℕ) → Ready f (levels_of l) n x u v → file_size new_size (width_of f) (levels_of l) n ≤ b → 1 ≤ rate → u ≡ width_of f * p → v ≡ width_of f * q
-    → say_write f l rate x b u v ≡ Done 0 0
+    → say_write f l rate x b u v ≡ told 0 0
 unfolding say_write
 write-fits f l n rate p q x b u v r room some eu ev =
     let k = width_of f in
     let kp = width-pos f in
     let up : n ≤ p = le_of_mul-le-mul_left (rw eu at r.first) kp in
     let vp : n ≤ q = le_of_mul-le-mul_left (rw ev at r.second) kp in
-    through (ragged k x ∷ ragged k u ∷ ragged k v ∷ (eqb rate 0, NoRate) ∷ write_checks f l (x / k) b (u / k) (v / k)) (Done 0 0)
+    through (ragged k x ∷ ragged k u ∷ ragged k v ∷ (eqb rate 0, NoRate) ∷ write_checks f l (x / k) b (u / k) (v / k)) (told 0 0)
     (rw (count-is k n x kp r.whole, count-is k p u kp eu, count-is k q v kp ev) (
       whole-passes k n x r.whole,
       (

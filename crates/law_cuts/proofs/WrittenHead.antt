@@ -9,7 +9,8 @@ use borrow.Author.Tests.{lt-ltb, le-ltb, ne_eqb}
 use lib.Dec.{eqb}
 use lib.ListN.{length, take, length-append}
 use lib.Seq.{length-take-le, take-append-add}
-use Rattle.base_answers.specs.declared.err.Refusal.{Refusal}
+use Rattle.std.specs.Prelude.{Err}
+use Rattle.base_answers.specs.Answers.{Outcome}
 use Rattle.base_answers.specs.declared.err.Refusal.TheVariants.{CutShort}
 use Rattle.base_answers.specs.Checks.{Check, first_refusal}
 use Rattle.base_answers.proofs.Chain.{by, stop, same}
@@ -150,16 +151,16 @@ module _ {f : Filter} {l n p : ℕ} {x : List ℕ} (d : Recording f l n p x) {ra
       subst (λ (t : List ℕ). Passing (head_checks t (width_of f) p)) (sym (cut-is b c)) (head-pass d hr rest short)
 
   -- cut in section 0: 10, whatever is checked after the start
-  pub early : (b : ℕ) → b < head_size rate → (m : List Check) (e : Refusal) → first_refusal (start_checks (take b s) ++ m) e ≡ CutShort b
+  pub early : (b : ℕ) → b < head_size rate → (m : List Check) (e : Outcome) → first_refusal (start_checks (take b s) ++ m) e ≡ Err (CutShort b)
   early b h m e =
       let t = take b s in
       let all = cut-long b (omega arith) in
       let limit = le-ltb most_bytes (length t) (omega (arith, most)) in
       ⊎_elim
-      (λ (few : b < 4). sym (by _ limit (stop _ (lt-ltb (length t) 4 (omega arith)) (ap CutShort (sym all)))))
+      (λ (few : b < 4). sym (by _ limit (stop _ (lt-ltb (length t) 4 (omega arith)) (ap (λ (n : ℕ). Err (CutShort n)) (sym all)))))
       (λ (c : 4 ≤ b).
       let known = ap not (ap is_count (count-read b c) ∙ count-known rate) in
-      sym (by _ limit (by _ (le-ltb (length t) 4 (omega arith)) (by _ known (stop _ (lt-ltb (length t) (head_in t).body (omega (arith, all, count-read b c))) (ap CutShort (sym all)))))))
+      sym (by _ limit (by _ (le-ltb (length t) 4 (omega arith)) (by _ known (stop _ (lt-ltb (length t) (head_in t).body (omega (arith, all, count-read b c))) (ap (λ (n : ℕ). Err (CutShort n)) (sym all)))))))
       (lt-or-le b 4)
 
   pub filed : Filed (head_size rate) f l n p x s

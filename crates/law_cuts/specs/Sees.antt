@@ -2,8 +2,7 @@
 -- z bytes of section 0, k bytes a sample, l levels and n samples.
 use Rattle.std.specs.Prelude.{cond, List, [], ◌∷◌, ◌++◌, ◌≡◌, ℕ, zero, suc, ◌+◌, ◌-◌, ◌*◌, ◌%◌, ◌^◌, ◌≤◌, ◌<◌, leb, pos, length, take, drop}
 use Rattle.base_answers.specs.declared.err.Answer.{Answer}
-use Rattle.base_answers.specs.declared.err.Refusal.TheVariants.{Done}
-use Rattle.base_answers.specs.Answers.{say}
+use Rattle.base_answers.specs.Answers.{told, say}
 use Rattle.base_lengths.specs.Lengths.{approx_length}
 use Rattle.base_lengths.specs.Levels.{count_at}
 use Rattle.base_samples.specs.Words.{word_at}
@@ -72,7 +71,7 @@ pub record Roomy (k c o u v : ℕ) : Type 0 where
 
 -- what opening s is to give: the level, that many samples, and which
 pub record OpensTo (s : List ℕ) (k p o u v level count : ℕ) (x : List ℕ) : Type 0 where
-  pub says : say_open s k p o u v ≡ Done level count
+  pub says : say_open s k p o u v ≡ told level count
   pub samples : samples_in s ≡ x
 
 -- ---- demand 3

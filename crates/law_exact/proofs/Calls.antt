@@ -8,8 +8,7 @@ use native.Mathlib.Omega.{arith}
 use lib.Ieee.{Format, binary32, binary64, prec}
 use lib.ListN.{length}
 use Rattle.base_answers.specs.declared.err.Answer.{Answer}
-use Rattle.base_answers.specs.declared.err.Refusal.TheVariants.{Done}
-use Rattle.base_answers.specs.Answers.{answer_of, done}
+use Rattle.base_answers.specs.Answers.{told, answer_of, done}
 use Rattle.base_lengths.specs.Levels.{depth_of, levels_of}
 use Rattle.base_samples.specs.Floats.{decode_floats}
 use Rattle.levels_filter.specs.declared.filter.Filter.TheVariants.{Cdf53F32, Cdf53F64}
@@ -44,7 +43,7 @@ module _ (f : Format) (l : ℕ) (x : List ℕ) {o u v : List ℕ} {r : Answer} {
     (back : MultiBack (filter53 f) (deepest f (levels_of l) x o') (all_details f (levels_of l) x o') ls p s t q p' s' t')
   where
     -- it is done, and each of the two gives what the exact case promises
-    pub exact-call : 4 * levels_of l ≤ prec f → Inputs (most f (levels_of l)) (decode_floats f x) → (q ≡ answer_of (Done 0 0)) × ExactBytes f (levels_of l) x o' p'
+    pub exact-call : 4 * levels_of l ≤ prec f → Inputs (most f (levels_of l)) (decode_floats f x) → (q ≡ answer_of (told 0 0)) × ExactBytes f (levels_of l) x o' p'
     exact-call few inputs = (
       trip.0,
       record {
@@ -63,7 +62,7 @@ module _ (f : Format) (l : ℕ) (x : List ℕ) {o u v : List ℕ} {r : Answer} {
         is_exact : Exact f (levels_of l) (decode_floats f x) (numbers_in f x)
         is_exact = samples-exact f (levels_of l) x deep.0 few inputs
 
-        trip : (q ≡ answer_of (Done 0 0)) × (p' ≡ round_trip (filter53 f) (levels_of l) x)
+        trip : (q ≡ answer_of (told 0 0)) × (p' ≡ round_trip (filter53 f) (levels_of l) x)
         trip = trip-call (filter53 f) l x call is_done lengths output first second back
 
 -- ---- in document 01's numbers
@@ -73,7 +72,7 @@ pub exact32-call : (l : ℕ) (x : List ℕ) {o u v : List ℕ} {r : Answer} {o' 
     → done (say_multi Cdf53F32 l (length x) (length o) (length u) (length v)) ≡ true → {ls p s t : List ℕ} {q : Answer} {p' s' t' : List ℕ}
     → LengthsIn (levels_of l) (length x / 4) ls → length p ≡ length x → Area 4 (length x) s → Area 4 (length x) t
     → MultiBack Cdf53F32 (deepest binary32 (levels_of l) x o') (all_details binary32 (levels_of l) x o') ls p s t q p' s' t'
-    → levels_of l ≤ 6 → Inputs (2 ^ (24 - 4 * levels_of l)) (decode_floats binary32 x) → (q ≡ answer_of (Done 0 0)) × ExactBytes binary32 (levels_of l) x o' p'
+    → levels_of l ≤ 6 → Inputs (2 ^ (24 - 4 * levels_of l)) (decode_floats binary32 x) → (q ≡ answer_of (told 0 0)) × ExactBytes binary32 (levels_of l) x o' p'
 exact32-call l x call is_done lengths output first second back few = exact-call binary32 l x call is_done lengths output first second back (omega arith)
 
 -- f64: up to 13 levels of inputs of size at most 2 ^ (53 - 4 L)
@@ -81,5 +80,5 @@ pub exact64-call : (l : ℕ) (x : List ℕ) {o u v : List ℕ} {r : Answer} {o' 
     → done (say_multi Cdf53F64 l (length x) (length o) (length u) (length v)) ≡ true → {ls p s t : List ℕ} {q : Answer} {p' s' t' : List ℕ}
     → LengthsIn (levels_of l) (length x / 8) ls → length p ≡ length x → Area 8 (length x) s → Area 8 (length x) t
     → MultiBack Cdf53F64 (deepest binary64 (levels_of l) x o') (all_details binary64 (levels_of l) x o') ls p s t q p' s' t'
-    → levels_of l ≤ 13 → Inputs (2 ^ (53 - 4 * levels_of l)) (decode_floats binary64 x) → (q ≡ answer_of (Done 0 0)) × ExactBytes binary64 (levels_of l) x o' p'
+    → levels_of l ≤ 13 → Inputs (2 ^ (53 - 4 * levels_of l)) (decode_floats binary64 x) → (q ≡ answer_of (told 0 0)) × ExactBytes binary64 (levels_of l) x o' p'
 exact64-call l x call is_done lengths output first second back few = exact-call binary64 l x call is_done lengths output first second back (omega arith)

@@ -4,8 +4,7 @@ use Rattle.std.specs.Prelude.{true, List, map, ◌≡◌, ℕ, zero, suc, ◌-�
 use Rattle.std.specs.Float.{nan, Format, binary32, binary64}
 use Rattle.std.specs.Float.Ieee.{prec, eq}
 use Rattle.base_answers.specs.declared.err.Answer.{Answer}
-use Rattle.base_answers.specs.declared.err.Refusal.TheVariants.{Done}
-use Rattle.base_answers.specs.Answers.{answer_of, done}
+use Rattle.base_answers.specs.Answers.{told, answer_of, done}
 use Rattle.base_lengths.specs.declared.Wavelet.TheVariants.{Cdf53}
 use Rattle.base_lengths.specs.Lengths.{details_length}
 use Rattle.base_lengths.specs.Levels.{after_levels, there_and_back, count_at, levels_of}
@@ -93,7 +92,7 @@ pub record SameNumbers (f : Format) (x p : List ℕ) : Type 0 where
 pub record ExactOne (f : Format) (x a d : List ℕ) : Type 0 where
   pub bands-are : ExactLevel f 1 x a d
   -- the inverse on them, into an output as long as x, is done and gives the inputs back
-  pub back : {o : List ℕ} {q : Answer} {o' : List ℕ} → length o ≡ length x → OneInverse (filter53 f) a d o q o' → (q ≡ answer_of (Done 0 0)) × SameNumbers f x o'
+  pub back : {o : List ℕ} {q : Answer} {o' : List ℕ} → length o ≡ length x → OneInverse (filter53 f) a d o q o' → (q ≡ answer_of (told 0 0)) × SameNumbers f x o'
 
 -- many levels: y is what `multi_dwt` gave of x, and p what `multi_idwt` gave of y
 pub record ExactBytes (f : Format) (levels : ℕ) (x y p : List ℕ) : Type 0 where

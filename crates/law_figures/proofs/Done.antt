@@ -6,9 +6,7 @@ use native.Mathlib.Nat.{mul-mod_right}
 use native.Mathlib.Omega.{arith}
 use lib.ListN.{length}
 use Rattle.base_answers.specs.declared.err.Answer.{Answer}
-use Rattle.base_answers.specs.declared.err.Refusal.{Refusal}
-use Rattle.base_answers.specs.declared.err.Refusal.TheVariants.{Done}
-use Rattle.base_answers.specs.Answers.{answer_of}
+use Rattle.base_answers.specs.Answers.{Outcome, told, answer_of}
 use Rattle.base_lengths.specs.declared.Wavelet.{Wavelet}
 use Rattle.base_lengths.specs.declared.Wavelet.TheVariants.{Cdf53, Cdf97}
 use Rattle.base_lengths.specs.Lengths.{smallest_of}
@@ -31,7 +29,7 @@ use Rattle.law_cuts.proofs.WriteFits.{write-fits}
 use Rattle.law_figures.specs.ShutOut.{Long, two_four, EachDone}
 
 -- the number of a done answer
-pub number_of : {r : Answer} {s : Refusal} {a b : ℕ} → r ≡ answer_of s → s ≡ Done a b → r.number ≡ 0
+pub number_of : {r : Answer} {s : Outcome} {a b : ℕ} → r ≡ answer_of s → s ≡ told a b → r.number ≡ 0
 number_of e h = ap (λ (q : Answer). q.number) (e ∙ ap answer_of h)
 
 -- eight samples are long enough for each wavelet, and have two levels

@@ -9,6 +9,7 @@ use native.Mathlib.Omega.{arith}
 use borrow.Author.Tests.{le-leb, lt-leb}
 use lib.ListN.{get_or, take}
 use lib.Seq.{take_all}
+use Rattle.std.specs.Prelude.{Err}
 use Rattle.base_answers.specs.declared.err.Answer.{Answer}
 use Rattle.base_answers.specs.declared.err.Refusal.TheVariants.{CutShort}
 use Rattle.base_answers.specs.Answers.{done}
@@ -84,7 +85,7 @@ module _ (rate : ℕ) (hr : rate < 2 ^ 32) where
       subst (λ (i : ℕ). OpensTo (take b s) 1 14 5 5 5 (2 - i) (count_at (2 - i) 5) (approx_at Cdf53I8 (2 - i) five)) q
       (survives (filed recording hr) sampled b c e (subst (λ (i : ℕ). Roomy 1 (count_at (2 - i) 5) 5 5 5) (sym q) (room (count_at (2 - m) 5) h)))
 
-  below : (b : ℕ) → b < z + 6 → say_open (take b s) 1 14 5 5 5 ≡ CutShort b
+  below : (b : ℕ) → b < z + 6 → say_open (take b s) 1 14 5 5 5 ≡ Err (CutShort b)
   unfolding after_levels
   below b h = cut_short (filed recording hr) sampled b h
 
@@ -118,7 +119,7 @@ pub p6-to-p10 : File
 p6-to-p10 =
     record {
       p6 = file;
-      p7 = λ b h. subst (λ (s : List ℕ). say_open (take b s) 1 14 5 5 5 ≡ CutShort b) file (below 0 (omega arith) b (omega arith));
+      p7 = λ b h. subst (λ (s : List ℕ). say_open (take b s) 1 14 5 5 5 ≡ Err (CutShort b)) file (below 0 (omega arith) b (omega arith));
       p8 = λ b h g. subst (λ (s : List ℕ). OpensTo (take b s) 1 14 5 5 5 2 2 (255 ∷ 3 ∷ [])) file (level2 0 (omega arith) b h g);
       p9 = λ b h g. subst (λ (s : List ℕ). OpensTo (take b s) 1 14 5 5 5 1 3 (3 ∷ 253 ∷ 7 ∷ [])) file (level1 0 (omega arith) b h g);
       p10 = subst (λ (s : List ℕ). OpensTo s 1 14 5 5 5 0 5 five) file (whole 0 (omega arith));
@@ -129,7 +130,7 @@ pub new-file : NewFile
 new-file =
     record {
       bytes = new-bytes;
-      cut = λ b h. subst (λ (s : List ℕ). say_open (take b s) 1 14 5 5 5 ≡ CutShort b) new-bytes (below 1000 (omega arith) b (omega arith));
+      cut = λ b h. subst (λ (s : List ℕ). say_open (take b s) 1 14 5 5 5 ≡ Err (CutShort b)) new-bytes (below 1000 (omega arith) b (omega arith));
       level2 = λ b h g. subst (λ (s : List ℕ). OpensTo (take b s) 1 14 5 5 5 2 2 (255 ∷ 3 ∷ [])) new-bytes (level2 1000 (omega arith) b h g);
       level1 = λ b h g. subst (λ (s : List ℕ). OpensTo (take b s) 1 14 5 5 5 1 3 (3 ∷ 253 ∷ 7 ∷ [])) new-bytes (level1 1000 (omega arith) b h g);
       whole = subst (λ (s : List ℕ). OpensTo s 1 14 5 5 5 0 5 five) new-bytes (whole 1000 (omega arith));

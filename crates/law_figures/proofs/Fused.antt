@@ -6,7 +6,7 @@ use native.Mathlib.Omega.{arith}
 use lib.ListN.{get_or}
 use lib.Ieee.{add, mul, round, of_bits, to_bits}
 use Rattle.base_answers.specs.declared.err.Answer.{Answer}
-use Rattle.base_answers.specs.declared.err.Refusal.TheVariants.{Done}
+use Rattle.base_answers.specs.Answers.{told}
 use Rattle.base_answers.specs.Checks.{left}
 use Rattle.base_lengths.specs.declared.Wavelet.TheVariants.{Cdf97}
 use Rattle.base_lengths.specs.Calls.{say_forward}
@@ -29,7 +29,7 @@ stored = 0xF3 ∷ 0x04 ∷ 0x35 ∷ 0x3F ∷ 0xF3 ∷ 0x04 ∷ 0x35 ∷ 0x3F ∷
 abbrev otherwise : List ℕ
 otherwise = 0xF4 ∷ 0x04 ∷ 0x35 ∷ 0x3F ∷ 0xF4 ∷ 0x04 ∷ 0x35 ∷ 0x3F ∷ []
 
-says-floats : say_forward Cdf97 4 16 8 8 ≡ Done 0 0
+says-floats : say_forward Cdf97 4 16 8 8 ≡ told 0 0
 unfolding say_forward
 says-floats = refl
 

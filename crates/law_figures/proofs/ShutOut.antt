@@ -6,10 +6,10 @@ use native.Mathlib.Omega.{arith}
 use mathlib.Core.Bool.{true}
 use lib.IntN.{pos}
 use lib.ListN.{get_or, take, drop}
+use Rattle.std.specs.Prelude.{Err}
 use Rattle.base_answers.specs.declared.err.Answer.{Answer}
-use Rattle.base_answers.specs.declared.err.Refusal.{Refusal}
-use Rattle.base_answers.specs.declared.err.Refusal.TheVariants.{Done, MinFilterSize, BufferWasTooSmallForLevel}
-use Rattle.base_answers.specs.Answers.{say, answer_of, done}
+use Rattle.base_answers.specs.declared.err.Refusal.TheVariants.{MinFilterSize, BufferWasTooSmallForLevel}
+use Rattle.base_answers.specs.Answers.{Outcome, told, say, answer_of, done}
 use Rattle.base_answers.specs.Checks.{left}
 use Rattle.base_lengths.specs.declared.Wavelet.TheVariants.{Cdf53}
 use Rattle.base_lengths.specs.Calls.{say_forward, say_inverse}
@@ -50,55 +50,55 @@ differ i h e = h (ap (λ (l : List ℕ). get_or l i 0) e)
 
 -- ---- what the checks say of the inputs
 
-says-forward : say_forward Cdf53 1 3 2 1 ≡ Done 0 0
+says-forward : say_forward Cdf53 1 3 2 1 ≡ told 0 0
 unfolding say_forward
 says-forward = refl
 
-says-inverse : say_inverse Cdf53 1 2 1 3 ≡ Done 0 0
+says-inverse : say_inverse Cdf53 1 2 1 3 ≡ told 0 0
 unfolding say_inverse
 says-inverse = refl
 
-says_last : say_dwt Cdf53I8 2 5 2 1 5 5 ≡ Done 0 0
+says_last : say_dwt Cdf53I8 2 5 2 1 5 5 ≡ told 0 0
 unfolding say_dwt after_levels depth_from depth_within
 says_last = refl
 
-says-down : say_multi Cdf53I8 2 5 5 5 5 ≡ Done 0 0
+says-down : say_multi Cdf53I8 2 5 5 5 5 ≡ told 0 0
 unfolding say_multi depth_from depth_within
 says-down = refl
 
-says-one : say_multi Cdf53I8 1 5 5 5 5 ≡ Done 0 0
+says-one : say_multi Cdf53I8 1 5 5 5 5 ≡ told 0 0
 unfolding say_multi depth_from depth_within
 says-one = refl
 
-says_back : say_back Cdf53I8 2 3 lengths 5 5 5 ≡ Done 0 0
+says_back : say_back Cdf53I8 2 3 lengths 5 5 5 ≡ told 0 0
 unfolding say_back total band_checks le_at tabulate word_at words_of
 says_back = refl
 
-says-column : say_column 5 1 3 ≡ Done 1 0
+says-column : say_column 5 1 3 ≡ told 1 0
 unfolding say_column depth_from depth_within
 says-column = refl
 
-says-spans : (say_span Approx 5 1 1 ≡ Done 0 4) × (say_span Details 5 1 1 ≡ Done 2 4)
+says-spans : (say_span Approx 5 1 1 ≡ told 0 4) × (say_span Details 5 1 1 ≡ told 2 4)
 unfolding say_span span_of after_levels depth_from depth_within
 says-spans = (refl, refl)
 
-says-window : say_window 1 2 1 0 1 1 ≡ Done 1 1
+says-window : say_window 1 2 1 0 1 1 ≡ told 1 1
 unfolding say_window
 says-window = refl
 
-says-section : say_section thirty_one 1 14 2 ≡ Done 24 1
+says-section : say_section thirty_one 1 14 2 ≡ told 24 1
 unfolding say_section walk_of one_of le_at after_levels depth_from depth_within
 says-section = refl
 
-says-head : say_head thirty_one ≡ Done 0 0
+says-head : say_head thirty_one ≡ told 0 0
 unfolding say_head le_at
 says-head = refl
 
-says-size : say_size 1 5 2 ≡ Done 35 0
+says-size : say_size 1 5 2 ≡ told 35 0
 unfolding say_size depth_from depth_within
 says-size = refl
 
-says-cut : say_section (take 25 thirty_one) 1 14 2 ≡ Done 24 1
+says-cut : say_section (take 25 thirty_one) 1 14 2 ≡ told 24 1
 unfolding say_section walk_of one_of le_at after_levels depth_from depth_within
 says-cut = refl
 
@@ -107,7 +107,7 @@ unfolding section_in walk_of one_of le_at after_levels
 section-two = rw says-section refl
 
 -- of the file with a rate
-says-new-section : say_section thirty_five 1 14 2 ≡ Done 28 1
+says-new-section : say_section thirty_five 1 14 2 ≡ told 28 1
 unfolding say_section walk_of one_of le_at after_levels depth_from depth_within
 says-new-section = refl
 
@@ -122,7 +122,7 @@ new_told t m =
     let f = done-tells m (ap (λ (a : Answer). a.number) d) in
     (d, record { width = f.width; levels = f.levels; samples = f.samples; point = f.point; rate = f.rate })
 
-says-short : (say_multi Cdf53I8 1 2 2 2 2 ≡ MinFilterSize 2 3) × (say_multi Cdf53F32 1 8 8 8 8 ≡ BufferWasTooSmallForLevel)
+says-short : (say_multi Cdf53I8 1 2 2 2 2 ≡ Err (MinFilterSize 2 3)) × (say_multi Cdf53F32 1 8 8 8 8 ≡ Err BufferWasTooSmallForLevel)
 unfolding say_multi depth_from depth_within
 says-short = (refl, refl)
 
@@ -166,7 +166,7 @@ restores-zeros m = m.output ∙ ap (λ s. left s (samples_of Cdf53I8 two0 three0
 
 -- what opening leaves, of lent slices of five samples
 opened : {s : List ℕ} {l c : ℕ} {x : List ℕ} {r : Answer} {o u v : List ℕ} → OpensTo s 1 14 5 5 5 l c x → Open s 1 14 five0 five0 five0 r o u v
-    → (r ≡ answer_of (Done l c)) × (o ≡ x ++ drop (1 * count_in s) five0)
+    → (r ≡ answer_of (told l c)) × (o ≡ x ++ drop (1 * count_in s) five0)
 opened {s} e m = (
   m.answer ∙ ap answer_of e.says,
   m.output ∙ ap (λ t. left t (samples_in s ++ drop (1 * count_in s) five0) five0) e.says ∙ ap (λ (y : List ℕ). y ++ drop (1 * count_in s) five0) e.samples,
@@ -178,9 +178,9 @@ module _ {s : List ℕ} {l c : ℕ} {x : List ℕ} (e : OpensTo s 1 14 5 5 5 l c
   taken = ap done (open-taken s 1 14 5 5 5 (ap done e.says))
 
   count : count_in s ≡ c
-  count = ap (λ (r : Refusal). (answer_of r).second) (sym (open-says s 1 14 5 5 5 (ap done e.says)).0 ∙ e.says)
+  count = ap (λ (r : Outcome). (answer_of r).second) (sym (open-says s 1 14 5 5 5 (ap done e.says)).0 ∙ e.says)
 
-  says-sample : (j : ℕ) → j < c → say_peek s 1 14 j ≡ Done 0 0
+  says-sample : (j : ℕ) → j < c → say_peek s 1 14 j ≡ told 0 0
   says-sample j h = say-done s 1 14 j taken (omega (arith, count))
 
   one_at : (j : ℕ) {q : PeekAnswer} → j < c → Peek s 1 14 j q → (q.answer ≡ say 0 0 0) × (q.sample ≡ val 256 (word_at 1 x j))
@@ -194,7 +194,7 @@ module _ {s : List ℕ} {l c : ℕ} {x : List ℕ} (e : OpensTo s 1 14 5 5 5 l c
       (m.answer ∙ ap answer_of d ∙ ap (say 13 j) count, m.sample ∙ peek-none s 1 14 j (ap done d))
 
 not-all-refused : NotAllRefused
-not-all-refused = record { calls = each-done; depth = λ w. ap (λ l. Done l 0) (deep w); section = says-section; head = says-head; size = says-size; sample = says-sample p6-to-p10.p10 2 (omega arith); column = says-column; span = says-spans.0; detail-span = says-spans.1; window = says-window }
+not-all-refused = record { calls = each-done; depth = λ w. ap (λ l. told l 0) (deep w); section = says-section; head = says-head; size = says-size; sample = says-sample p6-to-p10.p10 2 (omega arith); column = says-column; span = says-spans.0; detail-span = says-spans.1; window = says-window }
 
 pub shut_out : ShutOut
 unfolding le_at le_bytes tabulate word_at words_of bytes_of val residue wrap decode encode detail details approx approxs low high after_levels even_of odd_of split_only rest_split details_up

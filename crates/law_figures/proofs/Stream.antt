@@ -3,7 +3,7 @@ use mathlib.Core.List.{List, ◌++◌}
 use mathlib.Core.Path.{◌≡◌, refl, ◌∙◌}
 use Prim.Native.Nat.{ℕ}
 use lib.ListN.{length}
-use Rattle.base_answers.specs.declared.err.Refusal.TheVariants.{Done}
+use Rattle.base_answers.specs.Answers.{told}
 use Rattle.base_lengths.specs.Lengths.{approx_length, details_length}
 use Rattle.base_samples.specs.Le.{le_at, le_bytes}
 use Rattle.base_samples.specs.Words.{tabulate, word_at, words_of, bytes_of}
@@ -16,11 +16,11 @@ use Rattle.stream_calls.specs.Calls.{say_piece, fresh, say_finish}
 use Rattle.law_figures.specs.Stream.{Takes, Ends, Table, none, each, wrapping, Damaged, InPieces}
 
 -- what a done call leaves, from what it says and what it computes
-takes : {b y new lows highs : List ℕ} → say_piece 1 b (length y) 2 2 ≡ Done 0 0 → state_bytes (state_of 1 (stand_in 1 (state_in b) ++ y)) ≡ new → fixed_by low 1 (state_in b) y ≡ lows
+takes : {b y new lows highs : List ℕ} → say_piece 1 b (length y) 2 2 ≡ told 0 0 → state_bytes (state_of 1 (stand_in 1 (state_in b) ++ y)) ≡ new → fixed_by low 1 (state_in b) y ≡ lows
     → fixed_by high 1 (state_in b) y ≡ highs → Takes b y new lows highs
 takes says es ea ed = record { call = λ m. (m.answer ∙ rw says refl, m.state ∙ rw says es, m.approx ∙ rw (says, ea) refl, m.details ∙ rw (says, ed) refl) }
 
-ends : {b lows highs : List ℕ} → say_finish 1 b 2 2 ≡ Done 0 0 → rest_of low approx_length 1 (state_in b) ≡ lows → rest_of high details_length 1 (state_in b) ≡ highs → Ends b none lows highs
+ends : {b lows highs : List ℕ} → say_finish 1 b 2 2 ≡ told 0 0 → rest_of low approx_length 1 (state_in b) ≡ lows → rest_of high details_length 1 (state_in b) ≡ highs → Ends b none lows highs
 unfolding fresh
 ends says ea ed = record { call = λ m. (m.answer ∙ rw says refl, m.state ∙ rw says refl, m.approx ∙ rw (says, ea) refl, m.details ∙ rw (says, ed) refl) }
 

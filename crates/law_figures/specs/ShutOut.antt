@@ -1,11 +1,11 @@
 -- Document 01, "Programs to be shut out": for each an input on which what the statement allows is not what that program would give. Samples are 8 bits wide, so
 -- a byte is a sample, and the inputs are those of P1, P3 and P5, unless another filter is named.
-use Rattle.std.specs.Prelude.{List, [], ◌∷◌, ◌++◌, ◌≡◌, ℕ, zero, suc, ◌*◌, ◌^◌, ◌<◌, Float, pos, ◌+ℤ◌, length, take}
+use Rattle.std.specs.Prelude.{Err, List, [], ◌∷◌, ◌++◌, ◌≡◌, ℕ, zero, suc, ◌*◌, ◌^◌, ◌<◌, Float, pos, ◌+ℤ◌, length, take}
 use Rattle.std.specs.Float.{nan, inf, fin, binary32}
 use Rattle.std.specs.Float.Ieee.{unlike, add, mul}
 use Rattle.base_answers.specs.declared.err.Answer.{Answer}
-use Rattle.base_answers.specs.declared.err.Refusal.TheVariants.{Done, MinFilterSize, BufferWasTooSmallForLevel}
-use Rattle.base_answers.specs.Answers.{say}
+use Rattle.base_answers.specs.declared.err.Refusal.TheVariants.{MinFilterSize, BufferWasTooSmallForLevel}
+use Rattle.base_answers.specs.Answers.{told, say}
 use Rattle.base_lengths.specs.declared.Wavelet.{Wavelet}
 use Rattle.base_lengths.specs.declared.Wavelet.TheVariants.{Cdf97}
 use Rattle.base_lengths.specs.Levels.{say_depth}
@@ -138,15 +138,15 @@ pub record EachDone (f : Filter) : Type 0 where
 
 pub record NotAllRefused : Type 0 where
   pub calls : (f : Filter) → EachDone f
-  pub depth : (w : Wavelet) → say_depth w 8 ≡ Done 2 0
-  pub section : say_section thirty_one 1 14 2 ≡ Done 24 1
-  pub head : say_head thirty_one ≡ Done 0 0
-  pub size : say_size 1 5 2 ≡ Done 35 0
-  pub sample : say_peek thirty_one 1 14 2 ≡ Done 0 0
-  pub column : say_column 5 1 3 ≡ Done 1 0
-  pub span : say_span Approx 5 1 1 ≡ Done 0 4
-  pub detail-span : say_span Details 5 1 1 ≡ Done 2 4
-  pub window : say_window 1 2 1 0 1 1 ≡ Done 1 1
+  pub depth : (w : Wavelet) → say_depth w 8 ≡ told 2 0
+  pub section : say_section thirty_one 1 14 2 ≡ told 24 1
+  pub head : say_head thirty_one ≡ told 0 0
+  pub size : say_size 1 5 2 ≡ told 35 0
+  pub sample : say_peek thirty_one 1 14 2 ≡ told 0 0
+  pub column : say_column 5 1 3 ≡ told 1 0
+  pub span : say_span Approx 5 1 1 ≡ told 0 4
+  pub detail-span : say_span Details 5 1 1 ≡ told 2 4
+  pub window : say_window 1 2 1 0 1 1 ≡ told 1 1
 
 -- ---- the others, by what the statements allow
 
@@ -170,10 +170,10 @@ pub record ShutOut : Type 0 where
   -- "or invents level or count": 27 bytes are level 1 and these three samples
   pub invented : {r : Answer} {o u v : List ℕ} → Open (take 27 thirty_one) 1 14 five0 five0 five0 r o u v → (r.first ≡ 1) × (r.second ≡ 3) × (take 3 o ≡ 3 ∷ 253 ∷ 7 ∷ [])
   -- a lookup that looks further than its section, or hands back the count too: 25 bytes have section 2 whole, and it is -8 alone
-  pub no-further : say_section (take 25 thirty_one) 1 14 2 ≡ Done 24 1
+  pub no-further : say_section (take 25 thirty_one) 1 14 2 ≡ told 24 1
   pub section-is : section_in thirty_one 1 14 2 ≡ 248 ∷ []
   -- a lookup, a head or one sample of old files alone: section 2 of a file with a rate stands 4 bytes later, its head tells the rate, and place 2 is -4 too
-  pub new-section : (say_section thirty_five 1 14 2 ≡ Done 28 1) × (section_in thirty_five 1 14 2 ≡ 248 ∷ [])
+  pub new-section : (say_section thirty_five 1 14 2 ≡ told 28 1) × (section_in thirty_five 1 14 2 ≡ 248 ∷ [])
   pub new-head : (t : HeadAnswer) → Told thirty_five t → (t.answer ≡ say 0 0 0) × Tells t 1 2 5 14 1000
   pub new-sample : {q : PeekAnswer} → Peek thirty_five 1 14 2 q → (q.answer ≡ say 0 0 0) × (q.sample ≡ neg 4)
   -- one sample that is a byte of the file at its place, 0, or a deepest approximation: the whole file has -4 at place 2
@@ -191,5 +191,5 @@ pub record ShutOut : Type 0 where
   -- a fused step, one rounding where document 01 has two: both bands differ
   pub fused : {r : Answer} {a d : List ℕ} → OneForward Cdf97F32 four_floats eight0 eight0 r a d → (a ≡ fused_low four_floats → ⊥) × (d ≡ fused_high four_floats → ⊥)
   -- 4 where one level of a short integer input is 1, or 1 where it is 4 in the float filters
-  pub short-integer : say_multi Cdf53I8 1 2 2 2 2 ≡ MinFilterSize 2 3
-  pub short-float : say_multi Cdf53F32 1 8 8 8 8 ≡ BufferWasTooSmallForLevel
+  pub short-integer : say_multi Cdf53I8 1 2 2 2 2 ≡ Err (MinFilterSize 2 3)
+  pub short-float : say_multi Cdf53F32 1 8 8 8 8 ≡ Err BufferWasTooSmallForLevel

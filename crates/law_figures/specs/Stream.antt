@@ -1,8 +1,8 @@
 -- A recording in pieces, from C-15: the worked example of docs/FORMAT.md, and a second one whose details wrap. Samples are 8 bits wide.
-use Rattle.std.specs.Prelude.{List, [], ◌∷◌, ◌≡◌, ℕ}
+use Rattle.std.specs.Prelude.{Err, List, [], ◌∷◌, ◌≡◌, ℕ}
 use Rattle.base_answers.specs.declared.err.Answer.{Answer}
-use Rattle.base_answers.specs.declared.err.Refusal.TheVariants.{Done, MinFilterSize, TooLong, NoRoom, BadCount}
-use Rattle.base_answers.specs.Answers.{say}
+use Rattle.base_answers.specs.declared.err.Refusal.TheVariants.{MinFilterSize, TooLong, NoRoom, BadCount}
+use Rattle.base_answers.specs.Answers.{told, say}
 use Rattle.base_answers.specs.Checks.{in_front}
 use Rattle.filter_cdf53i.specs.Bands.{low, high}
 use Rattle.stream_calls.specs.Calls.{say_piece, Piece, fresh, say_finish, Finish}
@@ -80,8 +80,8 @@ wrapping =
 
 -- at k bytes a sample these are refused, 9 (0, 0), by either call
 pub record NoState (k : ℕ) (b : List ℕ) : Type 0 where
-  pub piece : say_piece k b k k k ≡ BadCount 0 0
-  pub finish : say_finish k b k k ≡ BadCount 0 0
+  pub piece : say_piece k b k k k ≡ Err (BadCount 0 0)
+  pub finish : say_finish k b k k ≡ Err (BadCount 0 0)
 
 -- two samples, of which the first is 256
 abbrev pub wide : List ℕ
@@ -100,11 +100,11 @@ pub record Damaged : Type 0 where
   pub even : NoState 1 (0 ∷ 0 ∷ 0 ∷ 0 ∷ 0x07 ∷ 0 ∷ 0 ∷ 0 ∷ 0 ∷ 0 ∷ 0 ∷ 0 ∷ 0 ∷ 0 ∷ 0 ∷ 0 ∷ [])
   -- the width is not stored: no state of 8-bit samples, and one of 16-bit samples
   pub narrow : NoState 1 wide
-  pub wider : say_piece 2 wide 2 2 2 ≡ Done 0 0
+  pub wider : say_piece 2 wide 2 2 2 ≡ told 0 0
   -- one sample over the limit; and at the limit an empty piece is taken, and one sample is 6
   pub over : NoState 1 (0x01 ∷ 0 ∷ 0 ∷ 0x01 ∷ 0 ∷ 0 ∷ 0 ∷ 0 ∷ 0 ∷ 0 ∷ 0 ∷ 0 ∷ 0 ∷ 0 ∷ 0 ∷ 0 ∷ [])
-  pub at-limit : say_piece 1 full 0 0 0 ≡ Done 0 0
-  pub past-limit : say_piece 1 full 1 1 1 ≡ TooLong
+  pub at-limit : say_piece 1 full 0 0 0 ≡ told 0 0
+  pub past-limit : say_piece 1 full 1 1 1 ≡ Err TooLong
   -- a byte is missing
   pub byte-missing : NoState 1 (0 ∷ 0 ∷ 0 ∷ 0 ∷ 0 ∷ 0 ∷ 0 ∷ 0 ∷ 0 ∷ 0 ∷ 0 ∷ 0 ∷ 0 ∷ 0 ∷ 0 ∷ [])
 
@@ -119,6 +119,6 @@ pub record InPieces : Type 0 where
   pub wrapped : Table none wrapping
   pub wrapped-end : Ends loud none (64 ∷ []) []
   -- after two samples: no end yet; and the third needs room in both areas
-  pub early : say_finish 1 two 2 2 ≡ MinFilterSize 2 3
-  pub no_room : say_piece 1 two 1 1 0 ≡ NoRoom 0 1
+  pub early : say_finish 1 two 2 2 ≡ Err (MinFilterSize 2 3)
+  pub no_room : say_piece 1 two 1 1 0 ≡ Err (NoRoom 0 1)
   pub damaged : Damaged

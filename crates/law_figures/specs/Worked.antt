@@ -1,7 +1,7 @@
 -- Document 01, "Figures worked by hand": those marked P, one table under one statement; and those of C-17, of the file with a rate. Samples are 8 bits wide.
-use Rattle.std.specs.Prelude.{List, [], ◌∷◌, ◌++◌, ◌≡◌, ℕ, ◌≤◌, ℤ, pos, neg_ℤ, take, drop}
-use Rattle.base_answers.specs.declared.err.Refusal.TheVariants.{Done, BadCount, CutShort, OtherPoint, NoRate}
-use Rattle.base_answers.specs.Answers.{say}
+use Rattle.std.specs.Prelude.{Err, List, [], ◌∷◌, ◌++◌, ◌≡◌, ℕ, ◌≤◌, ℤ, pos, neg_ℤ, take, drop}
+use Rattle.base_answers.specs.declared.err.Refusal.TheVariants.{BadCount, CutShort, OtherPoint, NoRate}
+use Rattle.base_answers.specs.Answers.{told, say}
 use Rattle.base_samples.specs.Integers.{encode}
 use Rattle.filter_cdf53i.specs.Bands.{low, high, back}
 use Rattle.filter_cdf53i.specs.T800 as t800
@@ -52,7 +52,7 @@ pub record File : Type 0 where
   -- "P5 as a file for point 14, 31 bytes"
   pub p6 : file_of Cdf53I8 2 14 0 five ≡ thirty_one
   -- "its first 0 to 19 bytes: 10"
-  pub p7 : (b : ℕ) → b ≤ 19 → say_open (take b thirty_one) 1 14 5 5 5 ≡ CutShort b
+  pub p7 : (b : ℕ) → b ≤ 19 → say_open (take b thirty_one) 1 14 5 5 5 ≡ Err (CutShort b)
   -- "20 to 24: level 2, -1, 3"
   pub p8 : (b : ℕ) → 20 ≤ b → b ≤ 24 → OpensTo (take b thirty_one) 1 14 5 5 5 2 2 (255 ∷ 3 ∷ [])
   -- "25 to 30: level 1, 3, -3, 7"
@@ -65,7 +65,7 @@ pub record File : Type 0 where
 -- the same as a file with a rate
 pub record NewFile : Type 0 where
   pub bytes : file_of Cdf53I8 2 14 1000 five ≡ thirty_five
-  pub cut : (b : ℕ) → b ≤ 23 → say_open (take b thirty_five) 1 14 5 5 5 ≡ CutShort b
+  pub cut : (b : ℕ) → b ≤ 23 → say_open (take b thirty_five) 1 14 5 5 5 ≡ Err (CutShort b)
   pub level2 : (b : ℕ) → 24 ≤ b → b ≤ 28 → OpensTo (take b thirty_five) 1 14 5 5 5 2 2 (255 ∷ 3 ∷ [])
   pub level1 : (b : ℕ) → 29 ≤ b → b ≤ 34 → OpensTo (take b thirty_five) 1 14 5 5 5 1 3 (3 ∷ 253 ∷ 7 ∷ [])
   pub whole : OpensTo thirty_five 1 14 5 5 5 0 5 five
@@ -75,21 +75,21 @@ pub record NewFile : Type 0 where
 -- the places of the new refusals among the others
 pub record NewChecks : Type 0 where
   -- "under 4 bytes or fewer than section 0 needs is 10, with 9 tested between them"
-  pub three : say_open (11 ∷ 0 ∷ 0 ∷ []) 1 14 5 5 5 ≡ CutShort 3
-  pub four : say_open (11 ∷ 0 ∷ 0 ∷ 0 ∷ []) 1 14 5 5 5 ≡ BadCount 0 11
+  pub three : say_open (11 ∷ 0 ∷ 0 ∷ []) 1 14 5 5 5 ≡ Err (CutShort 3)
+  pub four : say_open (11 ∷ 0 ∷ 0 ∷ 0 ∷ []) 1 14 5 5 5 ≡ Err (BadCount 0 11)
   -- "18 for a stored rate of 0 in a new file, right after 11"; in the section lookup before 13
-  pub no-rate : say_open unrated 1 14 5 5 5 ≡ NoRate
-  pub before-sections : say_open (take 20 unrated) 1 14 5 5 5 ≡ NoRate
-  pub other-point : say_open unrated 1 15 5 5 5 ≡ OtherPoint 14 15
-  pub before-number : say_section unrated 1 14 9 ≡ NoRate
+  pub no-rate : say_open unrated 1 14 5 5 5 ≡ Err NoRate
+  pub before-sections : say_open (take 20 unrated) 1 14 5 5 5 ≡ Err NoRate
+  pub other-point : say_open unrated 1 15 5 5 5 ≡ Err (OtherPoint 14 15)
+  pub before-number : say_section unrated 1 14 9 ≡ Err NoRate
   -- the head of a file never says it
   pub head : (t : HeadAnswer) → Told unrated t → (t.answer ≡ say 0 0 0) × (t.rate ≡ 0)
   -- "in writing a rate of 0 is 18, first after the byte-length 9": before 6, 4 and 7, and before 1; behind the 9 of the last area
-  pub long : say_write Cdf53I8 24 0 16777217 0 0 0 ≡ NoRate
-  pub few : say_write Cdf53I8 1 0 2 0 0 0 ≡ NoRate
-  pub ragged : say_write Cdf53I16 9 0 4 0 4 3 ≡ BadCount 0 3
+  pub long : say_write Cdf53I8 24 0 16777217 0 0 0 ≡ Err NoRate
+  pub few : say_write Cdf53I8 1 0 2 0 0 0 ≡ Err NoRate
+  pub ragged : say_write Cdf53I16 9 0 4 0 4 3 ≡ Err (BadCount 0 3)
   -- a rate of 1 is one
-  pub least : say_write Cdf53I8 2 1 5 35 5 5 ≡ Done 0 0
+  pub least : say_write Cdf53I8 2 1 5 35 5 5 ≡ told 0 0
 
 pub record Worked : Type 0 where
   pub p1 : OneLevel (pos 1 ∷ pos 5 ∷ pos 2 ∷ []) (pos 3 ∷ pos 4 ∷ []) (pos 4 ∷ [])

@@ -10,7 +10,7 @@ use native.Mathlib.Omega.{arith}
 use borrow.Author.Tests.{le-ltb, ne_eqb}
 use lib.ListN.{length}
 use lib.Pow.{pow_mono}
-use Rattle.base_answers.specs.declared.err.Refusal.TheVariants.{Done}
+use Rattle.base_answers.specs.Answers.{told}
 use Rattle.base_answers.specs.Checks.{ragged}
 use Rattle.base_order.proofs.Order.{lt-or-le}
 use Rattle.base_answers.proofs.Chain.{same}
@@ -100,7 +100,7 @@ bands-pass w a (m ∷ ms) h =
 
 -- `multi_idwt` on bands whose lengths fit is done: c lengths in ls, and work areas of p and q samples
 pub back_fits : (f : Filter) (a c p q : ℕ) (ls : List ℕ) (b d o u v : ℕ) → b ≡ width_of f * a → Rising f a (words_of 4 ls) d u v o → length ls ≡ 4 * c → 0 < c → u ≡ width_of f * p → v ≡ width_of f * q
-    → say_back f b d ls o u v ≡ Done 0 0
+    → say_back f b d ls o u v ≡ told 0 0
 unfolding say_back
 back_fits f a c p q ls b d o u v eb r el some eu ev =
     let k = width_of f in
@@ -112,7 +112,7 @@ back_fits f a c p q ls b d o u v eb r el some eu ev =
     let two : 2 ≤ a = fits-some w a ms (omega arith) r.fits in
     let up : n ≤ p = le_of_mul-le-mul_left (rw eu at r.first) kp in
     let vp : n ≤ q = le_of_mul-le-mul_left (rw ev at r.second) kp in
-    through (whole_checks k b d (length ls) o u v ++ back_checks f (b / k) (d / k) ms (o / k) (u / k) (v / k)) (Done 0 0)
+    through (whole_checks k b d (length ls) o u v ++ back_checks f (b / k) (d / k) ms (o / k) (u / k) (v / k)) (told 0 0)
     (rw (count-is k a b kp eb, count-is k (total ms) d kp r.details, count-is k n o kp r.output, count-is k p u kp eu, count-is k q v kp ev) (
       whole-passes k a b eb,
       (
@@ -155,14 +155,14 @@ back_fits f a c p q ls b d o u v eb r el some eu ev =
     ))
 
 -- `multi_dwt` on samples that have the levels is done: work areas of p and q samples
-pub multi-fits : (f : Filter) (l n p q x o u v : ℕ) → Ready f (levels_of l) n x u v → o ≡ width_of f * n → u ≡ width_of f * p → v ≡ width_of f * q → say_multi f l x o u v ≡ Done 0 0
+pub multi-fits : (f : Filter) (l n p q x o u v : ℕ) → Ready f (levels_of l) n x u v → o ≡ width_of f * n → u ≡ width_of f * p → v ≡ width_of f * q → say_multi f l x o u v ≡ told 0 0
 unfolding say_multi
 multi-fits f l n p q x o u v r eo eu ev =
     let k = width_of f in
     let kp = width-pos f in
     let up : n ≤ p = le_of_mul-le-mul_left (rw eu at r.first) kp in
     let vp : n ≤ q = le_of_mul-le-mul_left (rw ev at r.second) kp in
-    through (ragged k x ∷ ragged k o ∷ ragged k u ∷ ragged k v ∷ multi_checks f l (x / k) (o / k) (u / k) (v / k)) (Done 0 0)
+    through (ragged k x ∷ ragged k o ∷ ragged k u ∷ ragged k v ∷ multi_checks f l (x / k) (o / k) (u / k) (v / k)) (told 0 0)
     (rw (count-is k n x kp r.whole, count-is k n o kp eo, count-is k p u kp eu, count-is k q v kp ev) (
       whole-passes k n x r.whole,
       (
@@ -179,7 +179,7 @@ multi-fits f l n p q x o u v r eo eu ev =
 
 -- `dwt` on samples that have the levels, into bands of the last level's lengths, is done: work areas of p and q samples
 pub dwt-fits : (f : Filter) (l n p q x a d u v : ℕ) → Ready f (levels_of l) n x u v
-    → a ≡ width_of f * approx_length (count_at (levels_of l - 1) n) → d ≡ width_of f * details_length (count_at (levels_of l - 1) n) → u ≡ width_of f * p → v ≡ width_of f * q → say_dwt f l x a d u v ≡ Done 0 0
+    → a ≡ width_of f * approx_length (count_at (levels_of l - 1) n) → d ≡ width_of f * details_length (count_at (levels_of l - 1) n) → u ≡ width_of f * p → v ≡ width_of f * q → say_dwt f l x a d u v ≡ told 0 0
 unfolding say_dwt
 dwt-fits f l n p q x a d u v r ea ed eu ev =
     let k = width_of f in
@@ -187,7 +187,7 @@ dwt-fits f l n p q x a d u v r ea ed eu ev =
     let m = count_at (levels_of l - 1) n in
     let up : n ≤ p = le_of_mul-le-mul_left (rw eu at r.first) kp in
     let vp : n ≤ q = le_of_mul-le-mul_left (rw ev at r.second) kp in
-    through (ragged k x ∷ ragged k a ∷ ragged k d ∷ ragged k u ∷ ragged k v ∷ dwt_checks f l (x / k) (a / k) (d / k) (u / k) (v / k)) (Done 0 0)
+    through (ragged k x ∷ ragged k a ∷ ragged k d ∷ ragged k u ∷ ragged k v ∷ dwt_checks f l (x / k) (a / k) (d / k) (u / k) (v / k)) (told 0 0)
     (rw (count-is k n x kp r.whole, count-is k (approx_length m) a kp ea, count-is k (details_length m) d kp ed, count-is k p u kp eu, count-is k q v kp ev) (
       whole-passes k n x r.whole,
       (

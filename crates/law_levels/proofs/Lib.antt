@@ -7,3 +7,4 @@ pub mod OneLevel
 pub mod T800Levels
 pub mod T800Calls
 pub mod SpanCalls
+pub mod Parts

@@ -9,8 +9,7 @@ use native.Mathlib.Nat.{mul-add}
 use native.Mathlib.Omega.{arith}
 use lib.ListN.{length}
 use Rattle.base_answers.specs.declared.err.Answer.{Answer}
-use Rattle.base_answers.specs.declared.err.Refusal.TheVariants.{Done}
-use Rattle.base_answers.specs.Answers.{answer_of, done}
+use Rattle.base_answers.specs.Answers.{told, answer_of, done}
 use Rattle.base_lengths.specs.Lengths.{approx_length, details_length}
 use Rattle.base_lengths.specs.Calls.{say_forward, say_inverse, Level}
 use Rattle.base_lengths.proofs.Depths.{two-below}
@@ -82,7 +81,7 @@ module _ (f : Filter) (i : Integers f) {x a d : List ℕ} {r : Answer} {a' d' : 
   forward-unwrapped hw lw = (rw given.0 ((kept f i).low-own x two hw lw), rw given.1 ((kept f i).high-own x two hw))
 
   -- and the inverse on them, into an output as long as x, is done and gives the samples, of every value
-  pub undone-one : {o : List ℕ} {q : Answer} {o' : List ℕ} → Bytes x → length o ≡ length x → OneInverse f a' d' o q o' → (q ≡ answer_of (Done 0 0)) × (o' ≡ x)
+  pub undone-one : {o : List ℕ} {q : Answer} {o' : List ℕ} → Bytes x → length o ≡ length x → OneInverse f a' d' o q o' → (q ≡ answer_of (told 0 0)) × (o' ≡ x)
   undone-one {o} {q} {o'} b e back =
       let w = wavelet_of f in
       let k = width_of f in
@@ -128,7 +127,7 @@ module _ (f : Filter) (i : Integers f) {a d o : List ℕ} {r : Answer} {o' : Lis
 
   -- and the forward on them, into bands as long as a and d, is done and gives the bands, of every value
   pub again-one : {a₂ d₂ : List ℕ} {q : Answer} {a₃ d₃ : List ℕ} → Bytes a → Bytes d → length a₂ ≡ length a → length d₂ ≡ length d → OneForward f o' a₂ d₂ q a₃ d₃
-      → (q ≡ answer_of (Done 0 0)) × (a₃ ≡ a) × (d₃ ≡ d)
+      → (q ≡ answer_of (told 0 0)) × (a₃ ≡ a) × (d₃ ≡ d)
   again-one {a₂} {d₂} {q} {a₃} {d₃} ba bd ea ed forward =
       let w = wavelet_of f in
       let k = width_of f in

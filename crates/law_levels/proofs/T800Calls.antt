@@ -5,8 +5,7 @@ use Prim.Native.Nat.{ℕ, ◌+◌, ◌-◌, ◌*◌, ◌/◌, ◌≤◌}
 use native.Mathlib.Omega.{arith}
 use lib.ListN.{length}
 use Rattle.base_answers.specs.declared.err.Answer.{Answer}
-use Rattle.base_answers.specs.declared.err.Refusal.TheVariants.{Done}
-use Rattle.base_answers.specs.Answers.{say, answer_of, done}
+use Rattle.base_answers.specs.Answers.{told, say, answer_of, done}
 use Rattle.base_lengths.specs.declared.Wavelet.TheVariants.{Cdf53}
 use Rattle.base_lengths.specs.Lengths.{most_samples, approx_length, details_length}
 use Rattle.base_lengths.specs.Levels.{count_at, depth_of, levels_of}
@@ -36,7 +35,7 @@ module _ (f : Filter) (i : Integers f) (l n : ℕ) (deep : levels_of l ≤ depth
       × (d' ≡ encode (width_of f) (highs_after (wrap (width_of f)) (levels_of l - 1) (decode (width_of f) x)))
   dwt-gives-t800 a d ea ed r a' d' u' v' call =
       let k = width_of f in
-      let says : say_dwt f l (length x) (length a) (length d) (length u) (length v) ≡ Done 0 0 =
+      let says : say_dwt f l (length x) (length a) (length d) (length u) (length v) ≡ told 0 0 =
       dwt-fits f l n (length u / k) (length v / k) (length x) (length a) (length d) (length u) (length v) ready ea ed first.samples second.samples in
       let t = dwt-t800 f i l x a d u v call (ap done says) in
       (call.answer ∙ ap answer_of says, t.0, t.1)
@@ -47,7 +46,7 @@ module _ (f : Filter) (i : Integers f) (l n : ℕ) (deep : levels_of l ≤ depth
       × (o' ≡ encode (width_of f) (lows_at (wrap (width_of f)) (levels_of l) (decode (width_of f) x) ++ all_highs (wrap (width_of f)) (levels_of l) (decode (width_of f) x)))
   multi-gives-t800 o eo r o' u' v' call =
       let k = width_of f in
-      let says : say_multi f l (length x) (length o) (length u) (length v) ≡ Done 0 0 =
+      let says : say_multi f l (length x) (length o) (length u) (length v) ≡ told 0 0 =
       multi-fits f l n (length u / k) (length v / k) (length x) (length o) (length u) (length v) ready eo first.samples second.samples in
       (call.answer ∙ ap answer_of says, multi-t800 f i l x o u v call (ap done says))
 
@@ -60,7 +59,7 @@ back-gives-t800 f i c n some deep most a d ls o u v ea ed lengths eo first secon
     let k = width_of f in
     let all = count-at-total c n in
     let wide : k * (count_at c n + total (lengths_of c n)) ≡ k * n = ap (λ (m : ℕ). k * m) all in
-    let says : say_back f (length a) (length d) ls (length o) (length u) (length v) ≡ Done 0 0 =
+    let says : say_back f (length a) (length d) ls (length o) (length u) (length v) ≡ told 0 0 =
     back_fits f (count_at c n) c (length u / k) (length v / k) ls (length a) (length d) (length o) (length u) (length v) ea
     (rw lengths.lengths (record {
       fits = lengths-fit (wavelet_of f) c n (own-depth f i c n deep);

@@ -10,9 +10,7 @@ use native.Mathlib.Omega.{arith}
 use borrow.Author.Tests.{ne_eqb}
 use lib.ListN.{length, get_or, take, drop}
 use Rattle.base_answers.specs.declared.err.Answer.{Answer}
-use Rattle.base_answers.specs.declared.err.Refusal.{Refusal}
-use Rattle.base_answers.specs.declared.err.Refusal.TheVariants.{Done}
-use Rattle.base_answers.specs.Answers.{answer_of, done}
+use Rattle.base_answers.specs.Answers.{Outcome, told, answer_of, done}
 use Rattle.base_answers.proofs.Endings.{left-done}
 use Rattle.base_lengths.specs.Lengths.{most_samples, details_length}
 use Rattle.base_lengths.specs.Levels.{count_at, depth_of, levels_of}
@@ -109,10 +107,10 @@ module _ (f : Filter) (l : ℕ) (x : List ℕ) {o u v : List ℕ} {r : Answer} {
     on_parts : MultiBack f (approx_at f (levels_of l) x) (details_at f (levels_of l) x) ls p s t q p' s' t'
     on_parts = rw (call-approx, call-details) at back
 
-    abbrev said_back : Refusal
+    abbrev said_back : Outcome
     said_back = say_back f (length (approx_at f (levels_of l) x)) (length (details_at f (levels_of l) x)) ls (length p) (length s) (length t)
 
-    says : said_back ≡ Done 0 0
+    says : said_back ≡ told 0 0
     says =
         let n = count in
         let j = levels_of l in
@@ -131,7 +129,7 @@ module _ (f : Filter) (l : ℕ) (x : List ℕ) {o u v : List ℕ} {r : Answer} {
         lengths.size ready.some first.samples second.samples
 
     -- is done and gives the levels undone, whatever the filter
-    pub trip-call : (q ≡ answer_of (Done 0 0)) × (p' ≡ round_trip f (levels_of l) x)
+    pub trip-call : (q ≡ answer_of (told 0 0)) × (p' ≡ round_trip f (levels_of l) x)
     trip-call = (
       on_parts.answer ∙ ap answer_of says,
       on_parts.output
@@ -141,7 +139,7 @@ module _ (f : Filter) (l : ℕ) (x : List ℕ) {o u v : List ℕ} {r : Answer} {
     )
 
     -- and of an integer filter gives the samples, of every value
-    pub undone-call : Integers f → Bytes x → (q ≡ answer_of (Done 0 0)) × (p' ≡ x)
+    pub undone-call : Integers f → Bytes x → (q ≡ answer_of (told 0 0)) × (p' ≡ x)
     undone-call i b = (trip-call.0, trip-call.1 ∙ trip-is f (undoes f i) (levels_of l) x count b ready.whole ready.deep)
 
 -- ---- `multi_idwt` is done with the bands a and d
@@ -154,7 +152,7 @@ module _ (f : Filter) (a d ls : List ℕ) {o u v : List ℕ} {r : Answer} {o' u'
     (is_done : done (say_back f (length a) (length d) ls (length o) (length u) (length v)) ≡ true) where
   -- `multi_dwt` on its output, with as many levels as there are lengths, into an output as long, is done and of an integer filter gives the bands
   pub again-call : {p s t : List ℕ} {q : Answer} {p' s' t' : List ℕ} → Integers f → Bytes a → Bytes d → length p ≡ length o' → Area (width_of f) (length o') s → Area (width_of f) (length o') t
-      → Multi f (length ls / 4) o' p s t q p' s' t' → (q ≡ answer_of (Done 0 0)) × (p' ≡ a ++ d)
+      → Multi f (length ls / 4) o' p s t q p' s' t' → (q ≡ answer_of (told 0 0)) × (p' ≡ a ++ d)
   again-call {p} {s} {t} i ba bd output first second m =
       let k = width_of f in
       let ms = words_of 4 ls in
@@ -166,7 +164,7 @@ module _ (f : Filter) (a d ls : List ℕ) {o u v : List ℕ} {r : Answer} {o' u'
       let ec : length ms ≡ c = length-words 4 ls in
       let lc : levels_of c ≡ c = some-levels c some in
       let deep : levels_of c ≤ depth_of (wavelet_of f) (n + total ms) = omega (arith, fits-depth (wavelet_of f) n ms rise.fits, ec, lc) in
-      let says : say_multi f c (length o') (length p) (length s) (length t) ≡ Done 0 0 =
+      let says : say_multi f c (length o') (length p) (length s) (length t) ≡ told 0 0 =
       multi-fits f c (n + total ms) (length s / k) (length t / k) (length o') (length p) (length s) (length t)
       (record {
         some = omega (arith, lc, some);

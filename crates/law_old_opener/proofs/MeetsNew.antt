@@ -8,14 +8,14 @@ use native.Mathlib.Omega.{arith}
 use borrow.Author.Tests.{lt-ltb, le-ltb}
 use lib.ListN.{length, take}
 use lib.Dec.{eqb}
+use Rattle.std.specs.Prelude.{Err}
 use Rattle.base_answers.specs.declared.err.Answer.{Answer}
-use Rattle.base_answers.specs.declared.err.Refusal.{Refusal}
-use Rattle.base_answers.specs.declared.err.Refusal.TheVariants.{Done, TooLong, BadCount, CutShort}
-use Rattle.base_answers.specs.Answers.{answer_of, done}
+use Rattle.base_answers.specs.declared.err.Refusal.TheVariants.{TooLong, BadCount, CutShort}
+use Rattle.base_answers.specs.Answers.{Outcome, told, answer_of, done}
 use Rattle.base_answers.specs.Checks.{Check, first_refusal}
 use Rattle.base_answers.proofs.Chain.{by, stop}
 use Rattle.base_answers.proofs.Endings.{is-done, left-refused, spared-refused}
-use Rattle.base_answers.proofs.Passed.{Refusing, off, passed-before, pass_on}
+use Rattle.base_answers.proofs.Passed.{off, passing, both-pass, pass_on}
 use Rattle.base_order.proofs.Order.{lt-or-le}
 use Rattle.base_lengths.specs.Levels.{levels_of}
 use Rattle.base_samples.specs.Le.{le_at, Bytes}
@@ -24,7 +24,7 @@ use Rattle.levels_filter.specs.Filters.{width_of, Integers}
 use Rattle.file_open.specs.Files.{new_count, new_size, file_of, file_size}
 use Rattle.file_open.specs.Opens.{area_checks, WholeAreas, way_in, way_checks, field_checks, rooms_for}
 use Rattle.file_open.specs.Writes.{say_write, Write}
-use Rattle.file_open.proofs.Opening.{area-refuses, whole-areas-pass}
+use Rattle.file_open.proofs.Opening.{whole-areas-pass}
 use Rattle.file_open.proofs.Writing.{new-kind, write-ready}
 use Rattle.law_cuts.proofs.Filed.{cut-length}
 use Rattle.law_cuts.proofs.WrittenHead.{count-read}
@@ -32,18 +32,18 @@ use Rattle.law_cuts.proofs.Kept.{recorded, written, front-in}
 use Rattle.law_old_opener.specs.Openers.{most_before, head_before, start_before, level_before, count_before, say_before, OpenBefore, Met}
 
 -- c bytes that begin with the count 14, as far as they go
-module _ (s : List ℕ) (c : ℕ) (size : length s ≡ c) (count : 4 ≤ c → le_at 4 s 0 ≡ new_count) (m : List Check) (e : Refusal) where
+module _ (s : List ℕ) (c : ℕ) (size : length s ≡ c) (count : 4 ≤ c → le_at 4 s 0 ≡ new_count) (m : List Check) (e : Outcome) where
   -- whatever is checked after the start, it is not reached
-  over : most_before < c → first_refusal (start_before s ++ m) e ≡ TooLong
+  over : most_before < c → first_refusal (start_before s ++ m) e ≡ Err TooLong
   over h = sym (stop _ (lt-ltb most_before (length s) (omega arith)) refl)
 
-  under : c < 14 → first_refusal (start_before s ++ m) e ≡ CutShort c
-  under h = sym (by _ (le-ltb most_before (length s) (omega arith)) (stop _ (lt-ltb (length s) 14 (omega arith)) (ap CutShort (sym size))))
+  under : c < 14 → first_refusal (start_before s ++ m) e ≡ Err (CutShort c)
+  under h = sym (by _ (le-ltb most_before (length s) (omega arith)) (stop _ (lt-ltb (length s) 14 (omega arith)) (ap (λ (n : ℕ). Err (CutShort n)) (sym size))))
 
-  wrong : 14 ≤ c → c ≤ most_before → first_refusal (start_before s ++ m) e ≡ BadCount 0 new_count
+  wrong : 14 ≤ c → c ≤ most_before → first_refusal (start_before s ++ m) e ≡ Err (BadCount 0 new_count)
   wrong a b =
       let n = count (omega arith) in
-      sym (by _ (le-ltb most_before (length s) (omega arith)) (by _ (le-ltb (length s) 14 (omega arith)) (stop _ (ap (λ (q : ℕ). not (eqb q 10)) n) (ap (BadCount 0) (sym n)))))
+      sym (by _ (le-ltb most_before (length s) (omega arith)) (by _ (le-ltb (length s) 14 (omega arith)) (stop _ (ap (λ (q : ℕ). not (eqb q 10)) n) (ap (λ (n : ℕ). Err (BadCount 0 n)) (sym n)))))
 
   -- so it is refused
   never : done (first_refusal (start_before s ++ m) e) ≡ false
@@ -52,12 +52,12 @@ module _ (s : List ℕ) (c : ℕ) (size : length s ≡ c) (count : 4 ≤ c → l
       (λ (h : c ≤ most_before). ⊎_elim (λ (g : c < 14). ap done (under g)) (λ (g : 14 ≤ c). ap done (wrong g h)) (lt-or-le c 14))
       (lt-or-le most_before c)
 
--- a list that is refused behind a part that only refuses
-refused-past : (l m : List Check) (e : Refusal) → Refusing l → done (first_refusal m e) ≡ false → done (first_refusal (l ++ m) e) ≡ false
-refused-past l m e r h = pick (done (first_refusal (l ++ m) e)) refl
+-- a list that refuses does so behind any part
+refused-past : (l m : List Check) (e : Outcome) → done (first_refusal m e) ≡ false → done (first_refusal (l ++ m) e) ≡ false
+refused-past l m e h = pick (done (first_refusal (l ++ m) e)) refl
   where
     pick : (b : Bool) → done (first_refusal (l ++ m) e) ≡ b → b ≡ false
-    pick true q = off h (passed-before 0 l m e r q).1
+    pick true q = off h (ap done (sym (pass_on l m e (both-pass l m (passing (l ++ m) e q)).0)) ∙ q)
     pick false q = refl
 
 -- the opener's answer to any c bytes that begin with the count 14, as far as they go: whoever wrote them, and whatever is behind
@@ -66,12 +66,12 @@ unfolding say_before
 old-meets s c size count w q o g h r o' g' h' call =
     let k = head_before s in
     let areas = area_checks w (length o) (length g) (length h) in
-    let end = Done (level_before s) (count_before s) in
+    let end = told (level_before s) (count_before s) in
     let said = say_before s w q (length o) (length g) (length h) in
     let rest = (field_checks k w q ++ way_checks (way_in s k) (length s)) ++ rooms_for w (count_before s) (length o) (length g) (length h) in
     let start = start_before s ++ rest in
     let past : WholeAreas w (length o) (length g) (length h) → said ≡ first_refusal start end = λ a. pass_on areas start end (whole-areas-pass w (length o) (length g) (length h) a) in
-    let no : done said ≡ false = refused-past areas start end (area-refuses w (length o) (length g) (length h)) (never s c size count rest end) in
+    let no : done said ≡ false = refused-past areas start end (never s c size count rest end) in
     record {
       nine = λ a u v. call.answer ∙ ap answer_of (past a ∙ wrong s c size count rest end u v);
       ten = λ a u. call.answer ∙ ap answer_of (past a ∙ under s c size count rest end u);

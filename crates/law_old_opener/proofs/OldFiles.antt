@@ -9,10 +9,10 @@ use native.Mathlib.Omega.{arith}
 use borrow.Author.Tests.{lt-ltb, le-ltb}
 use lib.Dec.{eqb}
 use lib.ListN.{length, drop, length-append}
+use Rattle.std.specs.Prelude.{Err}
 use Rattle.base_answers.specs.declared.err.Answer.{Answer}
-use Rattle.base_answers.specs.declared.err.Refusal.{Refusal}
-use Rattle.base_answers.specs.declared.err.Refusal.TheVariants.{Done, TooLong, BadCount, CutShort, Trailing}
-use Rattle.base_answers.specs.Answers.{answer_of, done}
+use Rattle.base_answers.specs.declared.err.Refusal.TheVariants.{TooLong, BadCount, CutShort, Trailing}
+use Rattle.base_answers.specs.Answers.{Outcome, told, answer_of, done}
 use Rattle.base_answers.specs.Checks.{Check, first_refusal, left}
 use Rattle.base_answers.proofs.Chain.{by, stop, same}
 use Rattle.base_answers.proofs.Passed.{Passing, off, both-pass, pass_on, roomy}
@@ -37,9 +37,9 @@ use Rattle.law_cuts.proofs.Behind.{behind-file}
 use Rattle.law_old_opener.specs.Openers.{most_before, head_before, start_before, file_before, level_before, count_before, samples_before, say_before, OpenBefore}
 
 -- two lists after the same part
-same-part : (l m₁ m₂ : List Check) (e₁ e₂ : Refusal) → first_refusal m₁ e₁ ≡ first_refusal m₂ e₂ → first_refusal (l ++ m₁) e₁ ≡ first_refusal (l ++ m₂) e₂
+same-part : (l m₁ m₂ : List Check) (e₁ e₂ : Outcome) → first_refusal m₁ e₁ ≡ first_refusal m₂ e₂ → first_refusal (l ++ m₁) e₁ ≡ first_refusal (l ++ m₂) e₂
 same-part [] m₁ m₂ e₁ e₂ h = h
-same-part (p ∷ l) m₁ m₂ e₁ e₂ h = ap (λ (r : Refusal). cond p.0 p.1 r) (same-part l m₁ m₂ e₁ e₂ h)
+same-part (p ∷ l) m₁ m₂ e₁ e₂ h = ap (λ (r : Outcome). cond p.0 (Err p.1) r) (same-part l m₁ m₂ e₁ e₂ h)
 
 -- a count that is neither is not 10
 neither : (c : ℕ) → is_count c ≡ false → eqb c old_count ≡ false
@@ -57,37 +57,37 @@ way_long s k l n at (Wrong j found) e h c = off c.0 refl
 
 -- what both openers say, after the areas
 module _ (s : List ℕ) (w p o u v : ℕ) where
-  abbrev says_now : Refusal
-  says_now = first_refusal (file_checks s w p ++ rooms_for w (count_in s) o u v) (Done (level_in s) (count_in s))
+  abbrev says_now : Outcome
+  says_now = first_refusal (file_checks s w p ++ rooms_for w (count_in s) o u v) (told (level_in s) (count_in s))
 
-  abbrev said_before : Refusal
-  said_before = first_refusal (file_before s w p ++ rooms_for w (count_before s) o u v) (Done (level_before s) (count_before s))
+  abbrev said_before : Outcome
+  said_before = first_refusal (file_before s w p ++ rooms_for w (count_before s) o u v) (told (level_before s) (count_before s))
 
   alike : says_now ≡ said_before → say_open s w p o u v ≡ say_before s w p o u v
   unfolding say_open say_before
   alike h =
-      same-part (area_checks w o u v) (file_checks s w p ++ rooms_for w (count_in s) o u v) (file_before s w p ++ rooms_for w (count_before s) o u v) (Done (level_in s) (count_in s))
-      (Done (level_before s) (count_before s)) h
+      same-part (area_checks w o u v) (file_checks s w p ++ rooms_for w (count_in s) o u v) (file_before s w p ++ rooms_for w (count_before s) o u v) (told (level_in s) (count_in s))
+      (told (level_before s) (count_before s)) h
 
   past-areas : WholeAreas w o u v → (say_open s w p o u v ≡ says_now) × (say_before s w p o u v ≡ said_before)
   unfolding say_open say_before
   past-areas a =
       let q = whole-areas-pass w o u v a in (
-        pass_on (area_checks w o u v) (file_checks s w p ++ rooms_for w (count_in s) o u v) (Done (level_in s) (count_in s)) q,
-        pass_on (area_checks w o u v) (file_before s w p ++ rooms_for w (count_before s) o u v) (Done (level_before s) (count_before s)) q,
+        pass_on (area_checks w o u v) (file_checks s w p ++ rooms_for w (count_in s) o u v) (told (level_in s) (count_in s)) q,
+        pass_on (area_checks w o u v) (file_before s w p ++ rooms_for w (count_before s) o u v) (told (level_before s) (count_before s)) q,
       )
 
   -- ---- what is refused at the start
 
   -- a count that is neither, with 4 bytes or more and within the limit: 9 now
-  nine-now : 4 ≤ length s → length s ≤ most_bytes → is_count (le_at 4 s 0) ≡ false → says_now ≡ BadCount 0 (le_at 4 s 0)
+  nine-now : 4 ≤ length s → length s ≤ most_bytes → is_count (le_at 4 s 0) ≡ false → says_now ≡ Err (BadCount 0 (le_at 4 s 0))
   nine-now four within none = sym (by _ (le-ltb most_bytes (length s) within) (by _ (le-ltb (length s) 4 four) (stop _ (ap not none) refl)))
 
   -- under 14 bytes: 10 before; over the limit of before: 6
-  ten-before : length s < 14 → said_before ≡ CutShort (length s)
+  ten-before : length s < 14 → said_before ≡ Err (CutShort (length s))
   ten-before short = sym (by _ (le-ltb most_before (length s) (omega arith)) (stop _ (lt-ltb (length s) 14 short) refl))
 
-  six-before : most_before < length s → said_before ≡ TooLong
+  six-before : most_before < length s → said_before ≡ Err TooLong
   six-before over = sym (stop _ (lt-ltb most_before (length s) over) refl)
 
   -- 14 bytes or more with a count that is neither: 9, as before
@@ -110,7 +110,7 @@ module _ (s : List ℕ) (w p o u v : ℕ) where
 
   -- and with any other count, which is what changed: 9 now, 10 before
   pub short-changed : 4 ≤ length s → length s < 14 → is_count (le_at 4 s 0) ≡ false → WholeAreas w o u v
-      → (say_open s w p o u v ≡ BadCount 0 (le_at 4 s 0)) × (say_before s w p o u v ≡ CutShort (length s))
+      → (say_open s w p o u v ≡ Err (BadCount 0 (le_at 4 s 0))) × (say_before s w p o u v ≡ Err (CutShort (length s)))
   short-changed four short none a = let q = past-areas a in (q.0 ∙ nine-now four (omega arith) none, q.1 ∙ ten-before short)
 
   -- over the limit of now: 6, as before
@@ -118,11 +118,11 @@ module _ (s : List ℕ) (w p o u v : ℕ) where
   same-long long = alike (sym (stop _ (lt-ltb most_bytes (length s) long) refl) ∙ sym (six-before (omega arith)))
 
   -- over the limit of before: 6 then, whatever it is now
-  pub over-said : most_before < length s → WholeAreas w o u v → say_before s w p o u v ≡ TooLong
+  pub over-said : most_before < length s → WholeAreas w o u v → say_before s w p o u v ≡ Err TooLong
   over-said over a = (past-areas a).1 ∙ six-before over
 
   -- with a count that is neither, within the limit of now: 9
-  pub over-other : most_before < length s → length s ≤ most_bytes → is_count (le_at 4 s 0) ≡ false → WholeAreas w o u v → say_open s w p o u v ≡ BadCount 0 (le_at 4 s 0)
+  pub over-other : most_before < length s → length s ≤ most_bytes → is_count (le_at 4 s 0) ≡ false → WholeAreas w o u v → say_open s w p o u v ≡ Err (BadCount 0 (le_at 4 s 0))
   over-other over within none a = (past-areas a).0 ∙ nine-now (omega arith) within none
 
 -- and bytes with the count 10 never open there: no old file is so long
@@ -140,7 +140,7 @@ over-never s count over w p o u v d =
 
 -- an old file with bytes behind it, over the limit of before and within that of now: 12, and how many, where it was 6
 pub limit-changed : {f : Filter} {l n p : ℕ} {x : List ℕ} → Recording f l n p x → (t : List ℕ) → let s = file_of f l p 0 x ++ t in most_before < length s → length s ≤ most_bytes
-    → (o u v : ℕ) → Sampled (width_of f) o u v → (say_open s (width_of f) p o u v ≡ Trailing (length t)) × (say_before s (width_of f) p o u v ≡ TooLong)
+    → (o u v : ℕ) → Sampled (width_of f) o u v → (say_open s (width_of f) p o u v ≡ Err (Trailing (length t))) × (say_before s (width_of f) p o u v ≡ Err TooLong)
 limit-changed {f} {l} {n} {p} {x} d t over within o u v a =
     let s = file_of f l p 0 x ++ t in
     let size = length-append (file_of f l p 0 x) t ∙ ap (λ (j : ℕ). j + length t) (all-length (filed d {rate = 0} (omega arith))) in
@@ -190,22 +190,22 @@ module _ (s : List ℕ) (count : le_at 4 s 0 ≡ old_count) where
     rate-pass = (ap (λ (c : ℕ). eqb c new_count && eqb (cond (eqb c new_count) (le_at 4 s 14) 0) 0) count, tt)
 
     -- all that is said from section 0's fields on
-    abbrev after : Head → ℕ → ℕ → ℕ → ℕ → ℕ → Refusal
+    abbrev after : Head → ℕ → ℕ → ℕ → ℕ → ℕ → Outcome
     after h w p o u v =
         let m = whole_details (way_in s h) h.levels in
         let n = count_at (h.levels - m) h.samples in
-        first_refusal (field_checks h w p ++ (way_checks (way_in s h) (length s) ++ rooms_for w n o u v)) (Done (h.levels - m) n)
+        first_refusal (field_checks h w p ++ (way_checks (way_in s h) (length s) ++ rooms_for w n o u v)) (told (h.levels - m) n)
 
     now-says : (w p o u v : ℕ) → says_now s w p o u v ≡ after (head_in s) w p o u v
     now-says w p o u v =
         let way = way_checks (way_in s (head_in s)) (length s) ++ rooms_for w (count_in s) o u v in
-        let end = Done (level_in s) (count_in s) in
+        let end = told (level_in s) (count_in s) in
         pass_on (start_checks s) (field_checks (head_in s) w p ++ (rate_checks s ++ way)) end start-pass
         ∙ same-part (field_checks (head_in s) w p) (rate_checks s ++ way) way end end (pass_on (rate_checks s) way end rate-pass)
 
     before-says : (w p o u v : ℕ) → said_before s w p o u v ≡ after (head_before s) w p o u v
     before-says w p o u v =
-        pass_on (start_before s) (field_checks (head_before s) w p ++ (way_checks (way_in s (head_before s)) (length s) ++ rooms_for w (count_before s) o u v)) (Done (level_before s) (count_before s)) before-pass
+        pass_on (start_before s) (field_checks (head_before s) w p ++ (way_checks (way_in s (head_before s)) (length s) ++ rooms_for w (count_before s) o u v)) (told (level_before s) (count_before s)) before-pass
 
     -- the opener says what it said
     pub old-says : (w p o u v : ℕ) → say_open s w p o u v ≡ say_before s w p o u v
@@ -216,4 +216,4 @@ module _ (s : List ℕ) (count : le_at 4 s 0 ≡ old_count) where
     old-opens w p o u v r q o₁ u₁ v₁ o₂ u₂ v₂ now then =
         let e = old-says w p (length o) (length u) (length v) in
         let new : (samples_in s ++ drop (w * count_in s) o) ≡ (samples_before s ++ drop (w * count_before s) o) = ap₂ (λ (x : List ℕ) (n : ℕ). x ++ drop (w * n) o) old-samples.0 old-samples.1 in
-        (now.answer ∙ ap answer_of e ∙ sym then.answer, now.output ∙ ap₂ (λ (t : Refusal) (x : List ℕ). left t x o) e new ∙ sym then.output)
+        (now.answer ∙ ap answer_of e ∙ sym then.answer, now.output ∙ ap₂ (λ (t : Outcome) (x : List ℕ). left t x o) e new ∙ sym then.output)

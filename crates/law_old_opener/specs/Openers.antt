@@ -1,10 +1,9 @@
--- The opener as it was before C-17, when no file had a rate: document 01's opening checks, by that document's numbers. What C-17 did not change is pyramid's; a
+-- The opener as it was before C-17, when no file had a rate: document 01's opening checks, by that document's numbers. What C-17 did not change is file_open's; a
 -- later request that changes one of these keeps it here as it was.
 use Rattle.std.specs.Prelude.{not, List, [], ◌∷◌, ◌++◌, ◌≡◌, ℕ, ◌-◌, ◌*◌, ◌≤◌, ◌<◌, ltb, eqb, length, drop}
 use Rattle.base_answers.specs.declared.err.Answer.{Answer}
-use Rattle.base_answers.specs.declared.err.Refusal.{Refusal}
-use Rattle.base_answers.specs.declared.err.Refusal.TheVariants.{Done, TooLong, BadCount, CutShort}
-use Rattle.base_answers.specs.Answers.{say}
+use Rattle.base_answers.specs.declared.err.Refusal.TheVariants.{TooLong, BadCount, CutShort}
+use Rattle.base_answers.specs.Answers.{Outcome, told, say}
 use Rattle.base_answers.specs.Checks.{Check, first_refusal, Call}
 use Rattle.base_lengths.specs.Levels.{count_at}
 use Rattle.base_samples.specs.Le.{le_at}
@@ -43,8 +42,8 @@ unfoldable pub samples_before : List ℕ → List ℕ
 samples_before s = let h = head_before s in restored_at h.width s (whole_details (way_in s h) h.levels) (count_before s) h.body
 
 -- what it said, and what it left of the areas
-unfoldable pub say_before : List ℕ → ℕ → ℕ → ℕ → ℕ → ℕ → Refusal
-say_before s w p o u v = first_refusal (area_checks w o u v ++ (file_before s w p ++ rooms_for w (count_before s) o u v)) (Done (level_before s) (count_before s))
+unfoldable pub say_before : List ℕ → ℕ → ℕ → ℕ → ℕ → ℕ → Outcome
+say_before s w p o u v = first_refusal (area_checks w o u v ++ (file_before s w p ++ rooms_for w (count_before s) o u v)) (told (level_before s) (count_before s))
 
 abbrev pub OpenBefore : List ℕ → ℕ → ℕ → List ℕ → List ℕ → List ℕ → Answer → List ℕ → List ℕ → List ℕ → Type 0
 OpenBefore s w p o u v = Call (say_before s w p (length o) (length u) (length v)) (w * count_before s) (samples_before s ++ drop (w * count_before s) o) o u v

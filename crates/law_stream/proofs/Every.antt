@@ -8,8 +8,7 @@ use native.Mathlib.Omega.{arith}
 use lib.ListN.{length, replicate, length-replicate}
 use lib.Seq.{slice_empty}
 use Rattle.base_answers.specs.declared.err.Answer.{Answer}
-use Rattle.base_answers.specs.declared.err.Refusal.{Refusal}
-use Rattle.base_answers.specs.Answers.{answer_of, done}
+use Rattle.base_answers.specs.Answers.{Outcome, told, answer_of, done}
 use Rattle.base_answers.specs.Checks.{in_front}
 use Rattle.base_answers.proofs.Endings.{left-done, left-refused}
 use Rattle.base_lengths.specs.Lengths.{most_samples}
@@ -57,7 +56,7 @@ module _ {k : ℕ} (w : Width k) where
       let fits = piece-fits w f y area area e.1 (omega (arith, n)) room room in
       let s = say_piece k b (length y) (length area) (length area) in
       let call = streams-some s (state_bytes (state_of k (stand_in k (state_in b) ++ y))) (fixed_by low k (state_in b) y) (fixed_by high k (state_in b) y) b area area in
-      let z : (answer_of s).number ≡ 0 = ap (λ (s : Refusal). (answer_of s).number) fits in
+      let z : (answer_of s).number ≡ 0 = ap (λ (s : Outcome). (answer_of s).number) fits in
       let more = all_done ys (taken f e.0 call z) e.2 (omega (arith, n, (joined w x y (length x / k) (length y / k) (fed w f).whole e.1).count)) in
       (_, _, more.2, one_more e.0 call z more.3)
 
@@ -84,7 +83,7 @@ module _ {k : ℕ} (w : Width k) where
   pub empty-stays : {b a d : List ℕ} {r : Answer} {b' a' d' : List ℕ} → Bytes b → Piece k b [] a d r b' a' d' → (b' ≡ b) × (a' ≡ a) × (d' ≡ d)
   empty-stays {b} {a} {d} {r} {b'} {a'} {d'} bytes p = pick (done says) refl
     where
-      says : Refusal
+      says : Outcome
       says = say_piece k b 0 (length a) (length d)
 
       pick : (t : Bool) → done says ≡ t → (b' ≡ b) × (a' ≡ a) × (d' ≡ d)

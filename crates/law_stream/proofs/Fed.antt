@@ -9,7 +9,7 @@ use native.Mathlib.Omega.{arith}
 use lib.ListN.{length, take, drop, take-append-drop}
 use lib.Seq.{length-slice, length-take-le, take_all, take_at, take-take, drop_at}
 use Rattle.base_answers.specs.declared.err.Answer.{Answer}
-use Rattle.base_answers.specs.declared.err.Refusal.TheVariants.{Done}
+use Rattle.base_answers.specs.Answers.{told}
 use Rattle.base_answers.specs.Checks.{in_front}
 use Rattle.base_answers.proofs.Endings.{is-done}
 use Rattle.base_lengths.specs.Lengths.{most_samples, approx_length, details_length}
@@ -239,14 +239,14 @@ module _ {k : ℕ} (w : Width k) where
 
     -- a call is done on whole samples within the limit, with room for what it writes
     pub piece-fits : (y a d : List ℕ) → length y ≡ k * (length y / k) → let t = length x / k in let n = t + length y / k in n ≤ most_samples
-        → EnoughWords k (fixed n - fixed t) a → EnoughWords k (fixed n - fixed t) d → say_piece k b (length y) (length a) (length d) ≡ Done 0 0
+        → EnoughWords k (fixed n - fixed t) a → EnoughWords k (fixed n - fixed t) d → say_piece k b (length y) (length a) (length d) ≡ told 0 0
     piece-fits y a d e few ra rd =
         let h = fed f in
         let n = total w h in
         piece-passes w b y a d (sixteen w h) (record { width = w; state = standing w h; piece = holds w.some y (length y / k) e; few = rw n few }) (rw n ra) (rw n rd)
 
     pub finish-fits : (a d : List ℕ) → let t = length x / k in 3 ≤ t → EnoughWords k (approx_length t - fixed t) a → EnoughWords k (details_length t - fixed t) d
-        → say_finish k b (length a) (length d) ≡ Done 0 0
+        → say_finish k b (length a) (length d) ≡ told 0 0
     finish-fits a d long ra rd = let h = fed f in let n = total w h in finish-passes w b a d (sixteen w h) (standing w h) (rw n long) (rw n ra) (rw n rd)
 
 -- ---- the room that these ask

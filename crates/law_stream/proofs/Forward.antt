@@ -4,8 +4,8 @@ use mathlib.Core.Path.{◌≡◌, refl, sym, ◌∙◌}
 use Prim.Native.Nat.{ℕ, ◌*◌, ◌/◌, ◌≤◌}
 use native.Mathlib.Omega.{arith}
 use lib.ListN.{length}
+use Rattle.base_answers.specs.Answers.{told}
 use Rattle.base_answers.specs.declared.err.Answer.{Answer}
-use Rattle.base_answers.specs.declared.err.Refusal.TheVariants.{Done}
 use Rattle.base_answers.proofs.Endings.{is-done}
 use Rattle.base_lengths.specs.Lengths.{approx_length, details_length}
 use Rattle.base_lengths.specs.Calls.{say_forward}
@@ -56,7 +56,7 @@ module _ (f : Filter) (i : Integers f) {x lows highs b a d : List ℕ} {r : Answ
 
   -- and it is done where the areas are as long as the bands
   pub as-done : (low_bytes high_bytes : ℕ) → let k = width_of f in let t = length x / k in low_bytes ≡ k * approx_length t → high_bytes ≡ k * details_length t
-      → say_forward (wavelet_of f) k (length x) low_bytes high_bytes ≡ Done 0 0
+      → say_forward (wavelet_of f) k (length x) low_bytes high_bytes ≡ told 0 0
   as-done low_bytes high_bytes ea ed =
       let w = (own-bands f i).0 in
       let h = fed w fd in

@@ -6,9 +6,10 @@ use Prim.Native.Nat.{ℕ, ◌%◌}
 use native.Mathlib.Nat.{zero-mod}
 use native.Mathlib.Omega.{arith}
 use lib.Dec.{eqb}
+use Rattle.base_answers.specs.declared.err.Refusal.TheVariants.{BadCount}
+use Rattle.std.specs.Prelude.{Err}
 use Rattle.base_answers.specs.declared.err.Refusal.{Refusal}
-use Rattle.base_answers.specs.declared.err.Refusal.TheVariants.{Done, BadCount}
-use Rattle.base_answers.specs.Answers.{answer_of}
+use Rattle.base_answers.specs.Answers.{Outcome, told, answer_of}
 use Rattle.base_answers.specs.Checks.{Check, first_refusal, ragged}
 use Rattle.base_answers.proofs.Chain.{same}
 use Rattle.base_answers.proofs.Passed.{off, Passing, pass_on}
@@ -30,22 +31,22 @@ abbrev Never : Refusal → List Check → Type 0
 Never s [] = Unit {0}
 Never s (p ∷ rest) = (p.0 ≡ true → p.1 ≡ s → ⊥) × Never s rest
 
-never : (s e : Refusal) (l : List Check) → Never s l → (e ≡ s → ⊥) → first_refusal l e ≡ s → ⊥
+never : (s : Refusal) (e : Outcome) (l : List Check) → Never s l → (e ≡ Err s → ⊥) → first_refusal l e ≡ Err s → ⊥
 never s e [] n h q = h q
 never s e (p ∷ rest) n h q = pick p.0 refl (never s e rest n.1 h) q
   where
-    pick : (t : Bool) → p.0 ≡ t → (first_refusal rest e ≡ s → ⊥) → cond t p.1 (first_refusal rest e) ≡ s → ⊥
-    pick true z f q = n.0 z q
+    pick : (t : Bool) → p.0 ≡ t → (first_refusal rest e ≡ Err s → ⊥) → cond t (Err p.1) (first_refusal rest e) ≡ Err s → ⊥
+    pick true z f q = let same : p.1 ≡ s = cc in n.0 z same
     pick false z f q = f q
 
 -- another number is another refusal
-number : {r s : Refusal} → r ≡ s → (answer_of r).number ≡ (answer_of s).number
-number q = ap (λ (r : Refusal). (answer_of r).number) q
+number : {r s : Refusal} → r ≡ s → (answer_of (Err r)).number ≡ (answer_of (Err s)).number
+number q = ap (λ (r : Refusal). (answer_of (Err r)).number) q
 
 -- 0 bytes are whole, so no length is 9 (0, 0)
 whole-never : (k n : ℕ) → not (eqb (n % k) 0) ≡ true → BadCount 0 n ≡ BadCount 0 0 → ⊥
 whole-never k n g q =
-    let z : n ≡ 0 = ap (λ (r : Refusal). (answer_of r).second) q in
+    let z : n ≡ 0 = ap (λ (r : Refusal). (answer_of (Err r)).second) q in
     off (same (n % k) 0 (ap (λ (i : ℕ). i % k) z ∙ zero-mod k)) g
 
 module _ {k : ℕ} (w : Width k) where
@@ -70,20 +71,20 @@ module _ {k : ℕ} (w : Width k) where
 
   -- m are its own checks, behind those that both calls make
   module _ (b : List ℕ) (bytes : Bytes b) (y a d : ℕ) (m : List Check) (own : Never (BadCount 0 0) m) where
-    abbrev tells : Refusal
-    tells = first_refusal (lent_checks k b y a d ++ m) (Done 0 0)
+    abbrev tells : Outcome
+    tells = first_refusal (lent_checks k b y a d ++ m) (told 0 0)
 
-    nine-only : LeftBy k b → tells ≡ BadCount 0 0 → ⊥
+    nine-only : LeftBy k b → tells ≡ Err (BadCount 0 0) → ⊥
     nine-only l =
-        never (BadCount 0 0) (Done 0 0) (lent_checks k b y a d ++ m)
+        never (BadCount 0 0) (told 0 0) (lent_checks k b y a d ++ m)
         (whole-never k y, (whole-never k a, (whole-never k d, ((λ g. off (ap not ((left-by-calls b bytes).1 l)) g), own))))
-        (λ q. omega (arith, number q))
+        (λ q. absurd (cc))
 
-    nine-every : (t : Bool) → could_be k b ≡ t → Passing (ragged k y ∷ ragged k a ∷ ragged k d ∷ []) → (LeftBy k b → ⊥) → tells ≡ BadCount 0 0
+    nine-every : (t : Bool) → could_be k b ≡ t → Passing (ragged k y ∷ ragged k a ∷ ragged k d ∷ []) → (LeftBy k b → ⊥) → tells ≡ Err (BadCount 0 0)
     nine-every true e q none = absurd (none (could-left b bytes e))
     nine-every false e q none =
-        pass_on (ragged k y ∷ ragged k a ∷ ragged k d ∷ []) (state_check k b ∷ m) (Done 0 0) q
-        ∙ ap (λ t. cond (not t) (BadCount 0 0) (first_refusal m (Done 0 0))) e
+        pass_on (ragged k y ∷ ragged k a ∷ ragged k d ∷ []) (state_check k b ∷ m) (told 0 0) q
+        ∙ ap (λ t. cond (not t) (Err (BadCount 0 0)) (first_refusal m (told 0 0))) e
 
     nine : Nine k b y a d tells
     nine = record { only = λ e l. nine-only l e; every = λ ey ea ed. nine-every (could_be k b) refl (same _ _ ey, (same _ _ ea, (same _ _ ed, tt))) }

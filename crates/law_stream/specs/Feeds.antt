@@ -1,10 +1,9 @@
 -- Calls on one recording, from C-15: "however the input is cut, the bands equal those of the whole", and which states calls leave. Over k bytes a sample.
 use mathlib.Core.List.{List, [], ◌∷◌, ◌++◌, flatten}
-use Rattle.std.specs.Prelude.{◌≡◌, ℕ, ◌-◌, ◌*◌, ◌/◌, ◌%◌, ◌≤◌, length, take}
+use Rattle.std.specs.Prelude.{◌≡◌, ℕ, Err, ◌-◌, ◌*◌, ◌/◌, ◌%◌, ◌≤◌, length, take}
 use Rattle.base_answers.specs.declared.err.Answer.{Answer}
-use Rattle.base_answers.specs.declared.err.Refusal.{Refusal}
 use Rattle.base_answers.specs.declared.err.Refusal.TheVariants.{BadCount}
-use Rattle.base_answers.specs.Answers.{say}
+use Rattle.base_answers.specs.Answers.{Outcome, told, say}
 use Rattle.base_lengths.specs.Lengths.{most_samples, approx_length, details_length}
 use Rattle.base_samples.specs.Le.{Bytes}
 use Rattle.filter_cdf53i.specs.Bands.{low, high, EnoughWords}
@@ -53,9 +52,9 @@ pub record LeftBy (k : ℕ) (b : List ℕ) : Type 0 where
   pub calls : Fed k x lows highs b
 
 -- s, said of b and of lengths in bytes, is 9 (0, 0) for no state that calls left, and for every other where the lengths are whole
-pub record Nine (k : ℕ) (b : List ℕ) (y a d : ℕ) (s : Refusal) : Type 0 where
-  pub only : s ≡ BadCount 0 0 → LeftBy k b → ⊥
-  pub every : y % k ≡ 0 → a % k ≡ 0 → d % k ≡ 0 → (LeftBy k b → ⊥) → s ≡ BadCount 0 0
+pub record Nine (k : ℕ) (b : List ℕ) (y a d : ℕ) (s : Outcome) : Type 0 where
+  pub only : s ≡ Err (BadCount 0 0) → LeftBy k b → ⊥
+  pub every : y % k ≡ 0 → a % k ≡ 0 → d % k ≡ 0 → (LeftBy k b → ⊥) → s ≡ Err (BadCount 0 0)
 
 -- ---- every list of pieces
 

@@ -9,9 +9,9 @@ use borrow.Author.Tests.{le-ltb, ne_eqb, eqb-false}
 use lib.Dec.{eqb}
 use lib.ListN.{length}
 use Rattle.base_answers.specs.declared.err.Answer.{Answer}
-use Rattle.base_answers.specs.declared.err.Refusal.{Refusal}
-use Rattle.base_answers.specs.declared.err.Refusal.TheVariants.{Done, ApproxSizeNotMatches, BadCount, DetailsSizeNotMatches}
-use Rattle.base_answers.specs.Answers.{answer_of, says}
+use Rattle.base_answers.specs.declared.err.Refusal.TheVariants.{ApproxSizeNotMatches, BadCount, DetailsSizeNotMatches}
+use Rattle.std.specs.Prelude.{Err}
+use Rattle.base_answers.specs.Answers.{Outcome, told, answer_of, says}
 use Rattle.base_answers.specs.Checks.{Check, first_refusal}
 use Rattle.base_answers.proofs.Chain.{same}
 use Rattle.base_answers.proofs.Endings.{said-number}
@@ -67,9 +67,9 @@ deepest w Wrong a m ms h =
 
 -- the first level at which n is said: Wrong is what the level then has, by which of its two checks says n
 level-at : (n : ℕ) (w : Wavelet) (Wrong : ℕ → ℕ → Type 0) (room : List Check)
-    → ((a d : ℕ) → let m = a + d in says n (ApproxSizeNotMatches (expected_approx m) a) ≡ true → WrongApprox a d → Wrong a d)
-    → ((a d : ℕ) → let m = a + d in says n (DetailsSizeNotMatches (expected_details w m) d) ≡ true → WrongDetails w a d → Wrong a d)
-    → Without n room → says n (Done 0 0) ≡ false → (a : ℕ) (ms : List ℕ) → says n (first_refusal (band_checks w a ms ++ room) (Done 0 0)) ≡ true → WrongAt w Wrong a ms
+    → ((a d : ℕ) → let m = a + d in says n (Err (ApproxSizeNotMatches (expected_approx m) a)) ≡ true → WrongApprox a d → Wrong a d)
+    → ((a d : ℕ) → let m = a + d in says n (Err (DetailsSizeNotMatches (expected_details w m) d)) ≡ true → WrongDetails w a d → Wrong a d)
+    → Without n room → says n (told 0 0) ≡ false → (a : ℕ) (ms : List ℕ) → says n (first_refusal (band_checks w a ms ++ room) (told 0 0)) ≡ true → WrongAt w Wrong a ms
 unfolding band_checks
 level-at n w Wrong room p q o z a [] h = quiet n room o z h
 level-at n w Wrong room p q o z a (d ∷ ms) h =
@@ -80,7 +80,7 @@ level-at n w Wrong room p q o z a (d ∷ ms) h =
     (λ f.
     ⊎_elim (λ t. deepest w Wrong a d ms (q a d t.2 (right a (expected_approx m) t.0, differs d (expected_details w m) t.1)))
     (λ t. deeper-by w Wrong a d ms (t.0, (t.1, tt)) (level-at n w Wrong room p q o z m ms t.2)) f)
-    (either n (not (eqb a (expected_approx m))) (not (eqb d (expected_details w m))) two seventeen (band_checks w m ms ++ room) (Done 0 0) h)
+    (either n (not (eqb a (expected_approx m))) (not (eqb d (expected_details w m))) two seventeen (band_checks w m ms ++ room) (told 0 0) h)
 
 -- ---- the call
 
@@ -93,12 +93,12 @@ back-names f a d ls o u v r o' u' v' h =
           let m = t.approx + t.details in
           named (before ++ band_checks w i t.deeper) (band_checks w m t.finer ++ room) t.approx (expected_approx m) t.details (expected_details w m) (expected_approx m, t.approx) (expected_details w m, t.details) r
           (λ b. pass-both before (band_checks w i t.deeper) (to b) (bands-pass w i t.deeper t.fits))
-          (h.answer ∙ ap (λ (l : List Check). answer_of (first_refusal l (Done 0 0))) (parts t));
+          (h.answer ∙ ap (λ (l : List Check). answer_of (first_refusal l (told 0 0))) (parts t));
       says_two = λ g.
-          let p = passed-before 2 before (band_checks w i ms ++ room) (Done 0 0) (refl, (refl, (refl, (refl, (refl, (refl, (refl, (refl, (refl, (refl, (refl, (refl, (refl, tt))))))))))))) (said-number 2 said r h.answer g) in
+          let p = passed-before 2 before (band_checks w i ms ++ room) (told 0 0) (refl, (refl, (refl, (refl, (refl, (refl, (refl, (refl, (refl, (refl, (refl, (refl, (refl, tt))))))))))))) (said-number 2 said r h.answer g) in
           (from p.0, level-at 2 w WrongApprox room (λ a d s h. h) (λ a d s. off refl s) (refl, (refl, (refl, tt))) refl i ms p.1);
       says-seventeen = λ g.
-          let p = passed-before 17 before (band_checks w i ms ++ room) (Done 0 0) (refl, (refl, (refl, (refl, (refl, (refl, (refl, (refl, (refl, (refl, (refl, (refl, (refl, tt))))))))))))) (said-number 17 said r h.answer g) in
+          let p = passed-before 17 before (band_checks w i ms ++ room) (told 0 0) (refl, (refl, (refl, (refl, (refl, (refl, (refl, (refl, (refl, (refl, (refl, (refl, (refl, tt))))))))))))) (said-number 17 said r h.answer g) in
           (from p.0, level-at 17 w (WrongDetails w) room (λ a d s h. off refl s) (λ a d s h. h) (refl, (refl, (refl, tt))) refl i ms p.1);
     }
   where
@@ -120,7 +120,7 @@ back-names f a d ls o u v r o' u' v' h =
     ms : List ℕ
     ms = words_of 4 ls
 
-    said : Refusal
+    said : Outcome
     said = say_back f (length a) (length d) ls (length o) (length u) (length v)
 
     before : List Check

@@ -8,8 +8,7 @@ use native.Mathlib.Omega.{arith}
 use lib.ListN.{length, get_or}
 use lib.Dec.{leb}
 use Rattle.base_answers.specs.declared.err.Answer.{Answer}
-use Rattle.base_answers.specs.declared.err.Refusal.TheVariants.{Done}
-use Rattle.base_answers.specs.Answers.{say}
+use Rattle.base_answers.specs.Answers.{told, say}
 use Rattle.base_answers.specs.Checks.{first_refusal, ragged}
 use Rattle.base_answers.proofs.Endings.{said-number}
 use Rattle.base_lengths.specs.declared.Wavelet.{Wavelet}
@@ -119,6 +118,6 @@ multi-never f l x o u v r o' u' v' h =
     let n = length x / k in
     let t = leb l 1 in
     let all = ragged k (length x) ∷ ragged k (length o) ∷ ragged k (length u) ∷ ragged k (length v) ∷ multi_checks f l (length x / k) (length o / k) (length u / k) (length v / k) in (
-      (λ g. quiet 2 all (refl, (refl, (refl, (refl, (refl, (shallow-says 2 refl refl f n t, (refl, (refl, (refl, tt))))))))) refl (said-number 2 (first_refusal all (Done 0 0)) r h.answer g)),
-      (λ g. quiet 17 all (refl, (refl, (refl, (refl, (refl, (shallow-says 17 refl refl f n t, (refl, (refl, (refl, tt))))))))) refl (said-number 17 (first_refusal all (Done 0 0)) r h.answer g)),
+      (λ g. quiet 2 all (refl, (refl, (refl, (refl, (refl, (shallow-says 2 refl refl f n t, (refl, (refl, (refl, tt))))))))) refl (said-number 2 (first_refusal all (told 0 0)) r h.answer g)),
+      (λ g. quiet 17 all (refl, (refl, (refl, (refl, (refl, (shallow-says 17 refl refl f n t, (refl, (refl, (refl, tt))))))))) refl (said-number 17 (first_refusal all (told 0 0)) r h.answer g)),
     )

@@ -7,9 +7,8 @@ use native.Mathlib.Nat.{mul-add, mul-le-mul_left}
 use native.Mathlib.Omega.{arith}
 use borrow.Author.Tests.{eqb-false}
 use lib.ListN.{length}
-use Rattle.base_answers.specs.declared.err.Refusal.TheVariants.{Done}
-use Rattle.base_answers.specs.Answers.{done}
-use Rattle.base_answers.proofs.Passed.{Passing, passing, both-refuse, both-pass, whole, roomy, right}
+use Rattle.base_answers.specs.Answers.{told, done}
+use Rattle.base_answers.proofs.Passed.{Passing, passing, both-pass, whole, roomy, right}
 use Rattle.base_lengths.specs.declared.Wavelet.{Wavelet}
 use Rattle.base_lengths.specs.Lengths.{most_samples, expected_approx, expected_details}
 use Rattle.base_lengths.proofs.OneLevel.{expected}
@@ -19,7 +18,6 @@ use Rattle.levels_filter.specs.declared.filter.Filter.{Filter}
 use Rattle.levels_filter.specs.Filters.{width_of, wavelet_of}
 use Rattle.levels_filter.specs.Calls.{room_checks}
 use Rattle.levels_filter.specs.Backward.{total, band_checks, whole_checks, back_checks, say_back, Fits, Rising}
-use Rattle.levels_filter.proofs.LevelsBack.{bands-refuse}
 
 -- bands that pass the checks are those of levels
 pub bands-fit : (w : Wavelet) (a : ℕ) (ms : List ℕ) → Passing (band_checks w a ms) → Fits w a ms
@@ -38,8 +36,7 @@ back-ready f a d ls o u v h =
     let ms = words_of 4 ls in
     let bands = band_checks (wavelet_of f) (a / k) ms in
     let room = room_checks (a / k + d / k) (o / k) (u / k) (v / k) in
-    let p = passing (whole_checks k a d (length ls) o u v ++ back_checks f (a / k) (d / k) ms (o / k) (u / k) (v / k)) (Done 0 0)
-    (refl, (refl, (refl, (refl, (refl, (refl, (refl, (refl, (refl, (refl, (refl, (refl, (refl, both-refuse bands room (bands-refuse (wavelet_of f) (a / k) ms) (refl, (refl, (refl, tt)))))))))))))))) h in
+    let p = passing (whole_checks k a d (length ls) o u v ++ back_checks f (a / k) (d / k) ms (o / k) (u / k) (v / k)) (told 0 0) h in
     let q = p.1.1.1.1.1.1 in
     let b = both-pass bands room q.1.1.1.1.1.1.1 in
     let ea = whole k a p.0 in

@@ -1,6 +1,6 @@
 -- Bytes of n samples and of their two bands, and that levels and bytes are few.
 use mathlib.Core.Path.{◌≡◌, ap, ◌∙◌}
-use Prim.Native.Nat.{ℕ, ◌+◌, ◌*◌, ◌^◌, ◌≤◌, ◌<◌}
+use Prim.Native.Nat.{ℕ, ◌+◌, ◌*◌, ◌≤◌, ◌<◌}
 use native.Mathlib.Nat.{mul-add}
 use native.Mathlib.Omega.{arith}
 use Rattle.base_lengths.specs.declared.Wavelet.{Wavelet}
@@ -10,7 +10,6 @@ use Rattle.base_lengths.proofs.Depths.{depth-at-most}
 use Rattle.levels_filter.specs.declared.filter.Filter.{Filter}
 use Rattle.levels_filter.specs.declared.filter.Filter.TheVariants.{Cdf53I8, Cdf53I16, Cdf53I32, Cdf53F32, Cdf53F64, Cdf97F32, Cdf97F64}
 use Rattle.levels_filter.specs.Filters.{width_of}
-use Rattle.levels_filter.specs.Calls.{Cut}
 
 pub width-pos : (f : Filter) → 0 < width_of f
 width-pos Cdf53I8 = omega arith
@@ -21,16 +20,6 @@ width-pos Cdf53F64 = omega arith
 width-pos Cdf97F32 = omega arith
 width-pos Cdf97F64 = omega arith
 
--- no number of samples takes too many bytes
-pub width_room : (f : Filter) (n : ℕ) → n ≤ most_samples → width_of f * n < 2 ^ 63
-width_room Cdf53I8 n h = omega arith
-width_room Cdf53I16 n h = omega arith
-width_room Cdf53I32 n h = omega arith
-width_room Cdf53F32 n h = omega arith
-width_room Cdf53F64 n h = omega arith
-width_room Cdf97F32 n h = omega arith
-width_room Cdf97F64 n h = omega arith
-
 -- levels within the depth fit a byte
 pub few-levels : (w : Wavelet) (l n : ℕ) → l ≤ depth_of w n → n ≤ most_samples → l < 256
 few-levels w l n h s = omega (arith, h, depth-at-most w 23 n s)
@@ -40,6 +29,3 @@ split-width k n = let e : n ≡ approx_length n + details_length n = omega arith
 
 pub half-within : (k n : ℕ) → k * approx_length n ≤ k * n
 half-within k n = omega (arith, split-width k n)
-
-pub cut_at : (f : Filter) (n r : ℕ) → r ≡ width_of f * approx_length n → Cut f n r
-cut_at f n r e = let s = split-width (width_of f) n in record { place = e; within = omega arith; rest = omega arith }

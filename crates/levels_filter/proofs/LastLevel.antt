@@ -1,18 +1,16 @@
--- `dwt`: what its checks leave, the two ends of the call, and that two results which the statement allows are equal. Looks into no filter.
-use mathlib.Core.Bool.{true, false, cond}
+-- `dwt`: what its checks leave, what a done call leaves, and that two results which the statement allows are equal. Looks into no filter.
+use mathlib.Core.Bool.{true, cond}
 use mathlib.Core.List.{List, ◌∷◌}
-use mathlib.Core.Path.{◌≡◌, refl, sym, ap, ◌∙◌}
+use mathlib.Core.Path.{◌≡◌, sym, ap, ◌∙◌}
 use Prim.Native.Nat.{ℕ, suc, ◌-◌, ◌*◌, ◌/◌}
 use native.Mathlib.Nat.{mul-le-mul_left}
 use native.Mathlib.Omega.{arith}
 use lib.ListN.{length, drop}
 use Rattle.base_answers.specs.declared.err.Answer.{Answer}
-use Rattle.base_answers.specs.declared.err.Refusal.{Refusal}
-use Rattle.base_answers.specs.declared.err.Refusal.TheVariants.{Done}
-use Rattle.base_answers.specs.Answers.{answer_of, done}
+use Rattle.base_answers.specs.Answers.{Outcome, told, answer_of, done}
 use Rattle.base_answers.specs.Checks.{ragged, Spared}
 use Rattle.base_answers.proofs.Passed.{passing, whole, roomy, right}
-use Rattle.base_answers.proofs.Endings.{left-done, left-refused, spared, untouched}
+use Rattle.base_answers.proofs.Endings.{left-done, spared}
 use Rattle.base_lengths.specs.Lengths.{most_samples, approx_length, details_length}
 use Rattle.base_lengths.specs.Levels.{after_levels, count_at, depth_of, levels_of}
 use Rattle.levels_filter.specs.declared.filter.Filter.{Filter}
@@ -29,8 +27,7 @@ unfolding say_dwt
 dwt-ready f l x a d u v h =
     let k = width_of f in
     let m = count_at (levels_of l - 1) (x / k) in
-    let p = passing (ragged k x ∷ ragged k a ∷ ragged k d ∷ ragged k u ∷ ragged k v ∷ dwt_checks f l (x / k) (a / k) (d / k) (u / k) (v / k)) (Done 0 0)
-    (refl, (refl, (refl, (refl, (refl, (refl, (refl, (refl, (refl, (refl, (refl, tt))))))))))) h in
+    let p = passing (ragged k x ∷ ragged k a ∷ ragged k d ∷ ragged k u ∷ ragged k v ∷ dwt_checks f l (x / k) (a / k) (d / k) (u / k) (v / k)) (told 0 0) h in
     let q = p.1.1.1.1.1 in
     let eu = whole k u p.1.1.1.0 in
     let ev = whole k v p.1.1.1.1.0 in
@@ -51,34 +48,23 @@ dwt-ready f l x a d u v h =
     )
 
 module _ (f : Filter) (l : ℕ) (x a d u v : List ℕ) where
-  abbrev said : Refusal
+  abbrev said : Outcome
   said = say_dwt f l (length x) (length a) (length d) (length u) (length v)
 
   abbrev input : List ℕ
   input = approx_at f (levels_of l - 1) x
 
-  -- s is what the checks said, r its numbers, and n the number of samples
-  pub dwt-done : (s : Refusal) (r : Answer) (n : ℕ) {a' d' : List ℕ} (u' v' : List ℕ) → s ≡ said → r ≡ answer_of s → done s ≡ true → width_of f * n ≡ length x
-      → Parted f input a' d' → drop (width_of f * n) u' ≡ drop (width_of f * n) u → drop (width_of f * n) v' ≡ drop (width_of f * n) v → Dwt f l x a d u v r a' d' u' v'
-  dwt-done s r n u' v' es er z en p hu hv =
-      let t : done said ≡ true = rw es at z in
+  -- what a call leaves whose checks pass; n is the number of samples
+  pub dwt-done : (n : ℕ) {a' d' u' v' : List ℕ} → told 0 0 ≡ said → width_of f * n ≡ length x → Parted f input a' d' → drop (width_of f * n) u' ≡ drop (width_of f * n) u
+      → drop (width_of f * n) v' ≡ drop (width_of f * n) v → Dwt f l x a d u v (answer_of (told 0 0)) a' d' u' v'
+  dwt-done n {u' = u'} {v' = v'} es en p hu hv =
+      let t : done said ≡ true = sym (ap done es) in
       record {
-        answer = er ∙ ap answer_of es;
+        answer = ap answer_of es;
         approx = p.0 ∙ sym (left-done said (low_of f input) a t);
         details = p.1 ∙ sym (left-done said (high_of f input) d t);
         first = spared said (length x) u u' t (rw en at hu);
         second = spared said (length x) v v' t (rw en at hv);
-      }
-
-  pub dwt-refused : (s : Refusal) (r : Answer) → s ≡ said → r ≡ answer_of s → done s ≡ false → Dwt f l x a d u v r a d u v
-  dwt-refused s r es er z =
-      let t : done said ≡ false = rw es at z in
-      record {
-        answer = er ∙ ap answer_of es;
-        approx = sym (left-refused said (low_of f input) a t);
-        details = sym (left-refused said (high_of f input) d t);
-        first = untouched said (length x) u;
-        second = untouched said (length x) v;
       }
 
   pub dwt-decides : (r s : Answer) (a₁ d₁ u₁ v₁ a₂ d₂ u₂ v₂ : List ℕ) → Dwt f l x a d u v r a₁ d₁ u₁ v₁ → Dwt f l x a d u v s a₂ d₂ u₂ v₂

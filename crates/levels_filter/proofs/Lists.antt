@@ -33,13 +33,6 @@ copied s d e =
 pub put_front : (xs r : List ℕ) (j n : ℕ) → length r ≡ j → j ≤ n → (take j (r ++ drop j xs) ≡ r) × (drop n (r ++ drop j xs) ≡ drop n xs)
 put_front xs r j n e h = (take_at r (drop j xs) j e, later j n (r ++ drop j xs) xs h (drop_at r (drop j xs) j e))
 
--- a copy over the front: what the front holds, and what comes after
-pub copied-front : (s d : List ℕ) (n : ℕ) → n ≡ length s → take n (take (length s) s ++ drop (length s) d) ≡ s
-copied-front s d n e = ap (λ (j : ℕ). take j (take (length s) s ++ drop (length s) d)) e ∙ take_at (take (length s) s) (drop (length s) d) (length s) (length-take-le (length s) s (omega arith)) ∙ take_all (length s) s (omega arith)
-
-pub copied-after : (s d : List ℕ) (n : ℕ) → length s ≤ n → drop n (take (length s) s ++ drop (length s) d) ≡ drop n d
-copied-after s d n h = later (length s) n (take (length s) s ++ drop (length s) d) d h (drop_at (take (length s) s) (drop (length s) d) (length s) (length-take-le (length s) s (omega arith)))
-
 -- a part up to the end is what is left
 pub end_is : (a : ℕ) (xs : List ℕ) → take (length xs - a) (drop a xs) ≡ drop a xs
 end_is a xs = take_all (length xs - a) (drop a xs) (simp length-drop (omega arith))

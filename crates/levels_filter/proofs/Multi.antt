@@ -5,11 +5,12 @@ use mathlib.Core.Path.{◌≡◌, refl, ap, ◌∙◌}
 use Prim.Native.Nat.{ℕ, zero, suc, ◌*◌, ◌/◌, ◌<◌}
 use native.Mathlib.Nat.{mul-le-mul_left}
 use native.Mathlib.Omega.{arith}
-use lib.Dec.{leb, eqb, eqb-suc-zero}
-use Rattle.base_answers.specs.declared.err.Refusal.TheVariants.{Done, BufferWasTooSmallForLevel}
-use Rattle.base_answers.specs.Answers.{says, done}
+use lib.Dec.{eqb, eqb-suc-zero}
+use Rattle.std.specs.Prelude.{Err}
+use Rattle.base_answers.specs.declared.err.Refusal.TheVariants.{BufferWasTooSmallForLevel}
+use Rattle.base_answers.specs.Answers.{told, says, done}
 use Rattle.base_answers.specs.Checks.{ragged, two_areas}
-use Rattle.base_answers.proofs.Passed.{Refusing, Passing, passing, whole, roomy, right}
+use Rattle.base_answers.proofs.Passed.{Passing, passing, whole, roomy, right}
 use Rattle.base_lengths.specs.Lengths.{most_samples}
 use Rattle.base_lengths.specs.Levels.{depth_of, levels_of}
 use Rattle.levels_filter.specs.declared.filter.Filter.{Filter}
@@ -22,7 +23,7 @@ levels-pos zero = omega arith
 levels-pos (suc l) = simp (eqb-suc-zero l) (omega arith)
 
 -- a depth below the levels is refused with 1 or 4, so with no number i that is neither
-short-says : (i : ℕ) → eqb 1 i ≡ false → eqb 4 i ≡ false → (f : Filter) (n : ℕ) → says i (too_short f n) ≡ false
+short-says : (i : ℕ) → eqb 1 i ≡ false → eqb 4 i ≡ false → (f : Filter) (n : ℕ) → says i (Err (too_short f n)) ≡ false
 short-says i p q Cdf53I8 n = p
 short-says i p q Cdf53I16 n = p
 short-says i p q Cdf53I32 n = p
@@ -31,16 +32,12 @@ short-says i p q Cdf53F64 n = q
 short-says i p q Cdf97F32 n = q
 short-says i p q Cdf97F64 n = q
 
-pub shallow-says : (i : ℕ) → eqb 1 i ≡ false → eqb 4 i ≡ false → (f : Filter) (n : ℕ) (t : Bool) → says i (cond t (too_short f n) BufferWasTooSmallForLevel) ≡ false
+pub shallow-says : (i : ℕ) → eqb 1 i ≡ false → eqb 4 i ≡ false → (f : Filter) (n : ℕ) (t : Bool) → says i (Err (cond t (too_short f n) BufferWasTooSmallForLevel)) ≡ false
 shallow-says i p q f n true = short-says i p q f n
 shallow-says i p q f n false = q
 
-pub shallow-refused : (f : Filter) (n : ℕ) (t : Bool) → done (cond t (too_short f n) BufferWasTooSmallForLevel) ≡ false
-shallow-refused f n t = shallow-says 0 refl refl f n t
-
--- the checks of the levels refuse with what no done call says
-pub depth-refuse : (f : Filter) (l n : ℕ) → Refusing (depth_checks f l n)
-depth-refuse f l n = (refl, (shallow-refused f n (leb l 1), tt))
+pub shallow-refused : (f : Filter) (n : ℕ) (t : Bool) → done {A = ℕ × ℕ} (Err (cond t (too_short f n) BufferWasTooSmallForLevel)) ≡ false
+shallow-refused f n t = refl
 
 -- what checks that pass leave: x, u and v bytes are whole samples, the levels run, and two areas have room
 pub checked-ready : (f : Filter) (l x u v : ℕ) → let k = width_of f in Passing (ragged k x ∷ ragged k u ∷ ragged k v ∷ []) → Passing (depth_checks f l (x / k)) → Passing (two_areas (u / k) (v / k) (x / k))
@@ -65,8 +62,7 @@ pub multi-ready : (f : Filter) (l x o u v : ℕ) → done (say_multi f l x o u v
 unfolding say_multi
 multi-ready f l x o u v h =
     let k = width_of f in
-    let p = passing (ragged k x ∷ ragged k o ∷ ragged k u ∷ ragged k v ∷ multi_checks f l (x / k) (o / k) (u / k) (v / k)) (Done 0 0)
-    (refl, (refl, (refl, (refl, (refl, (shallow-refused f (x / k) (leb l 1), (refl, (refl, (refl, tt))))))))) h in
+    let p = passing (ragged k x ∷ ragged k o ∷ ragged k u ∷ ragged k v ∷ multi_checks f l (x / k) (o / k) (u / k) (v / k)) (told 0 0) h in
     let q = p.1.1.1.1 in (
       checked-ready f l x u v (p.0, (p.1.1.0, (p.1.1.1.0, tt))) (q.0, (q.1.0, tt)) q.1.1.1,
       whole k o p.1.0 ∙ ap (λ n. k * n) (right (o / k) (x / k) q.1.1.0),

@@ -1,7 +1,9 @@
 -- Room for levels: what one level of it is lent, and what it leaves for the levels below. Looks into no filter.
+use mathlib.Core.List.{List}
 use mathlib.Core.Path.{◌≡◌, ap}
 use Prim.Native.Nat.{ℕ, suc, ◌*◌, ◌≤◌, ◌<◌}
 use native.Mathlib.Omega.{arith}
+use lib.ListN.{drop}
 use Rattle.base_lengths.specs.Lengths.{approx_length, details_length, smallest_of}
 use Rattle.base_lengths.specs.Levels.{after_levels, count_at, depth_of}
 use Rattle.base_lengths.proofs.Depths.{step, two-below}
@@ -10,6 +12,7 @@ use Rattle.levels_filter.specs.declared.filter.Filter.{Filter}
 use Rattle.levels_filter.specs.Filters.{width_of, wavelet_of}
 use Rattle.levels_filter.specs.Calls.{LevelOf, LowOf, BandsOf, Room, Ready}
 use Rattle.levels_filter.proofs.Cuts.{width-pos, half-within}
+use Rattle.levels_filter.proofs.Lists.{later}
 
 pub ready-room : (f : Filter) {l n x u v : ℕ} → Ready f l n x u v → Room f l n u v
 ready-room f r = record { deep = r.deep; short = r.short; first = r.first; second = r.second }
@@ -29,6 +32,10 @@ module _ (f : Filter) {l n u v : ℕ} (r : Room f l n u v) where
 
   pub low-at : {x a : ℕ} → 0 < l → x ≡ width_of f * n → a ≡ width_of f * approx_length n → LowOf f x a
   low-at {x} p e b = level-at p e (b, ap (λ (j : ℕ). width_of f * details_length j) (count-is (width_of f) n x (width-pos f) e))
+
+-- what the levels below one leave behind the bytes of its approximations, they leave behind those of its samples
+pub kept-behind : (f : Filter) (n : ℕ) {half : ℕ} (a b : List ℕ) → half ≡ approx_length n → drop (width_of f * half) a ≡ drop (width_of f * half) b → drop (width_of f * n) a ≡ drop (width_of f * n) b
+kept-behind f n a b e h = later _ _ a b (half-within (width_of f) n) (rw e at h)
 
 -- the bands after no level, and after one more
 pub bands-none : (f : Filter) {l a d : ℕ} (n : ℕ) → l ≡ 0 → BandsOf f (count_at l n) a d → BandsOf f n a d

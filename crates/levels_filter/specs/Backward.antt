@@ -1,8 +1,8 @@
 -- The checks of `multi_idwt`, as a list in document 01's order, and what the call promises. Over the filter.
 use Rattle.std.specs.Prelude.{not, List, [], ◌∷◌, ◌++◌, ◌≡◌, ℕ, ◌+◌, ◌*◌, ◌/◌, ◌≤◌, ltb, eqb, length}
 use Rattle.base_answers.specs.declared.err.Answer.{Answer}
-use Rattle.base_answers.specs.declared.err.Refusal.{Refusal}
-use Rattle.base_answers.specs.declared.err.Refusal.TheVariants.{Done, ZeroedBaseSize, TooLong, BadCount}
+use Rattle.base_answers.specs.declared.err.Refusal.TheVariants.{ZeroedBaseSize, TooLong, BadCount}
+use Rattle.base_answers.specs.Answers.{Outcome, told}
 use Rattle.base_answers.specs.Checks.{Check, first_refusal, ragged, Call}
 use Rattle.base_lengths.specs.declared.Wavelet.{Wavelet}
 use Rattle.base_lengths.specs.Lengths.{most_samples, approx_length, details_length, smallest_of}
@@ -38,20 +38,24 @@ unfoldable pub band_checks : Wavelet → ℕ → List ℕ → List Check
 band_checks w a [] = []
 band_checks w a (m ∷ ms) = inverse_bands w (a + m) a m ++ band_checks w (a + m) ms
 
+-- the lengths ms against the d details
+abbrev pub sum_check : ℕ → List ℕ → Check
+sum_check d ms = (not (eqb (total ms) d), BadCount 0 (total ms))
+
 -- all of them; ms are the lengths
 abbrev pub back_checks : Filter → ℕ → ℕ → List ℕ → ℕ → ℕ → ℕ → List Check
-back_checks f a d ms n u v = size_checks a d (length ms) n ++ ((not (eqb (total ms) d), BadCount 0 (total ms)) ∷ (band_checks (wavelet_of f) a ms ++ room_checks (a + d) n u v))
+back_checks f a d ms n u v = size_checks a d (length ms) n ++ (sum_check d ms ∷ (band_checks (wavelet_of f) a ms ++ room_checks (a + d) n u v))
 
 -- the byte lengths that are to be whole: approximations, details and lengths, then output and work areas
 abbrev pub whole_checks : ℕ → ℕ → ℕ → ℕ → ℕ → ℕ → ℕ → List Check
 whole_checks k a d c n u v = ragged k a ∷ ragged k d ∷ ragged 4 c ∷ ragged k n ∷ ragged k u ∷ ragged k v ∷ []
 
 -- what `multi_idwt` says, by byte lengths; ls is the slice of lengths, each a u32
-unfoldable pub say_back : Filter → ℕ → ℕ → List ℕ → ℕ → ℕ → ℕ → Refusal
+unfoldable pub say_back : Filter → ℕ → ℕ → List ℕ → ℕ → ℕ → ℕ → Outcome
 say_back f a d ls n u v =
     first_refusal
     (whole_checks (width_of f) a d (length ls) n u v ++ back_checks f (a / width_of f) (d / width_of f) (words_of 4 ls) (n / width_of f) (u / width_of f) (v / width_of f))
-    (Done 0 0)
+    (told 0 0)
 
 -- the answer r, and the output and the work areas that `multi_idwt` leaves
 abbrev pub MultiBack : Filter → List ℕ → List ℕ → List ℕ → List ℕ → List ℕ → List ℕ → Answer → List ℕ → List ℕ → List ℕ → Type 0

@@ -2,8 +2,8 @@
 use Rattle.std.specs.Prelude.{cond, not, List, [], ◌∷◌, ◌++◌, ◌≡◌, ℕ, ◌+◌, ◌-◌, ◌*◌, ◌/◌, ◌≤◌, ◌<◌, ltb, leb, eqb, length}
 use Rattle.base_answers.specs.declared.err.Answer.{Answer}
 use Rattle.base_answers.specs.declared.err.Refusal.{Refusal}
-use Rattle.base_answers.specs.declared.err.Refusal.TheVariants.{Done, MinFilterSize, OutputSizeIsNotValid, BufferWasTooSmallForLevel, TooLong}
-use Rattle.base_answers.specs.Answers.{answer_of}
+use Rattle.base_answers.specs.declared.err.Refusal.TheVariants.{MinFilterSize, OutputSizeIsNotValid, BufferWasTooSmallForLevel, TooLong}
+use Rattle.base_answers.specs.Answers.{Outcome, told, answer_of}
 use Rattle.base_answers.specs.Checks.{Check, first_refusal, ragged, two_areas, left, Spared, Call}
 use Rattle.base_lengths.specs.Lengths.{most_samples, approx_length, details_length}
 use Rattle.base_lengths.specs.Calls.{Level, Forward, Inverse, forward_bands}
@@ -60,11 +60,11 @@ abbrev pub multi_checks : Filter → ℕ → ℕ → ℕ → ℕ → ℕ → Lis
 multi_checks f l n m u v = depth_checks f l n ++ room_checks n m u v
 
 -- the same by byte lengths
-unfoldable pub say_multi : Filter → ℕ → ℕ → ℕ → ℕ → ℕ → Refusal
+unfoldable pub say_multi : Filter → ℕ → ℕ → ℕ → ℕ → ℕ → Outcome
 say_multi f l n m u v =
     first_refusal (ragged (width_of f) n ∷ ragged (width_of f) m ∷ ragged (width_of f) u ∷ ragged (width_of f) v
     ∷ multi_checks f l (n / width_of f) (m / width_of f) (u / width_of f) (v / width_of f))
-    (Done 0 0)
+    (told 0 0)
 
 -- the answer r, and the output and the work areas that `multi_dwt` leaves
 abbrev pub Multi : Filter → ℕ → List ℕ → List ℕ → List ℕ → List ℕ → Answer → List ℕ → List ℕ → List ℕ → Type 0
@@ -78,11 +78,11 @@ dwt_checks f l n a d u v =
     ∷ (ltb (depth_of (wavelet_of f) n) (levels_of l), BufferWasTooSmallForLevel)
     ∷ (forward_bands m a d ++ two_areas u v n)
 
-unfoldable pub say_dwt : Filter → ℕ → ℕ → ℕ → ℕ → ℕ → ℕ → Refusal
+unfoldable pub say_dwt : Filter → ℕ → ℕ → ℕ → ℕ → ℕ → ℕ → Outcome
 say_dwt f l n a d u v =
     first_refusal (ragged (width_of f) n ∷ ragged (width_of f) a ∷ ragged (width_of f) d ∷ ragged (width_of f) u ∷ ragged (width_of f) v
     ∷ dwt_checks f l (n / width_of f) (a / width_of f) (d / width_of f) (u / width_of f) (v / width_of f))
-    (Done 0 0)
+    (told 0 0)
 
 -- the answer r, and the bands of the last level and the work areas that `dwt` leaves
 pub record Dwt (f : Filter) (l : ℕ) (x a d u v : List ℕ) (r : Answer) (a' d' u' v' : List ℕ) : Type 0 where

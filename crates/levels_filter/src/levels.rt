@@ -1,6 +1,6 @@
 // What the drivers share: the levels and the room that are asked for, and where bands stand and how many bytes they are.
 ghost use Rattle.std.specs.Prelude.{◌≡◌, ◌*◌, ◌<◌, ◌≤◌, ◌^◌};
-ghost use Rattle.base_answers.specs.Checks.{first_refusal};
+ghost use Rattle.base_answers.specs.Checks.{passes};
 ghost use Rattle.base_lengths.specs.Lengths.{most_samples};
 ghost use Rattle.levels_filter.specs.Filters.{width_of};
 ghost use Rattle.levels_filter.specs.Pyramids.{count_size, laid_size};
@@ -23,10 +23,7 @@ pub fn cut_of(f: Filter, n: usize) -> usize
 fn count_size(counted: bool) -> usize
     ensures { result ≡ count_size counted }
 {
-    if counted {
-        return 4;
-    }
-    0
+    if counted { 4 } else { 0 }
 }
 
 // The bytes of all bands of n samples and so many levels, with their counts or without.
@@ -42,38 +39,34 @@ fn too_short(f: Filter, n: usize) -> Refusal
     ensures { result ≡ too_short f n }
 {
     match f {
-        Filter::Cdf53I8 => Refusal::MinFilterSize(n, 3),
-        Filter::Cdf53I16 => Refusal::MinFilterSize(n, 3),
-        Filter::Cdf53I32 => Refusal::MinFilterSize(n, 3),
-        Filter::Cdf53F32 => Refusal::BufferWasTooSmallForLevel,
-        Filter::Cdf53F64 => Refusal::BufferWasTooSmallForLevel,
-        Filter::Cdf97F32 => Refusal::BufferWasTooSmallForLevel,
-        Filter::Cdf97F64 => Refusal::BufferWasTooSmallForLevel,
+        Filter::Cdf53I8 | Filter::Cdf53I16 | Filter::Cdf53I32 => Refusal::MinFilterSize(n, 3),
+        _ => Refusal::BufferWasTooSmallForLevel,
     }
 }
 
 // The levels asked for of n samples.
-pub fn check_depth(f: Filter, levels: usize, n: usize) -> Refusal
-    ensures { result ≡ first_refusal (depth_checks f levels n) (Refusal.Done 0 0) }
+pub fn check_depth(f: Filter, levels: usize, n: usize) -> Result<(), Refusal>
+    ensures { result ≡ passes (depth_checks f levels n) }
 {
     if MOST_SAMPLES < n {
-        return Refusal::TooLong;
+        return Err(Refusal::TooLong);
     }
     if depth(wavelet(f), n) < at_least_one(levels) {
-        if levels <= 1 {
-            return too_short(f, n);
-        }
-        return Refusal::BufferWasTooSmallForLevel;
+        return Err(if levels <= 1 {
+            too_short(f, n)
+        } else {
+            Refusal::BufferWasTooSmallForLevel
+        });
     }
-    Refusal::Done(0, 0)
+    Ok(())
 }
 
 // Room for n samples: m of the output, u and v of the work areas.
-pub fn check_room(n: usize, m: usize, u: usize, v: usize) -> Refusal
-    ensures { result ≡ first_refusal (room_checks n m u v) (Refusal.Done 0 0) }
+pub fn check_room(n: usize, m: usize, u: usize, v: usize) -> Result<(), Refusal>
+    ensures { result ≡ passes (room_checks n m u v) }
 {
     if m != n {
-        return Refusal::OutputSizeIsNotValid(m, n);
+        return Err(Refusal::OutputSizeIsNotValid(m, n));
     }
     two_areas(u, v, n)
 }

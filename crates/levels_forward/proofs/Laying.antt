@@ -37,11 +37,6 @@ count-laid c o o₁ y p n r e h q =
     let front : take r o₁ ≡ a = ap (take r) (q ∙ stored_is c o p n h ∙ sym (append_assoc (take p o) (le_bytes c n) (drop (p + c) o))) ∙ take_at a (drop (p + c) o) r la in
     put-end r o₁ y (omega arith) ∙ rw front (append_assoc (take p o) (le_bytes c n) y)
 
--- the bytes of no level, and of a level more
-pub size_none : (b : Bool) (k l n : ℕ) → l ≡ 0 → laid_size (count_size b) k l n ≡ count_size b + k * n
-size_none true k l n e = omega arith
-size_none false k l n e = omega arith
-
 pub size-more : (b : Bool) (k l n : ℕ) → 0 < l → laid_size (count_size b) k l n ≡ laid_size (count_size b) k (l - 1) (approx_length n) + count_size b + k * details_length n
 size-more true k l n z = omega (arith, split-width k n)
 size-more false k l n z = omega (arith, split-width k n)

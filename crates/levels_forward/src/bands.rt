@@ -9,7 +9,7 @@ ghost use Rattle.levels_forward.specs.Levels.{LevelLaid};
 
 use base_lengths::{approx_length, details_length};
 use base_samples::le::write_u32;
-use levels_filter::filter::{Filter, bytes_of, execute_forward};
+use levels_filter::filter::{Filter, bytes_of, forward};
 use levels_filter::levels::{cut_of, laid_size};
 
 // A count of n at a place, where there are counts; the result is the place after it.
@@ -50,11 +50,11 @@ fn lay_level(
     let at = laid_size(f, counted, levels - 1, approx_length(n));
     let start = put_count(counted, details_length(n), at, out);
     let cut = cut_of(f, n);
-    execute_forward(f, x, &mut to[..cut], &mut out[start..]);
+    forward(f, x, &mut to[..cut], &mut out[start..]);
     at
 }
 
-// The levels below one: `from` holds n samples in front, `to` is room, and the two change roles at each level.
+// The levels below one: `from` holds n samples in front, `to` is room, and the two change roles at each level, which a struct of the areas would hide.
 fn lay(
     f: Filter,
     counted: bool,

@@ -1,14 +1,15 @@
 // `dwt`: the last level's two bands. The levels above it make approximations alone, from one work area to the other.
 ghost use Rattle.std.specs.Prelude.{◌≡◌, ◌+◌, ◌-◌, ◌*◌, length, take, drop};
-ghost use Rattle.base_answers.specs.Checks.{first_refusal};
+ghost use Rattle.base_answers.specs.Answers.{answer_of, plain};
+ghost use Rattle.base_answers.specs.Checks.{passes};
 ghost use Rattle.base_lengths.specs.Lengths.{approx_length};
 ghost use Rattle.base_lengths.specs.Levels.{count_at};
 ghost use Rattle.levels_filter.specs.Filters.{width_of, low_of};
 ghost use Rattle.levels_filter.specs.Pyramids.{approx_at};
 ghost use Rattle.levels_filter.specs.Calls.{BandsOf, Parted, Room, Ready, dwt_checks, say_dwt, Dwt};
 
-use base_answers::err::{Answer, Refusal, is_done, numbers};
-use base_lengths::checks::{check_whole, forward_bands, two_areas};
+use base_answers::err::Refusal;
+use base_lengths::checks::{check_one, check_whole, forward_bands, two_areas};
 use base_lengths::{MOST_SAMPLES, approx_length, at_least_one, count_at, depth};
 use levels_filter::filter::{Filter, approximate, bytes_of, forward, wavelet, width};
 use levels_filter::levels::cut_of;
@@ -24,7 +25,7 @@ fn level_above(f: Filter, n: usize, from: &[u8], to: &mut [u8])
     approximate(f, &from[..all], &mut to[..cut]);
 }
 
-// So many levels of the n samples in front of `from`, and then the last one, whose bands are kept. The two areas change roles at each level.
+// So many levels of the n samples in front of `from`, and then the last one, whose bands are kept. The two areas change roles at each level, which a struct of the areas would hide.
 fn sink(
     f: Filter,
     levels: usize,
@@ -85,25 +86,23 @@ fn dwt_lengths(
     d: usize,
     u: usize,
     v: usize,
-) -> Refusal
-    ensures { result ≡ first_refusal (dwt_checks f levels n a d u v) (Refusal.Done 0 0) }
+) -> Result<(), Refusal>
+    ensures { result ≡ passes (dwt_checks f levels n a d u v) }
 {
     if MOST_SAMPLES < n {
-        return Refusal::TooLong;
+        return Err(Refusal::TooLong);
     }
     let l = at_least_one(levels);
     if depth(wavelet(f), n) < l {
-        return Refusal::BufferWasTooSmallForLevel;
+        return Err(Refusal::BufferWasTooSmallForLevel);
     }
     let m = count_at(l - 1, n);
-    let said = forward_bands(m, a, d);
-    if !is_done(said) {
-        return said;
-    }
+    forward_bands(m, a, d)?;
     two_areas(u, v, n)
 }
 
 // What `dwt` says, by byte lengths.
+#[tactic(auto, unfolding(levels_filter::specs::Calls::say_dwt))]
 fn check_dwt(
     f: Filter,
     levels: usize,
@@ -112,20 +111,13 @@ fn check_dwt(
     details: usize,
     one: usize,
     two: usize,
-) -> Refusal
-    ensures { result ≡ say_dwt f levels signal approx details one two }
+) -> Result<(), Refusal>
+    ensures { plain result ≡ say_dwt f levels signal approx details one two }
 {
     let k = width(f);
-    let said = check_whole(k, signal, approx, details);
-    if !is_done(said) {
-        return said;
-    }
-    if one % k != 0 {
-        return Refusal::BadCount(0, one);
-    }
-    if two % k != 0 {
-        return Refusal::BadCount(0, two);
-    }
+    check_whole(k, signal, approx, details)?;
+    check_one(k, one)?;
+    check_one(k, two)?;
     dwt_lengths(
         f,
         levels,
@@ -138,6 +130,7 @@ fn check_dwt(
 }
 
 // The approximations and the details of the last level.
+#[tactic(auto, unfolding(base_answers::specs::Checks::Spared))]
 pub fn dwt(
     f: Filter,
     levels: usize,
@@ -146,10 +139,10 @@ pub fn dwt(
     details: &mut [u8],
     one: &mut [u8],
     two: &mut [u8],
-) -> Answer
-    ensures { Dwt f levels signal.now approx.old details.old one.old two.old result approx.new details.new one.new two.new }
+) -> Result<(), Refusal>
+    ensures { Dwt f levels signal.now approx.old details.old one.old two.old (answer_of (plain result)) approx.new details.new one.new two.new }
 {
-    let said = check_dwt(
+    check_dwt(
         f,
         levels,
         signal.len(),
@@ -157,20 +150,17 @@ pub fn dwt(
         details.len(),
         one.len(),
         two.len(),
+    )?;
+    let n = signal.len() / width(f);
+    run_last(
+        f,
+        at_least_one(levels),
+        n,
+        signal,
+        approx,
+        details,
+        one,
+        two,
     );
-    let r = numbers(said);
-    if is_done(said) {
-        let n = signal.len() / width(f);
-        run_last(
-            f,
-            at_least_one(levels),
-            n,
-            signal,
-            approx,
-            details,
-            one,
-            two,
-        );
-    }
-    r
+    Ok(())
 }

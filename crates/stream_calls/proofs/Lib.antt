@@ -1,6 +1,5 @@
 pub mod States
 pub mod Ready
-pub mod Fronting
 pub mod Streams
 pub mod Rears
 pub mod Others

@@ -1,17 +1,15 @@
 -- What the checks of the two calls leave when they pass, and that a call which has this passes. Over the width.
-use mathlib.Core.Bool.{Bool, true, false, not}
+use mathlib.Core.Bool.{true, not}
 use mathlib.Core.List.{List, ◌++◌}
-use mathlib.Core.Path.{◌≡◌, refl, sym, ap, ◌∙◌}
+use mathlib.Core.Path.{◌≡◌, ap}
 use Prim.Native.Nat.{ℕ, ◌-◌, ◌*◌, ◌/◌, ◌≤◌}
 use native.Mathlib.Nat.{div-add-mod}
 use native.Mathlib.Omega.{arith}
-use borrow.Author.Tests.{le-ltb, not-true, not-false}
+use borrow.Author.Tests.{le-ltb, not-false}
 use lib.ListN.{length}
-use Rattle.base_answers.specs.declared.err.Refusal.{Refusal}
-use Rattle.base_answers.specs.declared.err.Refusal.TheVariants.{Done}
-use Rattle.base_answers.specs.Answers.{done}
+use Rattle.base_answers.specs.Answers.{told, done}
 use Rattle.base_answers.specs.Checks.{Check, first_refusal}
-use Rattle.base_answers.proofs.Passed.{Refusing, Passing, passing, both-pass, through, say-rest, say-stop, whole, roomy}
+use Rattle.base_answers.proofs.Passed.{Passing, passing, both-pass, through, whole, roomy}
 use Rattle.base_lengths.specs.Lengths.{most_samples, approx_length, details_length}
 use Rattle.base_lengths.proofs.OneLevel.{whole-passes}
 use Rattle.base_samples.specs.Integers.{Width}
@@ -23,22 +21,6 @@ use Rattle.stream_pieces.specs.Steps.{newly, Taking}
 use Rattle.stream_calls.specs.StateBytes.{state_size, state_in, could_be}
 use Rattle.stream_calls.specs.Calls.{lent_checks, piece_checks, say_piece, finish_checks, say_finish}
 use Rattle.stream_calls.proofs.States.{could-be, passes}
-
--- ---- the checks l, and those of m where they pass
-
--- r is what l says, and t whether that is done: where it is not, the two together say r, and else what m says
-pub record Split (l m : List Check) (r : Refusal) (t : Bool) : Type 0 where
-  pub stops : not t ≡ true → r ≡ first_refusal (l ++ m) (Done 0 0)
-  pub passed : not t ≡ false → Passing l
-  pub goes : not t ≡ false → {z : Refusal} → z ≡ first_refusal m (Done 0 0) → z ≡ first_refusal (l ++ m) (Done 0 0)
-
-pub split : (l m : List Check) {r : Refusal} {t : Bool} → Refusing l → r ≡ first_refusal l (Done 0 0) → t ≡ done r → Split l m r t
-split l m {t = t} x e told =
-    record {
-      stops = λ h. say-stop l m (Done 0 0) e (sym told ∙ not-true t h);
-      passed = λ h. passing l (Done 0 0) x (sym (ap done e) ∙ sym told ∙ not-false t h);
-      goes = λ h q. say-rest l m (Done 0 0) x e (sym told ∙ not-false t h) q;
-    }
 
 -- ---- what both calls ask
 
@@ -61,12 +43,12 @@ module _ (k : ℕ) (b : List ℕ) (y a d : ℕ) where
 
   -- a call with its own checks m behind those: from "done" to the facts, and back
   module _ (m : List Check) where
-    ready : Refusing m → done (first_refusal (l ++ m) (Done 0 0)) ≡ true → Lent k b y a d × Passing m
-    ready x h = let q = both-pass l m (passing (l ++ m) (Done 0 0) (refl, (refl, (refl, (refl, x)))) h) in (lent_of q.0, q.1)
+    ready : done (first_refusal (l ++ m) (told 0 0)) ≡ true → Lent k b y a d × Passing m
+    ready h = let q = both-pass l m (passing (l ++ m) (told 0 0) h) in (lent_of q.0, q.1)
 
-    says-done : Lent k b y a d → Passing m → first_refusal (l ++ m) (Done 0 0) ≡ Done 0 0
+    says-done : Lent k b y a d → Passing m → first_refusal (l ++ m) (told 0 0) ≡ told 0 0
     says-done h q =
-        through (l ++ m) (Done 0 0)
+        through (l ++ m) (told 0 0)
         (whole-passes k _ y h.piece, (whole-passes k _ a h.approx, (whole-passes k _ d h.details, (ap not (passes b h.long h.state), q))))
 
 -- ---- a piece
@@ -76,7 +58,7 @@ pub piece-ready : {k : ℕ} → Width k → (b y a d : List ℕ) → done (say_p
     → (length b ≡ state_size) × Taking k (state_in b) y × EnoughWords k (newly k (state_in b) y) a × EnoughWords k (newly k (state_in b) y) d
 unfolding say_piece
 piece-ready {k} w b y a d h =
-    let q = ready k b (length y) (length a) (length d) (piece_checks k (state_in b).total (length y) (length a) (length d)) (refl, (refl, (refl, tt))) h in
+    let q = ready k b (length y) (length a) (length d) (piece_checks k (state_in b).total (length y) (length a) (length d)) h in
     let l = q.0 in (
       l.long,
       record { width = w; state = l.state; piece = holds w.some y (length y / k) l.piece; few = roomy most_samples _ q.1.0 },
@@ -86,7 +68,7 @@ piece-ready {k} w b y a d h =
 
 -- and a call that has this passes
 pub piece-passes : {k : ℕ} → Width k → (b y a d : List ℕ) → length b ≡ state_size → Taking k (state_in b) y → EnoughWords k (newly k (state_in b) y) a → EnoughWords k (newly k (state_in b) y) d
-    → say_piece k b (length y) (length a) (length d) ≡ Done 0 0
+    → say_piece k b (length y) (length a) (length d) ≡ told 0 0
 unfolding say_piece
 piece-passes {k} w b y a d e g ra rd =
     says-done k b (length y) (length a) (length d) (piece_checks k (state_in b).total (length y) (length a) (length d))
@@ -100,13 +82,13 @@ pub finish-ready : {k : ℕ} → Width k → (b a d : List ℕ) → done (say_fi
     × EnoughWords k (approx_length (state_in b).total - fixed (state_in b).total) a × EnoughWords k (details_length (state_in b).total - fixed (state_in b).total) d
 unfolding say_finish
 finish-ready {k} w b a d h =
-    let q = ready k b 0 (length a) (length d) (finish_checks k (state_in b).total (length a) (length d)) (refl, (refl, (refl, tt))) h in
+    let q = ready k b 0 (length a) (length d) (finish_checks k (state_in b).total (length a) (length d)) h in
     let l = q.0 in
     (l.long, l.state, roomy _ _ q.1.0, room_of w.some a _ _ l.approx (roomy _ _ q.1.1.0), room_of w.some d _ _ l.details (roomy _ _ q.1.1.1.0))
 
 pub finish-passes : {k : ℕ} → Width k → (b a d : List ℕ) → length b ≡ state_size → Possible k (state_in b) → 3 ≤ (state_in b).total
     → EnoughWords k (approx_length (state_in b).total - fixed (state_in b).total) a → EnoughWords k (details_length (state_in b).total - fixed (state_in b).total) d
-    → say_finish k b (length a) (length d) ≡ Done 0 0
+    → say_finish k b (length a) (length d) ≡ told 0 0
 unfolding say_finish
 finish-passes {k} w b a d e p t ra rd =
     says-done k b 0 (length a) (length d) (finish_checks k (state_in b).total (length a) (length d))

@@ -1,9 +1,8 @@
 -- A piece of a recording, and its end, from C-15: the checks of the two calls in order, and what each leaves. Over k bytes a sample.
 use Rattle.std.specs.Prelude.{not, List, [], ◌∷◌, ◌++◌, ◌≡◌, ℕ, ◌+◌, ◌-◌, ◌/◌, ltb, length, replicate}
 use Rattle.base_answers.specs.declared.err.Answer.{Answer}
-use Rattle.base_answers.specs.declared.err.Refusal.{Refusal}
-use Rattle.base_answers.specs.declared.err.Refusal.TheVariants.{Done, MinFilterSize, TooLong, BadCount}
-use Rattle.base_answers.specs.Answers.{answer_of}
+use Rattle.base_answers.specs.declared.err.Refusal.TheVariants.{MinFilterSize, TooLong, BadCount}
+use Rattle.base_answers.specs.Answers.{Outcome, told, answer_of}
 use Rattle.base_answers.specs.Checks.{Check, first_refusal, ragged, tight, left, in_front}
 use Rattle.base_lengths.specs.declared.Wavelet.TheVariants.{Cdf53}
 use Rattle.base_lengths.specs.Lengths.{most_samples, approx_length, details_length, smallest_of}
@@ -12,7 +11,7 @@ use Rattle.stream_pieces.specs.States.{fixed, state_of, stand_in, fixed_by, rest
 use Rattle.stream_calls.specs.StateBytes.{state_size, state_bytes, state_in, could_be}
 
 -- the answer r of a call that says this, and the state and the two areas that it leaves: the state `new`, and `lows` and `highs` at the front of the areas, where it is done
-pub record Streams (says : Refusal) (new lows highs b a d : List ℕ) (r : Answer) (b' a' d' : List ℕ) : Type 0 where
+pub record Streams (says : Outcome) (new lows highs b a d : List ℕ) (r : Answer) (b' a' d' : List ℕ) : Type 0 where
   pub answer : r ≡ answer_of says
   pub state : b' ≡ left says new b
   pub approx : a' ≡ left says (in_front lows a) a
@@ -36,8 +35,8 @@ band_checks p q m i j = tight p (i - m) ∷ tight q (j - m) ∷ []
 abbrev pub piece_checks : ℕ → ℕ → ℕ → ℕ → ℕ → List Check
 piece_checks k t y a d = let n = t + y / k in (ltb most_samples n, TooLong) ∷ band_checks (a / k) (d / k) (fixed t) (fixed n) (fixed n)
 
-unfoldable pub say_piece : ℕ → List ℕ → ℕ → ℕ → ℕ → Refusal
-say_piece k b y a d = first_refusal (lent_checks k b y a d ++ piece_checks k (state_in b).total y a d) (Done 0 0)
+unfoldable pub say_piece : ℕ → List ℕ → ℕ → ℕ → ℕ → Outcome
+say_piece k b y a d = first_refusal (lent_checks k b y a d ++ piece_checks k (state_in b).total y a d) (told 0 0)
 
 abbrev pub Piece : ℕ → List ℕ → List ℕ → List ℕ → List ℕ → Answer → List ℕ → List ℕ → List ℕ → Type 0
 Piece k b y a d =
@@ -55,8 +54,8 @@ abbrev pub finish_checks : ℕ → ℕ → ℕ → ℕ → List Check
 finish_checks k t a d =
     (ltb t (smallest_of Cdf53), MinFilterSize t (smallest_of Cdf53)) ∷ band_checks (a / k) (d / k) (fixed t) (approx_length t) (details_length t)
 
-unfoldable pub say_finish : ℕ → List ℕ → ℕ → ℕ → Refusal
-say_finish k b a d = first_refusal (lent_checks k b 0 a d ++ finish_checks k (state_in b).total a d) (Done 0 0)
+unfoldable pub say_finish : ℕ → List ℕ → ℕ → ℕ → Outcome
+say_finish k b a d = first_refusal (lent_checks k b 0 a d ++ finish_checks k (state_in b).total a d) (told 0 0)
 
 abbrev pub Finish : ℕ → List ℕ → List ℕ → List ℕ → Answer → List ℕ → List ℕ → List ℕ → Type 0
 Finish k b a d =

@@ -1,75 +1,67 @@
 // The checks of the two calls, in the order of documents 01 and 02.
-ghost use Rattle.std.specs.Prelude.{◌≡◌, ◌≤◌};
-ghost use Rattle.base_answers.specs.Checks.{first_refusal};
-ghost use Rattle.base_samples.specs.Integers.{Width};
+ghost use Rattle.std.specs.Prelude.{Ok, ◌≡◌, ◌≤◌};
+ghost use Rattle.base_answers.specs.Answers.{plain};
+ghost use Rattle.base_answers.specs.Checks.{first_refusal, passes};
+ghost use Rattle.stream_calls.specs.StateBytes.{state_in};
 ghost use Rattle.stream_calls.specs.Calls.{lent_checks, band_checks, say_piece, say_finish};
 
 use crate::state::{could_be, read};
-use base_answers::err::{Refusal, is_done};
+use base_answers::err::Refusal;
 use base_lengths::checks::check_whole;
 use base_lengths::{MOST_SAMPLES, Wavelet, approx_length, details_length, smallest};
-use stream_pieces::recorder::fixed;
+use base_samples::integers::Sample;
+use stream_pieces::recorder::{Recorder, fixed};
 
-// What both calls ask: whole lengths in bytes, of a piece and of the two areas, and a state that calls can have left.
-fn check_lent(k: usize, b: &[u8], y: usize, a: usize, d: usize) -> Refusal
-    requires { Width k }
-    ensures { result ≡ first_refusal (lent_checks k b.now y a d) (Refusal.Done 0 0) }
+// What both calls ask: whole lengths in bytes, of a piece and of the two areas, and a state that calls can have left, which is told.
+#[tactic(auto, unfolding(crate::specs::StateBytes::could_be))]
+fn check_lent<S: Sample>(b: &[u8], y: usize, a: usize, d: usize) -> Result<Recorder, Refusal>
+    ensures { result ≡ first_refusal (lent_checks S.bytes b.now y a d) (Ok (state_in b.now)) }
 {
-    let whole = check_whole(k, y, a, d);
-    if !is_done(whole) {
-        return whole;
+    check_whole(S::bytes(), y, a, d)?;
+    if !could_be::<S>(b) {
+        return Err(Refusal::BadCount(0, 0));
     }
-    if !could_be(k, b) {
-        return Refusal::BadCount(0, 0);
-    }
-    Refusal::Done(0, 0)
+    Ok(read(b))
 }
 
 // The room for what comes after the first m of each band, up to so many of each.
-fn check_bands(a: usize, d: usize, m: usize, lows: usize, highs: usize) -> Refusal
+fn check_bands(a: usize, d: usize, m: usize, lows: usize, highs: usize) -> Result<(), Refusal>
     requires { (m ≤ lows) × (m ≤ highs) }
-    ensures { result ≡ first_refusal (band_checks a d m lows highs) (Refusal.Done 0 0) }
+    ensures { result ≡ passes (band_checks a d m lows highs) }
 {
     if a < lows - m {
-        return Refusal::NoRoom(a, lows - m);
+        return Err(Refusal::NoRoom(a, lows - m));
     }
     if d < highs - m {
-        return Refusal::NoRoom(d, highs - m);
+        return Err(Refusal::NoRoom(d, highs - m));
     }
-    Refusal::Done(0, 0)
+    Ok(())
 }
 
 // A piece of y bytes, and areas of a and d bytes.
-pub fn check_piece(k: usize, b: &[u8], y: usize, a: usize, d: usize) -> Refusal
-    requires { Width k }
-    ensures { result ≡ say_piece k b.now y a d }
+#[tactic(auto, unfolding(crate::specs::Calls::say_piece))]
+pub fn check_piece<S: Sample>(b: &[u8], y: usize, a: usize, d: usize) -> Result<(), Refusal>
+    ensures { plain result ≡ say_piece S.bytes b.now y a d }
 {
-    let lent = check_lent(k, b, y, a, d);
-    if !is_done(lent) {
-        return lent;
+    let k = S::bytes();
+    let t = check_lent::<S>(b, y, a, d)?.total as usize;
+    let n = t.saturating_add(y / k);
+    if MOST_SAMPLES < n {
+        return Err(Refusal::TooLong);
     }
-    let t = read(b).total as usize;
-    // t + y / k may be more than a number holds
-    if MOST_SAMPLES - t < y / k {
-        return Refusal::TooLong;
-    }
-    let n = fixed(t + y / k);
-    check_bands(a / k, d / k, fixed(t), n, n)
+    check_bands(a / k, d / k, fixed(t), fixed(n), fixed(n))
 }
 
 // The end, with areas of a and d bytes.
-pub fn check_finish(k: usize, b: &[u8], a: usize, d: usize) -> Refusal
-    requires { Width k }
-    ensures { result ≡ say_finish k b.now a d }
+#[tactic(auto, unfolding(crate::specs::Calls::say_finish))]
+pub fn check_finish<S: Sample>(b: &[u8], a: usize, d: usize) -> Result<(), Refusal>
+    ensures { plain result ≡ say_finish S.bytes b.now a d }
 {
-    let lent = check_lent(k, b, 0, a, d);
-    if !is_done(lent) {
-        return lent;
-    }
-    let t = read(b).total as usize;
+    let k = S::bytes();
+    let t = check_lent::<S>(b, 0, a, d)?.total as usize;
     let least = smallest(Wavelet::Cdf53);
     if t < least {
-        return Refusal::MinFilterSize(t, least);
+        return Err(Refusal::MinFilterSize(t, least));
     }
     check_bands(a / k, d / k, fixed(t), approx_length(t), details_length(t))
 }

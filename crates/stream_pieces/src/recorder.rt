@@ -15,10 +15,7 @@ pub struct Recorder {
 pub fn fixed(t: usize) -> usize
     ensures { result ≡ States.fixed t }
 {
-    if t == 0 {
-        return 0;
-    }
-    (t - 1) / 2
+    t.saturating_sub(1) / 2
 }
 
 // How many of the t samples wait for the next.

@@ -33,8 +33,8 @@ pub next : (p w : ℕ) → (p + 1) * w ≡ p * w + w
 next p w = add-mul p 1 w ∙ ap (λ m. p * w + m) (one-mul w)
 
 -- how far an approximation reads on either side
-pub reach-is : (l : ℕ) → reach_of l ≡ 2 * 2 ^ l - 2
-reach-is l = omega (arith, ap (λ (m : ℕ). 2 ^ m) (add-one l), pow-succ' 2 l)
+pub reach_is : (l : ℕ) → reach_of l ≡ 2 * 2 ^ l - 2
+reach_is l = omega (arith, ap (λ (m : ℕ). 2 ^ m) (add-one l), pow-succ' 2 l)
 
 -- and one of the level before
 pub reach-before : (l : ℕ) → 1 ≤ l → reach_of (l - 1) ≡ 2 ^ l - 2
@@ -66,7 +66,7 @@ module _ (n l : ℕ) where
   pub holds : (s : ℕ) → s < n → ((span_of Approx n l (column_of l s)).0 ≤ s) × (s ≤ (span_of Approx n l (column_of l s)).1)
   unfolding span_of
   holds s h =
-      let r = reach-is l in
+      let r = reach_is l in
       let p = pow_pos l in
       (omega (arith, div-mul-le_self s (2 ^ l)), omega (arith, lt-div-mul-add {a = s} p))
 
@@ -84,13 +84,13 @@ module _ (n l : ℕ) (o : 1 ≤ l) where
   -- both bands' spans of a place end at the same sample
   last-is : (b : Band) (p : ℕ) → (span_of b n l p).1 ≡ min (p * 2 ^ l + 2 * 2 ^ l - 2) (n - 1)
   unfolding span_of
-  last-is Approx p = omega (arith, reach-is l, two)
+  last-is Approx p = omega (arith, reach_is l, two)
   last-is Details p = omega (arith, reach-before l o, next p (2 ^ l), two)
 
   -- and start at p·2^l + 2 - 2^l, or before
   first_by : (b : Band) (p : ℕ) → (span_of b n l p).0 ≤ p * 2 ^ l + 2 - 2 ^ l
   unfolding span_of
-  first_by Approx p = omega (arith, reach-is l, two)
+  first_by Approx p = omega (arith, reach_is l, two)
   first_by Details p = omega (arith, reach-before l o, two)
 
   -- no span is empty, and none goes past the last sample

@@ -1,8 +1,8 @@
 -- Notes and their spans: at which approximation a sample shows, from document 01, and what is said of a coefficient's span, from document 02, C-13.
 -- Samples and coefficients are plain numbers here; the code keeps them apart by their types.
 use Rattle.std.specs.Prelude.{List, [], ◌∷◌, ◌++◌, ℕ, ◌/◌, ◌^◌, ◌≤◌, ◌<◌, ltb, eqb}
-use Rattle.base_answers.specs.declared.err.Refusal.{Refusal}
-use Rattle.base_answers.specs.declared.err.Refusal.TheVariants.{Done, TooLong, NoSuchPlace}
+use Rattle.base_answers.specs.declared.err.Refusal.TheVariants.{TooLong, NoSuchPlace}
+use Rattle.base_answers.specs.Answers.{Outcome, told}
 use Rattle.base_answers.specs.Checks.{Check, first_refusal, outside}
 use Rattle.base_lengths.specs.declared.Wavelet.TheVariants.{Cdf53}
 use Rattle.base_lengths.specs.Lengths.{most_samples}
@@ -31,12 +31,12 @@ abbrev pub note_checks : ℕ → ℕ → ℕ → ℕ → List Check
 note_checks n l place limit = level_checks n l ++ place_checks place limit
 
 -- "a depth or column is the first"; sample s is one of n
-unfoldable pub say_column : ℕ → ℕ → ℕ → Refusal
-say_column n l s = first_refusal (note_checks n l s n) (Done (column_of l s) 0)
+unfoldable pub say_column : ℕ → ℕ → ℕ → Outcome
+say_column n l s = first_refusal (note_checks n l s n) (told (column_of l s) 0)
 
 -- "a span is both"; coefficient p is one of its band's, "13 as before, now for details too"
-unfoldable pub say_span : Band → ℕ → ℕ → ℕ → Refusal
-say_span b n l p = first_refusal (note_checks n l p (band_count b l n)) (Done (span_of b n l p).0 (span_of b n l p).1)
+unfoldable pub say_span : Band → ℕ → ℕ → ℕ → Outcome
+say_span b n l p = first_refusal (note_checks n l p (band_count b l n)) (told (span_of b n l p).0 (span_of b n l p).1)
 
 -- what the checks of a level leave: a level, not too many samples, and more of them than show at one approximation
 pub record Drawn (n l : ℕ) : Type 0 where

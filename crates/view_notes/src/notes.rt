@@ -1,12 +1,11 @@
 // Notes stand at samples, drawn columns at coefficients. Document 01, "Notes and their spans"; document 02, C-13.
-ghost use Rattle.std.specs.Prelude.{◌≡◌, ◌+◌, ◌-◌, ◌^◌, ◌<◌};
-ghost use Rattle.base_answers.specs.Answers.{answer_of};
-ghost use Rattle.base_answers.specs.Checks.{first_refusal};
+ghost use Rattle.std.specs.Prelude.{◌≡◌, ◌+◌, ◌^◌, ◌<◌, OnOk};
+ghost use Rattle.base_answers.specs.Checks.{passes};
 ghost use Rattle.view_spans.specs.Spans.{reach_of, clipped_ends, span_of, band_count};
 ghost use Rattle.view_notes.specs.Notes.{column_of, level_checks, say_column, say_span, Drawn};
 
-use base_answers::err::{Answer, Refusal, is_done, numbers};
-use base_lengths::{MOST_SAMPLES, Wavelet, count_at, depth, details_length, lesser};
+use base_answers::err::{Outcome, Refusal};
+use base_lengths::{MOST_SAMPLES, Wavelet, count_at, depth, details_length};
 use view_spans::Band;
 
 // Two kinds of number, which only `column` and `span`, by `clipped`, turn into each other.
@@ -31,13 +30,6 @@ fn samples_each(level: usize) -> usize
     1 << level
 }
 
-// What is left of a after b is taken away, and 0 where b is more.
-fn saturating_sub(a: usize, b: usize) -> usize
-    ensures { result ≡ a - b }
-{
-    if a < b { 0 } else { a - b }
-}
-
 // The approximation at which a sample shows.
 pub fn column(level: usize, s: SampleNumber) -> CoefficientNumber
     requires { level < 64 }
@@ -51,7 +43,7 @@ fn reach(level: usize) -> usize
     requires { level < 63 }
     ensures { result ≡ reach_of level }
 {
-    saturating_sub(samples_each(level + 1), 2)
+    samples_each(level + 1).saturating_sub(2)
 }
 
 // From one sample to another, and so far on either side of both, but no further than the n samples go.
@@ -61,12 +53,13 @@ fn clipped(n: usize, from: usize, to: usize, far: usize) -> SpanEnds
     ensures { (result.first.0 ≡ (clipped_ends n from to far).0) × (result.last.0 ≡ (clipped_ends n from to far).1) }
 {
     SpanEnds {
-        first: SampleNumber(saturating_sub(from, far)),
-        last: SampleNumber(lesser(to + far, n - 1)),
+        first: SampleNumber(from.saturating_sub(far)),
+        last: SampleNumber((to + far).min(n - 1)),
     }
 }
 
 // The samples that a coefficient spans: no other sample can change it.
+#[tactic(auto, using(crate::proofs::Answered::few_levels, crate::proofs::Spans::reach_is, crate::proofs::Answered::stands), unfolding(view_spans::specs::Spans::span_of))]
 pub fn span(b: Band, n: usize, level: usize, p: CoefficientNumber) -> SpanEnds
     requires drawn { Drawn n level }
     requires p_bound { p.0 < band_count b level n }
@@ -92,65 +85,43 @@ fn band_count(b: Band, level: usize, n: usize) -> usize
 }
 
 // A level of a recording, from 1 to its depth.
-fn check_level(n: usize, level: usize) -> Refusal
-    ensures { result ≡ first_refusal (level_checks n level) (Refusal.Done 0 0) }
+#[tactic(auto, using(crate::proofs::Answered::within_depth))]
+fn check_level(n: usize, level: usize) -> Result<(), Refusal>
+    ensures said { result ≡ passes (level_checks n level) }
+    ensures drawn { OnOk result (Drawn n level) }
 {
     if MOST_SAMPLES < n {
-        return Refusal::TooLong;
+        return Err(Refusal::TooLong);
     }
     let deepest = depth(Wavelet::Cdf53, n);
-    if level == 0 {
-        return Refusal::NoSuchPlace(level, deepest);
+    if level == 0 || deepest < level {
+        return Err(Refusal::NoSuchPlace(level, deepest));
     }
-    if deepest < level {
-        return Refusal::NoSuchPlace(level, deepest);
-    }
-    Refusal::Done(0, 0)
+    Ok(())
 }
 
-// What is said of a sample: the level first, then the sample.
-fn say_column(n: usize, level: usize, s: SampleNumber) -> Refusal
+// The column of a sample, as the desk asks for it: the level first, then the sample.
+#[tactic(auto, using(crate::proofs::Answered::few_levels), unfolding(crate::specs::Notes::say_column))]
+pub fn note_column(n: usize, level: usize, s: SampleNumber) -> Outcome
     ensures { result ≡ say_column n level s.0 }
 {
-    let said = check_level(n, level);
-    if !is_done(said) {
-        return said;
+    check_level(n, level)?;
+    if n <= s.0 {
+        return Err(Refusal::NoSuchPlace(s.0, n));
     }
-    let place = s.0;
-    if n <= place {
-        return Refusal::NoSuchPlace(place, n);
-    }
-    let c = column(level, s);
-    Refusal::Done(c.0, 0)
+    Ok((column(level, s).0, 0))
 }
 
-// What is said of a coefficient; its band is counted only at a level that is there, so that the count is short.
-fn say_span(b: Band, n: usize, level: usize, p: CoefficientNumber) -> Refusal
+// The span of a coefficient, as the desk asks for it; its band is counted only at a level that is there, so that the count is short.
+#[tactic(auto, unfolding(crate::specs::Notes::say_span))]
+pub fn note_span(b: Band, n: usize, level: usize, p: CoefficientNumber) -> Outcome
     ensures { result ≡ say_span b n level p.0 }
 {
-    let said = check_level(n, level);
-    if !is_done(said) {
-        return said;
-    }
-    let place = p.0;
+    check_level(n, level)?;
     let limit = band_count(b, level, n);
-    if limit <= place {
-        return Refusal::NoSuchPlace(place, limit);
+    if limit <= p.0 {
+        return Err(Refusal::NoSuchPlace(p.0, limit));
     }
     let s = span(b, n, level, p);
-    Refusal::Done(s.first.0, s.last.0)
-}
-
-// The column of a sample, as the desk asks for it.
-pub fn note_column(n: usize, level: usize, s: SampleNumber) -> Answer
-    ensures { result ≡ answer_of (say_column n level s.0) }
-{
-    numbers(say_column(n, level, s))
-}
-
-// The span of a coefficient, as the desk asks for it.
-pub fn note_span(b: Band, n: usize, level: usize, p: CoefficientNumber) -> Answer
-    ensures { result ≡ answer_of (say_span b n level p.0) }
-{
-    numbers(say_span(b, n, level, p))
+    Ok((s.first.0, s.last.0))
 }

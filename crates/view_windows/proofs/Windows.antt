@@ -3,30 +3,20 @@ use mathlib.Core.Bool.{Bool, true, false, cond}
 use mathlib.Core.List.{List, [], ◌∷◌}
 use mathlib.Core.Path.{◌≡◌, refl, sym, ap, ◌∙◌}
 use Prim.Native.Nat.{ℕ, ◌+◌, ◌-◌, ◌*◌, ◌/◌, ◌≤◌, ◌<◌}
-use native.Mathlib.Nat.{add_comm, mul-add, mul-le-mul_left}
+use native.Mathlib.Nat.{mul-add, mul-le-mul_left}
 use native.Mathlib.Omega.{arith}
-use borrow.Author.Tests.{le-ltb, ltb-false, eqb-false, eq-eqb, ne_eqb}
+use borrow.Author.Tests.{le-ltb, ltb-false, eqb-false, ne_eqb}
 use lib.Dec.{eqb}
 use lib.ListN.{length, take, drop, get_or, length-take, length-drop}
 use lib.Seq.{get_or-take, get_or-drop}
-use denote.Ref.{Bor}
+use Rattle.std.specs.Prelude.{Ok}
 use Rattle.base_answers.specs.declared.err.Answer.{Answer}
-use Rattle.base_answers.specs.declared.err.Refusal.{Refusal}
-use Rattle.base_answers.specs.declared.err.Refusal.TheVariants.{Done}
-use Rattle.base_answers.specs.Answers.{answer_of, done}
+use Rattle.base_answers.specs.Answers.{Outcome, answer_of, done}
 use Rattle.base_answers.specs.Checks.{ragged}
-use Rattle.base_answers.proofs.Passed.{passing, through, whole}
-use Rattle.base_answers.proofs.Chain.{by, stop}
 use Rattle.base_answers.proofs.Endings.{is-done, not_done}
+use Rattle.base_answers.proofs.Passed.{passing, through, whole}
 use Rattle.base_lengths.proofs.OneLevel.{whole-passes}
-use Rattle.view_windows.specs.Windows.{band_of, stretch_checks, say_window, window_in, window_at}
-
--- which of the two was asked for: the approximations by 0, the details by any other number
-pub asked-approx : {A : Type 0} (band : ℕ) (a d : A) → band ≡ 0 → a ≡ band_of band a d
-asked-approx band a d h = stop d (eq-eqb band 0 h) refl
-
-pub asked-details : {A : Type 0} (band : ℕ) (a d : A) → (band ≡ 0 → ⊥) → d ≡ band_of band a d
-asked-details band a d h = by a (ne_eqb band 0 h) refl
+use Rattle.view_windows.specs.Windows.{band_of, stretch_checks, say_window, window_in}
 
 -- a window that fits: both lengths are whole, and it is some samples within the band
 pub record Fits (k a d band start count : ℕ) : Type 0 where
@@ -40,7 +30,7 @@ module _ (k a d band start count : ℕ) where
   pub done-fits : done (say_window k a d band start count) ≡ true → Fits k a d band start count
   unfolding say_window
   done-fits h =
-      let q = passing (ragged k a ∷ ragged k d ∷ stretch_checks (band_of band a d / k) start count) (Done (k * start) (k * count)) (refl, (refl, (refl, (refl, tt)))) h in
+      let q = passing (ragged k a ∷ ragged k d ∷ stretch_checks (band_of band a d / k) start count) (Ok (k * start, k * count)) h in
       record {
         approx = whole k a q.0;
         details = whole k d q.1.0;
@@ -49,10 +39,10 @@ module _ (k a d band start count : ℕ) where
       }
 
   -- its answer is the place and the length in bytes
-  pub fits-says : Fits k a d band start count → say_window k a d band start count ≡ Done (k * start) (k * count)
+  pub fits-says : Fits k a d band start count → say_window k a d band start count ≡ Ok (k * start, k * count)
   unfolding say_window
   fits-says f =
-      through (ragged k a ∷ ragged k d ∷ stretch_checks (band_of band a d / k) start count) (Done (k * start) (k * count))
+      through (ragged k a ∷ ragged k d ∷ stretch_checks (band_of band a d / k) start count) (Ok (k * start, k * count))
       (whole-passes k (a / k) a f.approx, (whole-passes k (d / k) d f.details, (ne_eqb count 0 (λ z. omega (arith, f.some)), (le-ltb _ _ f.inside, tt))))
 
   pub fits-done : Fits k a d band start count → done (say_window k a d band start count) ≡ true
@@ -66,19 +56,27 @@ module _ (k a d band start count : ℕ) where
       pick true h = omega (arith, mul-add k start count, mul-le-mul_left k h, f.approx)
       pick false h = omega (arith, mul-add k start count, mul-le-mul_left k h, f.details)
 
--- what f tells of the band is the band of what it tells of both: its length is the band of the lengths
-pub band-of : {A B : Type 0} (f : A → B) (band : ℕ) (a d : A) → f (band_of band a d) ≡ band_of band (f a) (f d)
-band-of f band a d = pick (eqb band 0)
+  -- what a done one says: the place and the length in bytes, within the band
+  pub done_at : {i m : ℕ} → say_window k a d band start count ≡ Ok (i, m) → (i ≡ k * start) × (m ≡ k * count) × (i + m ≤ band_of band a d)
+  done_at {i} {m} e =
+      let f = done-fits (ap done e) in
+      let v : ℕ × ℕ = (i, m) in
+      let w : ℕ × ℕ = (k * start, k * count) in
+      let q : v ≡ w = cc (fits-says f) in
+      let p : i ≡ k * start = ap (λ (x : ℕ × ℕ). x.0) q in
+      let n : m ≡ k * count = ap (λ (x : ℕ × ℕ). x.1) q in
+      (p, n, omega (arith, p, n, within f))
+
+-- the band's length is the band of the lengths
+band-length : (band : ℕ) (a d : List ℕ) → length (band_of band a d) ≡ band_of band (length a) (length d)
+band-length band a d = pick (eqb band 0)
   where
-    pick : (b : Bool) → f (cond b a d) ≡ cond b (f a) (f d)
+    pick : (b : Bool) → length (cond b a d) ≡ cond b (length a) (length d)
     pick true = refl
     pick false = refl
 
-pub band-length : (band : ℕ) (a d : List ℕ) → length (band_of band a d) ≡ band_of band (length a) (length d)
-band-length band a d = band-of length band a d
-
 module _ (k : ℕ) (a d : List ℕ) (band start count : ℕ) where
-  abbrev said : Refusal
+  abbrev said : Outcome
   said = say_window k (length a) (length d) band start count
 
   -- a done window is that stretch of the band, and a refused one is empty
@@ -100,7 +98,7 @@ module _ (k : ℕ) (a d : List ℕ) (band start count : ℕ) where
   pub window-at : (i : ℕ) → Fits k (length a) (length d) band start count → i < k * count → get_or (window_in k a d band start count) i 0 ≡ get_or (band_of band a d) (k * start + i) 0
   window-at i f h = rw (window-is f, get_or-take, get_or-drop)
 
-  -- r is what the companion answers, and s the band that was asked for: its numbers tell the part of s that the window is
+  -- s is the band that was asked for: the companion's two numbers tell the part of s that the window is
   pub told : (r : Answer) (s : List ℕ) → r ≡ answer_of said → r.number ≡ 0 → s ≡ band_of band a d
       → (r.first + r.second ≤ length s) × (take (r.first + r.second - r.first) (drop r.first s) ≡ window_in k a d band start count)
   told r s e z b =
@@ -115,23 +113,3 @@ module _ (k : ℕ) (a d : List ℕ) (band start count : ℕ) where
 
   pub untold : (r : Answer) → r ≡ answer_of said → (r.number ≡ 0 → ⊥) → [] ≡ window_in k a d band start count
   untold r e z = sym (window-none (not_done said r e z))
-
--- where the part lies, of the bands a and d themselves: s is the band that was asked for
-module _ (k : ℕ) (a d : Bor (List ℕ)) (band start count : ℕ) where
-  abbrev here : Refusal
-  here = say_window k (length a.now) (length d.now) band start count
-
-  at_place : (t : Bool) (s : Bor (List ℕ)) (i : ℕ) → done here ≡ t → i ≡ cond t (k * start) 0 → s ≡ band_of band a d → (s.ref_ptr.0, i + s.ref_ptr.1) ≡ window_at k a d band start count
-  unfolding window_at
-  at_place t s i h e b =
-      ap (λ (n : ℕ). (s.ref_ptr.0, n)) (add_comm i s.ref_ptr.1 ∙ ap (λ (n : ℕ). s.ref_ptr.1 + n) (e ∙ ap (λ (x : Bool). cond x (k * start) 0) (sym h)))
-      ∙ ap (λ (x : Bor (List ℕ)). (x.ref_ptr.0, x.ref_ptr.1 + cond (done here) (k * start) 0)) b
-
-  pub placed : (r : Answer) (s : Bor (List ℕ)) → r ≡ answer_of here → r.number ≡ 0 → s ≡ band_of band a d → (s.ref_ptr.0, r.first + s.ref_ptr.1) ≡ window_at k a d band start count
-  placed r s e z b =
-      let h = is-done here r e z in
-      let f = done-fits k (length a.now) (length d.now) band start count h in
-      at_place true s r.first h (ap (λ (x : Answer). x.first) (e ∙ ap answer_of (fits-says k (length a.now) (length d.now) band start count f))) b
-
-  pub unplaced : (r : Answer) (s : Bor (List ℕ)) → r ≡ answer_of here → (r.number ≡ 0 → ⊥) → s ≡ band_of band a d → (s.ref_ptr.0, 0 + s.ref_ptr.1) ≡ window_at k a d band start count
-  unplaced r s e z b = at_place false s 0 (not_done here r e z) refl b

@@ -2,9 +2,8 @@
 -- Start and count are in samples of k bytes, the lengths a and d of the two bands in bytes.
 use Rattle.std.specs.Prelude.{cond, List, [], ◌∷◌, ℕ, ◌+◌, ◌*◌, ◌/◌, ltb, eqb, length, take, drop}
 use Rattle.std.specs.Borrow.{Bor}
-use Rattle.base_answers.specs.declared.err.Refusal.{Refusal}
-use Rattle.base_answers.specs.declared.err.Refusal.TheVariants.{Done, NoSuchPlace}
-use Rattle.base_answers.specs.Answers.{done}
+use Rattle.base_answers.specs.declared.err.Refusal.TheVariants.{NoSuchPlace}
+use Rattle.base_answers.specs.Answers.{Outcome, told, done}
 use Rattle.base_answers.specs.Checks.{Check, first_refusal, ragged}
 use Rattle.view_windows.specs.declared.window.SampleWidth.{SampleWidth}
 use Rattle.view_windows.specs.declared.window.SampleWidth.TheVariants.{One, Two, Four, Eight}
@@ -25,9 +24,9 @@ abbrev pub stretch_checks : ℕ → ℕ → ℕ → List Check
 stretch_checks m start count = (eqb count 0, NoSuchPlace start m) ∷ (ltb m (start + count), NoSuchPlace start m) ∷ []
 
 -- the same by byte lengths, after "this 9 comes before all else (.. approximations before details ..)"; done: place and length, in bytes
-unfoldable pub say_window : ℕ → ℕ → ℕ → ℕ → ℕ → ℕ → Refusal
+unfoldable pub say_window : ℕ → ℕ → ℕ → ℕ → ℕ → ℕ → Outcome
 say_window k a d band start count =
-    first_refusal (ragged k a ∷ ragged k d ∷ stretch_checks (band_of band a d / k) start count) (Done (k * start) (k * count))
+    first_refusal (ragged k a ∷ ragged k d ∷ stretch_checks (band_of band a d / k) start count) (told (k * start) (k * count))
 
 -- the stretch of the band; "when refused, .. an empty stretch"
 unfoldable pub window_in : ℕ → List ℕ → List ℕ → ℕ → ℕ → ℕ → List ℕ

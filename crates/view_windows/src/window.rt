@@ -1,10 +1,10 @@
 // A stretch of one of two lent bands: the part itself, or where it stands. Document 01, "The pyramid file".
-ghost use Rattle.std.specs.Prelude.{◌≡◌, ◌*◌, ◌^◌, ◌<◌, length};
-ghost use Rattle.base_answers.specs.Answers.{answer_of};
-ghost use Rattle.base_answers.specs.Checks.{first_refusal};
+ghost use Rattle.std.specs.Prelude.{◌≡◌, ◌<◌, length};
+ghost use Rattle.base_answers.specs.Checks.{passes};
 ghost use Rattle.view_windows.specs.Windows.{bytes_each, band_of, stretch_checks, say_window, window_in, window_at};
 
-use base_answers::err::{Answer, Refusal, numbers};
+use base_answers::err::{Outcome, Refusal};
+use base_lengths::checks::check_one;
 
 // How many bytes a sample has. An enum, so that no caller can ask for a width of 0.
 #[derive(Clone, Copy)]
@@ -26,13 +26,7 @@ fn bytes_each(w: SampleWidth) -> usize
     }
 }
 
-// Of two lengths, that of the band which was asked for; of two bands, the band.
-fn asked_length(band: u32, a: usize, d: usize) -> usize
-    ensures { result ≡ band_of band a d }
-{
-    if band == 0 { a } else { d }
-}
-
+// Of two bands, the one that was asked for by C's number: 0 is the approximations, any other the details.
 fn asked<'a>(band: u32, approx: &'a [u8], details: &'a [u8]) -> &'a [u8]
     ensures { result ≡ band_of band approx.entry details.entry }
 {
@@ -40,58 +34,36 @@ fn asked<'a>(band: u32, approx: &'a [u8], details: &'a [u8]) -> &'a [u8]
 }
 
 // So many samples from a start, of m samples: start + count may not fit, so that it is never formed.
-fn check_stretch(k: usize, m: usize, start: usize, count: usize) -> Refusal
-    requires { k * m < 2 ^ 64 }
-    ensures { result ≡ first_refusal (stretch_checks m start count) (Refusal.Done (k * start) (k * count)) }
+fn check_stretch(m: usize, start: usize, count: usize) -> Result<(), Refusal>
+    ensures { result ≡ passes (stretch_checks m start count) }
 {
-    if count == 0 {
-        return Refusal::NoSuchPlace(start, m);
+    if count == 0 || m < count || m - count < start {
+        return Err(Refusal::NoSuchPlace(start, m));
     }
-    if m < count {
-        return Refusal::NoSuchPlace(start, m);
-    }
-    if m - count < start {
-        return Refusal::NoSuchPlace(start, m);
-    }
-    Refusal::Done(k * start, k * count)
-}
-
-// What a window says, by byte lengths.
-fn say_window(k: usize, a: usize, d: usize, band: u32, start: usize, count: usize) -> Refusal
-    requires { 0 < k }
-    ensures { result ≡ say_window k a d band start count }
-{
-    if a % k != 0 {
-        return Refusal::BadCount(0, a);
-    }
-    if d % k != 0 {
-        return Refusal::BadCount(0, d);
-    }
-    check_stretch(k, asked_length(band, a, d) / k, start, count)
+    Ok(())
 }
 
 // Where the window starts in its band, and how long it is, in bytes.
-pub fn band_window_answer(
+#[tactic(auto, unfolding(crate::specs::Windows::say_window))]
+pub fn band_window_place(
     w: SampleWidth,
     approx: &[u8],
     details: &[u8],
     band: u32,
     start: usize,
     count: usize,
-) -> Answer
-    ensures { result ≡ answer_of (say_window (bytes_each w) (length approx.now) (length details.now) band start count) }
+) -> Outcome
+    ensures { result ≡ say_window (bytes_each w) (length approx.now) (length details.now) band start count }
 {
-    numbers(say_window(
-        bytes_each(w),
-        approx.len(),
-        details.len(),
-        band,
-        start,
-        count,
-    ))
+    let k = bytes_each(w);
+    check_one(k, approx.len())?;
+    check_one(k, details.len())?;
+    check_stretch(asked(band, approx, details).len() / k, start, count)?;
+    Ok((k * start, k * count))
 }
 
 // The window itself: a part of the band that was asked for, or an empty part.
+#[tactic(auto, using(crate::proofs::Windows::done_at), unfolding(crate::specs::Windows::window_in, crate::specs::Windows::window_at))]
 pub fn band_window<'a>(
     w: SampleWidth,
     approx: &'a [u8],
@@ -103,12 +75,9 @@ pub fn band_window<'a>(
     ensures result_value { result.now ≡ window_in (bytes_each w) approx.now details.now band start count }
     ensures ref_ptr_value { result.ref_ptr ≡ window_at (bytes_each w) approx.entry details.entry band start count }
 {
-    let r = band_window_answer(w, approx, details, band, start, count);
     let s = asked(band, approx, details);
-    if r.number == 0 {
-        let from = r.first as usize;
-        let end = from + r.second as usize;
-        return &s[from..end];
+    match band_window_place(w, approx, details, band, start, count) {
+        Ok((from, size)) => &s[from..from + size],
+        Err(_) => &s[0..0],
     }
-    &s[0..0]
 }

@@ -3,7 +3,7 @@ use Rattle.std.proofs.Common.{length, ◌≤◌, ◌-◌}
 use Rattle.app_oracle.proofs.replay_all.Given as goal
 
 abbrev pub invariant-loop-at : goal.invariant-loop-at
-invariant-loop-at l = (l.at ≤ length l.s) × (l.records ≤ l.at) × (l.differ ≤ l.records)
+invariant-loop-at l = (l.at ≤ length l.s) × (l.tally.records ≤ l.at) × (l.tally.differ ≤ l.tally.records)
 
 abbrev pub decreases-loop-at : goal.decreases-loop-at
 decreases-loop-at l = length l.s - l.at

@@ -7,5 +7,5 @@ use Rattle.base_lengths.proofs.depth53.Goals as goal
 pub returns-then-n-lt2 : goal.returns-then-n-lt2
 returns-then-n-lt2 c = sym (too_short 3 (omega arith) c.args.n (omega arith))
 
-pub returns : goal.returns
-returns c = depth-digits 64 c.args.n (omega (arith, c.ranges.n))
+pub returns-else-n-lt2 : goal.returns-else-n-lt2
+returns-else-n-lt2 c = depth-digits 64 c.args.n (omega (arith, c.ranges.n))

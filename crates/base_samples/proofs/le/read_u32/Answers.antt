@@ -1,7 +1,9 @@
--- `read_u32` meets its contract: a lower and an upper half.
-use mathlib.Core.Path.{sym}
-use Rattle.base_samples.proofs.LeLaws.{le_at-add}
+-- `read_u32` meets its contract.
+use native.Mathlib.Nat.{add_assoc}
+use native.Mathlib.Omega.{arith}
+use Rattle.base_samples.specs.Le.{le_at}
 use Rattle.base_samples.proofs.le.read_u32.Goals as goal
 
 pub returns : goal.returns
-returns c = rw (c.read_u16-low.ensures, c.read_u16-high.ensures) (sym (le_at-add 2 2 _ _))
+unfolding le_at
+returns c = simp add_assoc (omega arith)

@@ -1,7 +1,9 @@
--- `read_u64` meets its contract: a lower and an upper half.
-use mathlib.Core.Path.{sym}
-use Rattle.base_samples.proofs.LeLaws.{le_at-add}
+-- `read_u64` meets its contract.
+use native.Mathlib.Nat.{add_assoc}
+use native.Mathlib.Omega.{arith}
+use Rattle.base_samples.specs.Le.{le_at}
 use Rattle.base_samples.proofs.le.read_u64.Goals as goal
 
 pub returns : goal.returns
-returns c = rw (c.read_u32-low.ensures, c.read_u32-high.ensures) (sym (le_at-add 4 4 _ _))
+unfolding le_at
+returns c = simp add_assoc (omega arith)

@@ -3,6 +3,4 @@ use Rattle.book_calls.proofs.Changed.{dropped-is}
 use Rattle.book_calls.proofs.calls.drop_entry.Goals as goal
 
 pub returns : goal.returns
-returns c =
-    let st = c in
-    dropped-is st.args.b.now st.args.i st.requires.0 st.requires.1 c.pack.ensures c.clear.ensures
+returns c = dropped-is c.args.b.now c.args.i c.requires.0 c.requires.1 c.pack.ensures c.clear.ensures

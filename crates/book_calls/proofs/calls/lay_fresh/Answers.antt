@@ -3,6 +3,4 @@ use Rattle.book_calls.proofs.Changed.{fresh-is}
 use Rattle.book_calls.proofs.calls.lay_fresh.Goals as goal
 
 pub returns : goal.returns
-returns c =
-    let st = c in
-    fresh-is st.args.b.now st.requires c.write_u32.ensures c.clear.ensures c.write_u32-2.ensures
+returns c = fresh-is c.args.b.now c.requires c.write_u32.ensures c.clear.ensures c.write_u32-2.ensures

@@ -4,7 +4,7 @@ use Prim.Native.Nat.{◌+◌, ◌*◌}
 use Rattle.file_sample.proofs.neighbours.+even_samples_odd_sample.Given as goal
 
 abbrev pub decreases-even_samples : goal.decreases-even_samples
-decreases-even_samples l = 2 * l.levels
+decreases-even_samples g l = 2 * l.levels
 
 abbrev pub decreases-odd_sample : goal.decreases-odd_sample
-decreases-odd_sample l = 2 * l.levels + 1
+decreases-odd_sample g l = 2 * l.levels + 1

@@ -2,21 +2,10 @@
 use mathlib.Core.Path.{◌≡◌}
 use Prim.Native.Nat.{◌-◌}
 use native.Mathlib.Omega.{arith}
-use Rattle.levels_filter.specs.Filters.{width_of, wavelet_of}
-use Rattle.levels_filter.proofs.Cuts.{few-levels}
+use Rattle.levels_filter.specs.Filters.{width_of}
 use Rattle.file_open.specs.Files.{new_size, body_size}
-use Rattle.file_open.proofs.Writing.{width-byte, file-laid}
+use Rattle.file_open.proofs.Writing.{file-laid}
 use Rattle.file_write.proofs.write.lay_file.Goals as goal
-
-pub lay_head-requires-clause-k_bound : goal.lay_head-requires-clause-k_bound
-lay_head-requires-clause-k_bound c =
-    let a = c.args in
-    (omega (arith, width-byte a.f, c.width.ensures), few-levels (wavelet_of a.f) a.levels a.n c.requires.ready.deep c.requires.ready.short, c.requires.ready.short, omega (arith, c.requires.n_in_bounds))
-
-pub file_size-end-requires : goal.file_size-end-requires
-file_size-end-requires c =
-    let a = c.args in
-    (few-levels (wavelet_of a.f) a.levels a.n c.requires.ready.deep c.requires.ready.short, c.requires.ready.short)
 
 pub returns-clause-file_after : goal.returns-clause-file_after
 returns-clause-file_after c =

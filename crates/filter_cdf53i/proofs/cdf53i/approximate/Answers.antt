@@ -6,4 +6,4 @@ use Rattle.filter_cdf53i.proofs.cdf53i.approximate.Goals as goal
 
 pub loop-i-init : goal.loop-i-init
 unfolding detail_word
-loop-i-init c = (omega arith, refl, record { front = front-none _ c.requires.holds; left = c.detail_at-e.ensures.0; small = c.detail_at-e.ensures.1 })
+loop-i-init g c = (omega arith, refl, record { front = front-none _ c.requires.holds; left = c.detail_at-e.ensures })

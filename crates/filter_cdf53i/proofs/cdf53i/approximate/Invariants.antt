@@ -4,7 +4,7 @@ use Rattle.filter_cdf53i.specs.Bands.{Approximating}
 use Rattle.filter_cdf53i.proofs.cdf53i.approximate.Given as goal
 
 abbrev pub invariant-loop-i : goal.invariant-loop-i
-invariant-loop-i l = (l.i ≤ l.last) × (length l.t ≡ 1028) × Approximating l.k l.x l.a l.i l.e
+invariant-loop-i g l = (l.i ≤ l.last) × (length l.t ≡ 1028) × Approximating g.S.Sample.bytes l.x l.a l.i (g.S.Sample.word l.e)
 
 abbrev pub decreases-loop-i : goal.decreases-loop-i
-decreases-loop-i l = l.last - l.i
+decreases-loop-i g l = l.last - l.i

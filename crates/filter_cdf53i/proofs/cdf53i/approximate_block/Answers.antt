@@ -4,9 +4,8 @@ use Rattle.filter_cdf53i.proofs.WordTurns.{details-read}
 use Rattle.filter_cdf53i.proofs.cdf53i.approximate_block.Goals as goal
 
 pub returns : goal.returns
-returns c =
+returns g c =
     record {
       front = c.approxs_from.ensures;
-      left = c.get.ensures.0 ∙ details-read c.requires.unmirrored.input.width c.args.x.now c.args.i c.args.n c.details_from.ensures (omega arith);
-      small = c.get.ensures.1;
+      left = c.get.ensures ∙ details-read g.met.S.Sample.width c.args.x.now c.args.i c.args.n c.details_from.ensures (omega arith);
     }

@@ -6,19 +6,17 @@ use Rattle.filter_cdf53i.proofs.WordTurns.{details-read, approx-more}
 use Rattle.filter_cdf53i.proofs.cdf53i.approxs_from.Goals as goal
 
 pub loop-j-preserved : goal.loop-j-preserved
-loop-j-preserved c =
+loop-j-preserved g c =
     let l = c.loop-j in
-    let w = c.requires.unmirrored.input.width in
+    let w = g.met.S.Sample.width in
     let x = c.args.x.now in
     let i = c.args.i in
     let lt = c.loop-j-test.true in
-    let inside = c.requires.unmirrored.details in (
-      omega arith,
-      front_at _
-          (approx-more w x (i + l.j) (i + l.j) l.invariant.1 (omega arith) (omega arith) (omega arith)
-          c.get.ensures.0
-          (c.get-in-loop-j.ensures.0 ∙ details-read w x i l.j c.requires.front.0 (omega arith))
-          (c.get-in-loop-j-2.ensures.0 ∙ details-read w x i (l.j + 1) c.requires.front.0 (omega arith) ∙ ap (detail_word c.args.k x) (omega arith))
-          c.approx_of.ensures.0 c.put.ensures)
-          (omega arith),
-    )
+    let inside = c.requires.unmirrored.details in
+    front_at _
+    (approx-more w x (i + l.j) (i + l.j) l.invariant (omega arith) (omega arith) (omega arith)
+    c.get.ensures
+    (c.get-in-loop-j.ensures ∙ details-read w x i l.j c.requires.front.0 (omega arith))
+    (c.get-in-loop-j-2.ensures ∙ details-read w x i (l.j + 1) c.requires.front.0 (omega arith) ∙ ap (detail_word g.S.Sample.bytes x) (omega arith))
+    c.approx_of.ensures c.put.ensures)
+    (omega arith)

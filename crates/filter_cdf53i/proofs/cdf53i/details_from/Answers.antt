@@ -2,23 +2,20 @@
 use Rattle.std.proofs.Common.{refl, ap, ◌∙◌, arith}
 use Rattle.base_samples.proofs.Fronts.{front-none, front-more}
 use Rattle.filter_cdf53i.specs.Bands.{detail_word, details_from}
-use Rattle.filter_cdf53i.proofs.WordTurns.{front-now}
 use Rattle.filter_cdf53i.proofs.cdf53i.details_from.Goals as goal
 
 pub loop-j-init : goal.loop-j-init
 unfolding details_from
-loop-j-init c =
+loop-j-init g c =
     let a = c.args in
     let most = c.requires.enough_words.most in
-    let f = front-more (front-none (details_from a.k a.x.now a.i) c.requires.enough_words.holds) refl (omega arith) (c.requires.e_value.0 ∙ ap (detail_word a.k a.x.now) (omega arith)) c.put.ensures in
-    (omega arith, refl, omega (arith, f.holds.count), front-now f)
+    front-more (front-none (details_from g.S.Sample.bytes a.x.now a.i) c.requires.enough_words.holds) refl (omega arith) (c.requires.e_value ∙ ap (detail_word g.S.Sample.bytes a.x.now) (omega arith)) c.put.ensures
 
 pub loop-j-preserved : goal.loop-j-preserved
 unfolding details_from detail_word
-loop-j-preserved c =
+loop-j-preserved g c =
     let a = c.args in
     let l = c.loop-j in
     let lt = c.loop-j-test.true in
-    let most = l.invariant.2 in
-    let f = front-more l.invariant.3 refl (omega arith) (c.detail_at.ensures.0 ∙ ap (detail_word a.k a.x.now) (omega arith)) c.put-in-loop-j.ensures in
-    (omega arith, omega (arith, f.holds.size, l.invariant.3.holds.size), omega (arith, f.holds.count), front-now f)
+    let most = c.requires.enough_words.most in
+    front-more l.invariant refl (omega arith) (c.detail_at.ensures ∙ ap (detail_word g.S.Sample.bytes a.x.now) (omega arith)) c.put-in-loop-j.ensures

@@ -8,7 +8,7 @@ use Rattle.filter_cdf53i.proofs.cdf53i.forward.Goals as goal
 
 pub returns : goal.returns
 unfolding low high approxs
-returns c =
+returns g c =
     let a = c.args in
-    let w = c.requires.input.width in
-    (c.update.ensures ∙ rw (c.predict.ensures, stored-details w (decode a.k a.x.now)), c.predict.ensures)
+    let w = g.met.S.Sample.width in
+    (c.update.ensures ∙ rw (c.predict.ensures, stored-details w (decode g.S.Sample.bytes a.x.now)), c.predict.ensures)

@@ -6,4 +6,4 @@ use Rattle.filter_cdf53i.proofs.cdf53i.inverse.Goals as goal
 
 pub loop-i-init : goal.loop-i-init
 unfolding even_word
-loop-i-init c = (omega arith, refl, refl, record { front = front-none _ c.requires.input.samples; next = c.even_at-e.ensures.0; small = c.even_at-e.ensures.1 })
+loop-i-init g c = (omega arith, refl, refl, record { front = front-none _ c.requires.input.samples; next = c.even_at-e.ensures })

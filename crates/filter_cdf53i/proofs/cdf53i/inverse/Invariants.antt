@@ -4,7 +4,7 @@ use Rattle.filter_cdf53i.specs.Bands.{Restoring}
 use Rattle.filter_cdf53i.proofs.cdf53i.inverse.Given as goal
 
 abbrev pub invariant-loop-i : goal.invariant-loop-i
-invariant-loop-i l = (l.i ≤ l.last) × (length l.t ≡ 1028) × (length l.u ≡ 1024) × Restoring l.k (length l.initial.x / l.k) l.a l.d l.x l.i l.e
+invariant-loop-i g l = (l.i ≤ l.last) × (length l.t ≡ 1028) × (length l.u ≡ 1024) × Restoring g.S.Sample.bytes (length l.initial.x / g.S.Sample.bytes) l.a l.d l.x l.i (g.S.Sample.word l.e)
 
 abbrev pub decreases-loop-i : goal.decreases-loop-i
-decreases-loop-i l = l.last - l.i
+decreases-loop-i g l = l.last - l.i

@@ -8,20 +8,19 @@ use Rattle.filter_cdf53i.specs.Bands.{high}
 use Rattle.filter_cdf53i.proofs.cdf53i.predict.Goals as goal
 
 pub loop-i-preserved : goal.loop-i-preserved
-loop-i-preserved c =
+loop-i-preserved g c =
     let lt = c.loop-i-test.true in
-    (omega arith, front-more c.loop-i.invariant.1 refl (omega arith) c.detail_at.ensures.0 c.put.ensures)
+    front-more c.loop-i.invariant refl (omega arith) c.detail_at.ensures c.put.ensures
 
 pub returns : goal.returns
 unfolding high details
-returns c =
+returns g c =
     let a = c.args in
-    let le = c.loop-i.invariant.0 in
     let ge = c.loop-i-test.false in
     let long = c.requires.input.long in
-    let n = length-decode a.k a.x.now in
-    front-all _ (front-more c.loop-i.invariant.1 (omega arith) (omega arith) c.detail_at-2.ensures.0 c.put-2.ensures) (omega arith) (omega arith)
-    ∙ sym (encode-tabulate a.k _ (detail (wrap a.k) (decode a.k a.x.now)))
+    let n = length-decode g.S.Sample.bytes a.x.now in
+    front-all _ (front-more c.loop-i.invariant (omega arith) (omega arith) c.detail_at-2.ensures c.put-2.ensures) (omega arith) (omega arith)
+    ∙ sym (encode-tabulate g.S.Sample.bytes _ (detail (wrap g.S.Sample.bytes) (decode g.S.Sample.bytes a.x.now)))
 
 pub loop-i-init : goal.loop-i-init
-loop-i-init c = (omega arith, front-none _ c.requires.holds)
+loop-i-init g c = front-none _ c.requires.holds

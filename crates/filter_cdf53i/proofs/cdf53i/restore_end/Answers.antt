@@ -12,16 +12,16 @@ as_many {k} b e = ap (λ n. n / k) e
 
 -- as many: the last odd sample stands between the last even one and its mirror
 pub returns-then-a-d : goal.returns-then-a-d
-returns-then-a-d c =
+returns-then-a-d g c =
     let a = c.args in
-    let w = c.requires.input_bands.input.width in
+    let w = g.met.S.Sample.width in
     let e = as_many c.requires.input_bands c.if-a-d.true in
     let long = c.requires.input_bands.input.long in
     let na = c.requires.input_bands.approx.count in
     let nd = c.requires.input_bands.details.count in
     restored-all w a.a.now a.d.now _ _ _
     (front-pair w a.a.now a.d.now a.last a.last c.requires.restoring.front (omega arith) (omega arith) (omega arith) c.requires.restoring.next c.requires.restoring.next
-    c.put.ensures c.get.ensures.0 c.odd_of.ensures.0 c.put-then-a-d.ensures)
+    c.put.ensures c.get.ensures c.odd_of.ensures c.put-then-a-d.ensures)
     (omega arith)
     (omega arith)
 
@@ -35,9 +35,9 @@ one_more {k} {x} b ne =
 -- one less: a pair, and the last even sample
 pub returns-else-a-d : goal.returns-else-a-d
 unfolding even_word
-returns-else-a-d c =
+returns-else-a-d g c =
     let a = c.args in
-    let w = c.requires.input_bands.input.width in
+    let w = g.met.S.Sample.width in
     let e = one_more c.requires.input_bands c.if-a-d.false in
     let long = c.requires.input_bands.input.long in
     let na = c.requires.input_bands.approx.count in
@@ -45,9 +45,9 @@ returns-else-a-d c =
     restored-all w a.a.now a.d.now _ _ _
     (front-last w a.a.now a.d.now (a.last + 1)
     (front_at _
-    (front-pair w a.a.now a.d.now a.last (a.last + 1) c.requires.restoring.front (omega arith) (omega arith) (omega arith) c.requires.restoring.next c.even_at-f.ensures.0
-    c.put.ensures c.get-else-a-d.ensures.0 c.odd_of-else-a-d.ensures.0 c.put-else-a-d.ensures)
+    (front-pair w a.a.now a.d.now a.last (a.last + 1) c.requires.restoring.front (omega arith) (omega arith) (omega arith) c.requires.restoring.next c.even_at-f.ensures
+    c.put.ensures c.get-else-a-d.ensures c.odd_of-else-a-d.ensures c.put-else-a-d.ensures)
     (omega arith))
-    (omega arith) c.even_at-f.ensures.0 c.put-else-a-d-2.ensures)
+    (omega arith) c.even_at-f.ensures c.put-else-a-d-2.ensures)
     (omega arith)
     (omega arith)

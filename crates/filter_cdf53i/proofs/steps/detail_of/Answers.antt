@@ -1,13 +1,6 @@
 -- `detail_of` meets its contract: one law of the step on words.
-use Rattle.std.proofs.Common.{◌^◌}
-use Rattle.base_samples.specs.Integers.{quarter}
 use Rattle.filter_cdf53i.proofs.StepLaws.{detail-step}
 use Rattle.filter_cdf53i.proofs.steps.detail_of.Goals as goal
 
 pub returns : goal.returns
-returns c =
-    let a = c.args in (
-      detail-step (256 ^ a.k) (quarter a.k) c.requires.width.words c.quarter_of.result c.quarter_of.ensures a.x a.y a.z c.mean.result c.sub.result c.add.result
-          c.requires.x_bound.0 c.requires.x_bound.1 c.requires.x_bound.2 c.mean.ensures.0 c.sub.ensures.0 c.add.ensures.0,
-      c.add.ensures.1,
-    )
+returns g c = let fits = g.met.S.Sample.fits in detail-step g.met.S.Sample.width _ (fits _) (fits _) (fits _) c.mean.ensures c.wrapping_sub.ensures c.half.ensures c.wrapping_add.ensures

@@ -1,13 +1,9 @@
 -- `even_at` meets its contract: the words that it reads are those of the definition.
-use Rattle.std.proofs.Common.{◌∙◌, arith}
-use Rattle.filter_cdf53i.proofs.WordTurns.{even-at}
+use Rattle.std.proofs.Common.{arith}
+use Rattle.filter_cdf53i.proofs.WordTurns.{even-made}
 use Rattle.filter_cdf53i.proofs.steps.even_at.Goals as goal
 
 pub returns : goal.returns
-returns c =
-    let a = c.args in (
-      c.even_of.ensures.0
-          ∙ rw (c.get.ensures.0, c.get-2.ensures.0, c.get-3.ensures.0)
-          (even-at c.requires.width a.a.now a.d.now a.i a.left a.right (omega arith) (omega arith) (omega arith) (omega arith) (omega arith)),
-      c.even_of.ensures.1,
-    )
+returns g c =
+    let a = c.args in
+    even-made g.met.S.Sample.width a.a.now a.d.now a.i a.left a.right (omega arith) (omega arith) (omega arith) (omega arith) (omega arith) c.get.ensures c.get-2.ensures c.get-3.ensures c.even_of.ensures

@@ -1,6 +1,6 @@
--- One level forward with the checks: what is left where they pass, and where they do not.
-use Rattle.levels_filter.proofs.Filters.{forward-lent}
+-- One level forward with the checks: where they pass, the lengths are those of a level.
+use Rattle.levels_filter.proofs.Filters.{forward_lent}
 use Rattle.levels_filter.proofs.filter.execute_forward.Goals as goal
 
 pub forward-requires : goal.forward-requires
-forward-requires c = let a = c.args in forward-lent a.f a.input.now a.approx.now a.details.now c.wavelet.ensures c.width.ensures.0 c.check_forward-said.ensures c.numbers-r.ensures c.is_done.ensures c.if-is_done.true
+forward-requires c = forward_lent _ c.in_ok-check_forward.ensures c.wavelet.ensures c.width.ensures.0

@@ -1,6 +1,6 @@
--- One level back with the checks: what is left where they pass, and where they do not.
-use Rattle.levels_filter.proofs.Filters.{inverse-lent}
+-- One level back with the checks: where they pass, the lengths are those of a level.
+use Rattle.levels_filter.proofs.Filters.{inverse_lent}
 use Rattle.levels_filter.proofs.filter.execute_inverse.Goals as goal
 
 pub inverse-requires : goal.inverse-requires
-inverse-requires c = let a = c.args in inverse-lent a.f a.approx.now a.details.now a.output.now c.wavelet.ensures c.width.ensures.0 c.check_inverse-said.ensures c.numbers-r.ensures c.is_done.ensures c.if-is_done.true
+inverse-requires c = inverse_lent _ c.in_ok-check_inverse.ensures c.wavelet.ensures c.width.ensures.0

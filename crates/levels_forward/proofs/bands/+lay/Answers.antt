@@ -5,9 +5,7 @@ use native.Mathlib.Omega.{arith}
 use lib.ListN.{take}
 use Rattle.levels_filter.specs.Filters.{width_of}
 use Rattle.levels_filter.specs.Pyramids.{count_size, laid_out}
-use Rattle.levels_filter.proofs.Cuts.{half-within}
-use Rattle.levels_filter.proofs.Lists.{later}
-use Rattle.levels_filter.proofs.Rooms.{room-below}
+use Rattle.levels_filter.proofs.Rooms.{room-below, kept-behind}
 use Rattle.levels_forward.proofs.Laying.{laid_none, size_below, laid_more, area-kept}
 use Rattle.levels_forward.proofs.bands.+lay.Goals as goal
 
@@ -43,7 +41,7 @@ returns-else-levels-eq0-clause-out_after t c =
 
 -- the two areas change roles at each level
 pub returns-else-levels-eq0-clause-from_unchanged : goal.returns-else-levels-eq0-clause-from_unchanged
-returns-else-levels-eq0-clause-from_unchanged t c = later _ _ _ _ (half-within (width_of c.args.f) c.args.n) (rw c.approx_length-half.ensures at c.lay.ensures.to_unchanged)
+returns-else-levels-eq0-clause-from_unchanged t c = kept-behind _ _ _ _ c.approx_length-half.ensures c.lay.ensures.to_unchanged
 
 pub returns-else-levels-eq0-clause-to_unchanged : goal.returns-else-levels-eq0-clause-to_unchanged
 returns-else-levels-eq0-clause-to_unchanged t c =

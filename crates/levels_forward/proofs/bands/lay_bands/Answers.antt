@@ -2,9 +2,7 @@
 use Prim.Native.Nat.{◌-◌}
 use native.Mathlib.Omega.{arith}
 use Rattle.levels_filter.specs.Filters.{width_of}
-use Rattle.levels_filter.proofs.Cuts.{half-within}
-use Rattle.levels_filter.proofs.Lists.{later}
-use Rattle.levels_filter.proofs.Rooms.{ready-room, room-below}
+use Rattle.levels_filter.proofs.Rooms.{ready-room, room-below, kept-behind}
 use Rattle.levels_forward.proofs.Laying.{laid_more, area-kept}
 use Rattle.levels_forward.proofs.bands.lay_bands.Goals as goal
 
@@ -21,4 +19,4 @@ pub returns-clause-one_unchanged : goal.returns-clause-one_unchanged
 returns-clause-one_unchanged c = area-kept c.args.counted c.lay_level-at.ensures c.requires.ready.some c.requires.out_len _ (rw c.approx_length-half.ensures at c.lay.ensures.from_unchanged)
 
 pub returns-clause-two_unchanged : goal.returns-clause-two_unchanged
-returns-clause-two_unchanged c = later _ _ _ _ (half-within (width_of c.args.f) c.args.n) (rw c.approx_length-half.ensures at c.lay.ensures.to_unchanged)
+returns-clause-two_unchanged c = kept-behind _ _ _ _ c.approx_length-half.ensures c.lay.ensures.to_unchanged

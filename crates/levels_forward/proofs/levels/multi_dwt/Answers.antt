@@ -3,7 +3,8 @@ use mathlib.Core.Path.{◌≡◌, ◌∙◌, sym, ap}
 use Prim.Native.Nat.{◌*◌, ◌/◌}
 use native.Mathlib.Omega.{arith}
 use lib.ListN.{length}
-use Rattle.base_answers.proofs.Endings.{call-done, call-refused}
+use Rattle.base_answers.specs.Answers.{answer_of, done}
+use Rattle.base_answers.proofs.Endings.{call-done}
 use Rattle.levels_filter.specs.Filters.{width_of}
 use Rattle.levels_filter.specs.Pyramids.{pyramid}
 use Rattle.levels_filter.proofs.Multi.{multi-ready}
@@ -13,23 +14,19 @@ use Rattle.levels_forward.proofs.levels.multi_dwt.Goals as goal
 pub lay_bands-requires : goal.lay_bands-requires
 lay_bands-requires c =
     let a = c.args in
-    let r = multi-ready a.f a.levels (length a.signal.now) (length a.out.now) (length a.one.now) (length a.two.now) (rw c.check_multi-said.ensures at (sym c.is_done.ensures ∙ c.if-is_done.true)) in
+    let r = multi-ready _ _ _ _ _ _ (sym (ap done c.in_ok-check_multi.ensures)) in
     record {
       ready = rw (c.at_least_one.ensures, c.width.ensures.0) r.0;
       out_len = rw (c.at_least_one.ensures, c.width.ensures.0) (omega (arith, r.1));
     }
 
-pub returns-then-is_done : goal.returns-then-is_done
-returns-then-is_done c =
+pub returns : goal.returns
+returns c =
     let a = c.args in
     let x = length a.signal.now in
     let n = x / c.width.result in
-    let t = sym c.is_done.ensures ∙ c.if-is_done.true in
-    let r = multi-ready a.f a.levels x (length a.out.now) (length a.one.now) (length a.two.now) (rw c.check_multi-said.ensures at t) in
+    let r = multi-ready _ _ _ _ _ _ (sym (ap done c.in_ok-check_multi.ensures)) in
     let w : width_of a.f * n ≡ x = ap (λ k. width_of a.f * (x / k)) c.width.ensures.0 ∙ sym r.0.whole in
-    call-done c.check_multi-said.ensures c.numbers-r.ensures t
+    call-done (sym c.in_ok-check_multi.ensures) (ap answer_of c.in_ok-check_multi.ensures)
     (c.lay_bands.ensures.out_after ∙ no-counts a.f c.at_least_one.result n a.signal.now ∙ ap (λ l. pyramid a.f l a.signal.now) c.at_least_one.ensures)
     (rw w at c.lay_bands.ensures.one_unchanged) (rw w at c.lay_bands.ensures.two_unchanged)
-
-pub returns-else-is_done : goal.returns-else-is_done
-returns-else-is_done c = call-refused c.check_multi-said.ensures c.numbers-r.ensures (sym c.is_done.ensures ∙ c.if-is_done.false)

@@ -1,35 +1,29 @@
 -- `band_lengths` meets its contract. The invariant: what is left of the lengths decides.
-use Prim.Native.Nat.{◌+◌, ◌<◌}
-use mathlib.Core.Path.{◌≡◌, sym, ◌∙◌}
+use mathlib.Core.Path.{◌∙◌, sym}
 use native.Mathlib.Omega.{arith}
-use lib.ListN.{length, drop}
-use Rattle.base_samples.specs.Words.{words_of}
-use Rattle.base_samples.proofs.Words.{length-words}
-use Rattle.levels_filter.specs.Backward.{total}
-use Rattle.levels_filter.proofs.LevelsBack.{total-more, bands-more, bands-stop, bands-end}
+use Rattle.std.proofs.lemmas.Result.{err_from_is_err_and}
+use Rattle.levels_inverse.proofs.Lengths.{next_total, bands_next, bands_stop, no_bands}
 use Rattle.levels_inverse.proofs.back.band_lengths.Goals as goal
 
--- length i is there
-pub returns-then-not-is_done : goal.returns-then-not-is_done
-returns-then-not-is_done c =
-    let s = words_of 4 c.args.lengths.now in
-    let l = c.loop-i in
-    let there : l.i < length s = omega (arith, length-words 4 c.args.lengths.now) in
-    bands-stop c.args.w l.n s l.i c.length_at-m.result there c.length_at-m.ensures.0 c.inverse_bands-said.ensures (sym c.is_done.ensures ∙ c.if-not-is_done.true)
-    ∙ sym l.invariant.2
+pub returns-in_err-inverse_bands : goal.returns-in_err-inverse_bands
+returns-in_err-inverse_bands c =
+    let l = c.loop-word in
+    let s = c.in-Some.ensures.steps in
+    let p = err_from_is_err_and c.from_residual.result c.from_residual.ensures.1 in
+    rw (p.1, p.2) (sym (l.invariant.2 ∙ bands_stop _ _ s.1.0 (s.1.1 ∙ l.invariant.0) c.args.w l.n _ c.read_u32-m.ensures (sym c.in_err-inverse_bands.ensures)))
 
--- and what is left has it first
-pub loop-i-preserved : goal.loop-i-preserved
-loop-i-preserved c =
-    let s = words_of 4 c.args.lengths.now in
-    let l = c.loop-i in
-    let m = c.length_at-m.result in
-    let there : l.i < length s = omega (arith, length-words 4 c.args.lengths.now) in
-    let left : l.n + m + total (drop (l.i + 1) s) ≡ c.args.a + total s = omega (arith, l.invariant, total-more s l.i m there c.length_at-m.ensures.0) in
-    (omega arith, left, l.invariant.2 ∙ bands-more c.args.w l.n s l.i m there c.length_at-m.ensures.0 c.inverse_bands-said.ensures (sym c.is_done.ensures ∙ c.if-not-is_done.false))
+pub loop-word-preserved : goal.loop-word-preserved
+loop-word-preserved c =
+    let l = c.loop-word in
+    let s = c.in-Some.ensures.steps in
+    let four = s.1.1 ∙ l.invariant.0 in
+    let t = next_total _ _ s.1.0 four in (
+      s.0 ∙ l.invariant.0,
+      omega (arith, l.invariant, t, c.read_u32-m.ensures),
+      l.invariant.2 ∙ bands_next _ _ s.1.0 four c.args.w l.n _ c.read_u32-m.ensures (sym c.in_ok-inverse_bands.ensures),
+    )
 
 pub returns : goal.returns
 returns c =
-    let s = words_of 4 c.args.lengths.now in
-    let l = c.loop-i in
-    sym (l.invariant.2 ∙ bands-end c.args.w l.n s l.i (omega (arith, length-words 4 c.args.lengths.now)))
+    let l = c.loop-word in
+    sym (l.invariant.2 ∙ no_bands l.word-iterator.rest.now c.args.w l.n (omega (arith, l.invariant.0, c.in-None.ensures.steps)))

@@ -1,19 +1,18 @@
 -- `total_of` meets its contract. The invariant: what is added up, and what is left.
+use mathlib.Core.Path.{◌∙◌, ap}
 use native.Mathlib.Omega.{arith}
-use Rattle.base_samples.specs.Words.{words_of}
-use Rattle.base_samples.proofs.Words.{length-words}
-use Rattle.levels_filter.proofs.LevelsBack.{total-more, total-end}
+use lib.ListN.{length, length-append}
+use Rattle.levels_inverse.proofs.Lengths.{next_total, no_total}
 use Rattle.levels_inverse.proofs.back.total_of.Goals as goal
 
-pub loop-i-preserved : goal.loop-i-preserved
-loop-i-preserved c =
-    let s = c.args.lengths.now in
-    let l = c.loop-i in
-    let m = total-more (words_of 4 s) l.i c.length_at-sum.result (omega (arith, length-words 4 s, c.loop-i-test)) c.length_at-sum.ensures.0 in
-    (omega arith, omega (arith, m, l.invariant), omega (arith, l.invariant, c.length_at-sum.ensures))
+pub loop-word-preserved : goal.loop-word-preserved
+loop-word-preserved c =
+    let l = c.loop-word in
+    let s = c.in-Some.ensures.steps in
+    let four = s.1.1 ∙ l.invariant.0 in
+    let t = next_total _ _ s.1.0 four in
+    let n = simp length-append at (ap length s.1.0) in
+    (s.0 ∙ l.invariant.0, omega (arith, l.invariant, t, c.read_u32.ensures), omega (arith, l.invariant, n, four))
 
 pub returns : goal.returns
-returns c =
-    let s = c.args.lengths.now in
-    let l = c.loop-i in
-    omega (arith, l.invariant, total-end (words_of 4 s) l.i (omega (arith, length-words 4 s, c.loop-i-test)))
+returns c = let s = c.in-None.ensures.steps in omega (arith, c.loop-word.invariant, no_total c.loop-word.word-iterator.rest.now (omega (arith, s, c.loop-word.invariant)))

@@ -5,10 +5,8 @@ use native.Mathlib.Omega.{arith}
 use lib.ListN.{length, take}
 use lib.Seq.{length-take-le}
 use Rattle.levels_filter.specs.Filters.{width_of}
-use Rattle.levels_filter.proofs.Cuts.{half-within}
-use Rattle.levels_filter.proofs.Lists.{later}
 use Rattle.levels_filter.proofs.LastLevel.{parted-none, parted-more}
-use Rattle.levels_filter.proofs.Rooms.{room-below, level-at, bands-none, bands-more}
+use Rattle.levels_filter.proofs.Rooms.{room-below, level-at, bands-none, bands-more, kept-behind}
 use Rattle.levels_last.proofs.last.+sink.Goals as goal
 
 -- the last level's samples are those that are lent
@@ -43,7 +41,7 @@ returns-else-levels-eq0-clause-parted t c =
 
 -- the two areas change roles at each level
 pub returns-else-levels-eq0-clause-from_unchanged : goal.returns-else-levels-eq0-clause-from_unchanged
-returns-else-levels-eq0-clause-from_unchanged t c = later _ _ _ _ (half-within (width_of c.args.f) c.args.n) (rw c.approx_length-half.ensures at c.sink.ensures.to_unchanged)
+returns-else-levels-eq0-clause-from_unchanged t c = kept-behind _ _ _ _ c.approx_length-half.ensures c.sink.ensures.to_unchanged
 
 pub returns-else-levels-eq0-clause-to_unchanged : goal.returns-else-levels-eq0-clause-to_unchanged
-returns-else-levels-eq0-clause-to_unchanged t c = later _ _ _ _ (half-within (width_of c.args.f) c.args.n) (rw c.approx_length-half.ensures at c.sink.ensures.from_unchanged) ∙ c.level_above.ensures.to_unchanged
+returns-else-levels-eq0-clause-to_unchanged t c = kept-behind _ _ _ _ c.approx_length-half.ensures c.sink.ensures.from_unchanged ∙ c.level_above.ensures.to_unchanged

@@ -16,10 +16,3 @@ approximate-requires c =
     let read : length (take c.bytes_of-all.result a.from.now) ≡ c.bytes_of-all.result = length-take-le _ _ (omega arith) in
     let written : length (take c.cut_of-cut.result a.to.now) ≡ c.cut_of-cut.result = length-take-le _ _ (omega arith) in
     low-at _ c.requires (omega arith) (read ∙ c.bytes_of-all.ensures) (written ∙ c.cut_of-cut.ensures.place)
-
-pub returns-clause-to_unchanged : goal.returns-clause-to_unchanged
-returns-clause-to_unchanged c =
-    let a = c.args in
-    let cut = c.cut_of-cut in
-    let written : length (take cut.result a.to.now) ≡ cut.result = length-take-le _ _ (omega arith) in
-    (put_front a.to.now c.approximate.new.a cut.result (width_of a.f * a.n) (c.approximate.auto.a ∙ written) (omega (arith, cut.ensures))).1

@@ -4,10 +4,8 @@ use Prim.Native.Nat.{suc, ◌+◌, ◌-◌, ◌*◌}
 use native.Mathlib.Omega.{arith}
 use lib.Seq.{take_all}
 use Rattle.levels_filter.specs.Filters.{width_of, low_of}
-use Rattle.levels_filter.proofs.Cuts.{half-within}
-use Rattle.levels_filter.proofs.Lists.{later}
 use Rattle.levels_filter.proofs.LastLevel.{parted-none, parted-more}
-use Rattle.levels_filter.proofs.Rooms.{ready-room, room-below, level-at, bands-none, bands-more}
+use Rattle.levels_filter.proofs.Rooms.{ready-room, room-below, level-at, bands-none, bands-more, kept-behind}
 use Rattle.levels_last.proofs.last.run_last.Goals as goal
 
 -- no level is above the last
@@ -42,7 +40,7 @@ returns-else-levels-eq1-clause-parted c =
     parted-more a.f a.signal.now e (c.level_above.ensures.to_after ∙ ap (low_of a.f) whole) (rw c.approx_length-half.ensures at c.sink.ensures.parted)
 
 pub returns-else-levels-eq1-clause-one_unchanged : goal.returns-else-levels-eq1-clause-one_unchanged
-returns-else-levels-eq1-clause-one_unchanged c = later _ _ _ _ (half-within (width_of c.args.f) c.args.n) (rw c.approx_length-half.ensures at c.sink.ensures.from_unchanged) ∙ c.level_above.ensures.to_unchanged
+returns-else-levels-eq1-clause-one_unchanged c = kept-behind _ _ _ _ c.approx_length-half.ensures c.sink.ensures.from_unchanged ∙ c.level_above.ensures.to_unchanged
 
 pub returns-else-levels-eq1-clause-two_unchanged : goal.returns-else-levels-eq1-clause-two_unchanged
-returns-else-levels-eq1-clause-two_unchanged c = later _ _ _ _ (half-within (width_of c.args.f) c.args.n) (rw c.approx_length-half.ensures at c.sink.ensures.to_unchanged)
+returns-else-levels-eq1-clause-two_unchanged c = kept-behind _ _ _ _ c.approx_length-half.ensures c.sink.ensures.to_unchanged

@@ -7,14 +7,12 @@ use Rattle.stream_calls.proofs.bands.approxs_on.Goals as goal
 
 pub loop-j-preserved : goal.loop-j-preserved
 unfolding approx_among
-loop-j-preserved c =
+loop-j-preserved g c =
     let lt = c.loop-j-test.true in
-    let words = c.approx_of in (
-      omega arith,
-      front-more c.loop-j.invariant.1 refl (omega arith)
-          (words.ensures.0 ∙ rw (c.get.ensures.0, c.get-in-loop-j.ensures.0, c.get-in-loop-j-2.ensures.0))
-          c.put.ensures,
-    )
+    let words = c.approx_of in
+    front-more c.loop-j.invariant refl (omega arith)
+    (words.ensures ∙ rw (c.get.ensures, c.get-in-loop-j.ensures, c.get-in-loop-j-2.ensures))
+    c.put.ensures
 
 pub loop-j-init : goal.loop-j-init
-loop-j-init c = (omega arith, front-none _ c.requires.0.words)
+loop-j-init g c = front-none _ c.requires.0.words

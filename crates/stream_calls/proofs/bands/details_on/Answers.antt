@@ -7,9 +7,9 @@ use Rattle.stream_calls.proofs.bands.details_on.Goals as goal
 
 pub loop-j-preserved : goal.loop-j-preserved
 unfolding detail_word
-loop-j-preserved c =
+loop-j-preserved g c =
     let lt = c.loop-j-test.true in
-    (omega arith, front-more c.loop-j.invariant.1 refl (omega arith) c.detail_at.ensures.0 c.put.ensures)
+    front-more c.loop-j.invariant refl (omega arith) c.detail_at.ensures c.put.ensures
 
 pub loop-j-init : goal.loop-j-init
-loop-j-init c = (omega arith, front-none _ c.requires.words)
+loop-j-init g c = front-none _ c.requires.words

@@ -1,6 +1,7 @@
 -- `fix` meets its contract: the first coefficients and the others are all that the piece fixes.
+use borrow.Author.Tests.{eqb-false}
 use mathlib.Core.List.{List, ◌++◌}
-use mathlib.Core.Path.{◌≡◌, ap, sym, ◌∙◌}
+use mathlib.Core.Path.{◌≡◌, ap₂, sym, ◌∙◌}
 use Prim.Native.Nat.{ℕ, ◌+◌, ◌-◌, ◌*◌, ◌/◌, ◌≤◌, ◌<◌}
 use native.Mathlib.Nat.{mul-le-mul_left}
 use native.Mathlib.Omega.{arith}
@@ -22,14 +23,14 @@ enough : (c v n : ℕ) → 0 < c → 2 * c < v + n → v ≤ 2 → 2 * (c - 1) <
 enough c v n some h two = omega arith
 
 -- where a coefficient is new, the even sample from which the others are read is within the piece
-module _ {k : ℕ} {s : Recorder} {y : List ℕ} (g : Taking k s y) (some : 0 < newly k s y) {v : ℕ} (e : v ≡ waiting s.total) where
-  rear-within : k * (2 - v) ≤ length y
-  rear-within = rw (e, g.piece.size) (mul-le-mul_left k (omega arith))
+module _ {k : ℕ} {s : Recorder} {y : List ℕ} (g : Taking k s y) (some : 0 < newly k s y) {b v : ℕ} (eb : b ≡ k) (e : v ≡ waiting s.total) where
+  rear-within : b * (2 - v) ≤ length y
+  rear-within = rw (eb, e, g.piece.size) (mul-le-mul_left k (omega arith))
 
-  rear : rear_of (k * (2 - v)) y ≡ drop (k * (2 - waiting s.total)) y
-  rear = rear-is (k * (2 - v)) y ∙ ap (λ (u : ℕ). drop (k * (2 - u)) y) e
+  rear : rear_of (b * (2 - v)) y ≡ drop (k * (2 - waiting s.total)) y
+  rear = rear-is (b * (2 - v)) y ∙ ap₂ (λ (c u : ℕ). drop (c * (2 - u)) y) eb e
 
-  asked : {a d : List ℕ} → Front k (newly k s y) 1 (next_approx k s y) a → Front k (newly k s y) 1 (next_detail k s y) d → Others k (length d / k) (rear_of (k * (2 - v)) y) a d
+  asked : {a d : List ℕ} → Front k (newly k s y) 1 (next_approx k s y) a → Front k (newly k s y) 1 (next_detail k s y) d → Others k (length d / k) (rear_of (b * (2 - v)) y) a d
   asked a d =
       let h = holds-z g rear (omega arith) in
       record { width = g.width; samples = rw h.count h; approx = rw d.holds.count a.holds; details = rw d.holds.count d.holds; some = rw d.holds.count some; more = rw (d.holds.count, h.count) (enough (newly k s y) (waiting s.total) (length y / k) some (omega arith) (omega arith)) }
@@ -43,13 +44,13 @@ module _ {k : ℕ} {s : Recorder} {y : List ℕ} (g : Taking k s y) where
   highs e = e ∙ sym (between-high k (stand_in k s ++ y) (fixed s.total) (fixed (s.total + length y / k)) (omega arith) (omega (arith, count g)))
 
 pub returns-clause-a_after : goal.returns-clause-a_after
-returns-clause-a_after c =
-    let g = c.requires.taking in
-    let some = some_words c.requires.holds.1 c.if-d-eq0.false in
-    lows g (approxs-all g (rear g some c.waiting.ensures) some c.first.ensures.front_2 c.others.ensures.d_after c.first.ensures.front c.others.ensures.a_after)
+returns-clause-a_after g c =
+    let t = c.requires.taking in
+    let some = some_words c.requires.holds.1 (eqb-false _ 0 (sym c.is_empty.ensures ∙ c.if-is_empty.false)) in
+    lows t (approxs-all t (rear t some c.bytes.ensures c.waiting.ensures) some c.first.ensures.front_2 c.others.ensures.d_after c.first.ensures.front c.others.ensures.a_after)
 
 pub returns-clause-d_after : goal.returns-clause-d_after
-returns-clause-d_after c =
-    let g = c.requires.taking in
-    let some = some_words c.requires.holds.1 c.if-d-eq0.false in
-    highs g (details-all g (rear g some c.waiting.ensures) some c.first.ensures.front_2 c.others.ensures.d_after)
+returns-clause-d_after g c =
+    let t = c.requires.taking in
+    let some = some_words c.requires.holds.1 (eqb-false _ 0 (sym c.is_empty.ensures ∙ c.if-is_empty.false)) in
+    highs t (details-all t (rear t some c.bytes.ensures c.waiting.ensures) some c.first.ensures.front_2 c.others.ensures.d_after)

@@ -30,13 +30,13 @@ module _ {k : ℕ} {s : Recorder} {y : List ℕ} (g : Taking k s y) where
   m = fixed (s.total + length y / k)
 
   -- the state after the piece, which fixes n of each band, has the last detail that is written, of the word u
-  goes_on : {n e o u : ℕ} → n ≡ newly k s y → e ≡ next_word k s y (2 * n) → o ≡ next_word k s y (2 * n + 1) → u ≡ word_at k (take (k * m) (high k x)) (m - 1)
-      → record { total = s.total + length y / k; even = e; odd = o; detail = u } ≡ state_of k x
+  goes_on : {n q e o u : ℕ} → n ≡ newly k s y → q ≡ length y / k → e ≡ next_word k s y (2 * n) → o ≡ next_word k s y (2 * n + 1) → u ≡ word_at k (take (k * m) (high k x)) (m - 1)
+      → record { total = s.total + q; even = e; odd = o; detail = u } ≡ state_of k x
   unfolding state_of
-  goes_on {n} en ee eo eu =
+  goes_on {n} en eq ee eo eu =
       let at : 2 * fixed s.total + 2 * n ≡ 2 * m = omega arith in
       let next : 2 * fixed s.total + (2 * n + 1) ≡ 2 * m + 1 = omega arith in
-      rw (count g) (λ i. record { total = s.total + length y / k; even = (ee ∙ ap (word_at k x) at) i; odd = (eo ∙ ap (word_at k x) next) i; detail = eu i })
+      rw (count g) (λ i. record { total = s.total + eq i; even = (ee ∙ ap (word_at k x) at) i; odd = (eo ∙ ap (word_at k x) next) i; detail = eu i })
 
   -- a written detail
   written : 0 < m → detail_word k x (m - 1) ≡ word_at k (take (k * m) (high k x)) (m - 1)
@@ -69,5 +69,5 @@ module _ {k : ℕ} {s : Recorder} {y : List ℕ} (g : Taking k s y) where
             ∙ written (omega arith)
 
 pub returns : goal.returns
-returns c =
-    goes_on c.requires.taking (fits c.requires.taking c.requires.d_value).count c.word_of.ensures.0 c.word_of-2.ensures.0 (c.last_detail.ensures ∙ last-is c.requires.taking c.requires.d_value)
+returns g c =
+    goes_on c.requires.taking (c.count-n.ensures ∙ (fits c.requires.taking c.requires.d_value).count) c.count.ensures (c.to_word.ensures ∙ c.word_of.ensures) (c.to_word-2.ensures ∙ c.word_of-2.ensures) (c.last_detail.ensures ∙ last-is c.requires.taking c.requires.d_value)

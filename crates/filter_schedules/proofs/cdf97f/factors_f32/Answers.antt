@@ -1,9 +1,0 @@
--- `factors_f32` meets its contract: the factors by computing.
-use mathlib.Core.Path.{refl}
-use lib.Ieee.{neg, of_bits, round}
-use Rattle.filter_floats.specs.Filters.{decimal, rounded, factors64, factors32}
-use Rattle.filter_schedules.proofs.cdf97f.factors_f32.Goals as goal
-
-pub returns : goal.returns
-unfolding neg of_bits factors32 factors64 decimal rounded round
-returns c = refl
