@@ -7,6 +7,7 @@ ghost use Rattle.file_open.specs.Opens.{OpenGives, own_width, own_point};
 use base_answers::err::{Answer, Refusal};
 use base_input::read_full;
 use base_samples::integers::Sample;
+use base_signs::value;
 use file_open::head::head_in;
 use file_open::open::{OpenAnswer, open, own_point, own_width};
 use std::io;
@@ -23,7 +24,7 @@ fn print_samples<S: Sample>(rt: &impl Print, s: &[u8], n: usize) -> io::Result<(
     requires { n ≤ length s.now / S.bytes }
 {
     for i in 0..n {
-        println!(rt; "{}", S::get(s, i).signed())?;
+        println!(rt; "{}", value(S::bytes(), S::get(s, i).to_word()))?;
     }
     Ok(())
 }

@@ -118,6 +118,10 @@ all_zero s = list_all (λ c. eqb c 0) s
 abbrev pub unused_in : List ℕ → List ℕ
 unused_in b = slice (entry_start (length (entries_in b))) total_at b
 
+-- the data's count is that of the entries, and the area has so much
+abbrev pub has_total : List ℕ → Bool
+has_total b = eqb (le_at 4 b total_at) (total_in b) && leb (data_at + total_in b) (length b)
+
 unfoldable pub could_be : List ℕ → Bool
 could_be b =
     eqb (le_at 4 b 0) most

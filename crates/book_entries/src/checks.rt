@@ -2,7 +2,7 @@
 ghost use Rattle.std.specs.Prelude.{◌≡◌, ◌+◌, ◌≤◌, ◌<◌, length, drop};
 ghost use Rattle.base_answers.specs.Answers.{plain};
 ghost use Rattle.base_answers.specs.Checks.{passes};
-ghost use Rattle.book_entries.specs.Books.{most, data_at, entry_at, entries_in, is_head, is_only, are_entries, all_zero, could_be};
+ghost use Rattle.book_entries.specs.Books.{most, data_at, entry_at, entries_in, is_head, is_only, are_entries, all_zero, has_total, could_be};
 ghost use Rattle.book_entries.specs.Checks.{Book, space_checks, book_checks, room_checks, held_checks, say_add};
 
 use crate::directory::{DATA_AT, ENTRY_SIZE, MOST, TOTAL_AT, entry, held, slot_of, total_of};
@@ -50,19 +50,27 @@ fn all_zero(s: &[u8]) -> bool
     s.iter().all(|&x| x == 0)
 }
 
+// Whether the data's count is what the h entries that are held say, and the area has so much.
+#[tactic(auto, using(crate::proofs::Entries::walk))]
+fn has_total(b: &[u8], h: usize) -> bool
+    requires { (h ≡ length (entries_in b.now)) × (data_at ≤ length b.now) }
+    ensures { result ≡ has_total b.now }
+{
+    let total = total_of(b, h);
+    read_u32(b, TOTAL_AT) as usize == total && DATA_AT + total <= b.len()
+}
+
 // Whether calls can have left this directory and these counts. The data is not looked at.
 #[tactic(auto, using(crate::proofs::Entries::walk), unfolding(crate::specs::Books::could_be))]
 fn could_be(b: &[u8]) -> bool
     requires { data_at ≤ length b.now }
     ensures { result ≡ could_be b.now }
 {
+    if read_u32(b, 0) as usize != MOST {
+        return false;
+    }
     let h = held(b);
-    let total = total_of(b, h);
-    read_u32(b, 0) as usize == MOST
-        && are_entries(b, h)
-        && all_zero(&b[4 + ENTRY_SIZE * h..TOTAL_AT])
-        && read_u32(b, TOTAL_AT) as usize == total
-        && DATA_AT + total <= b.len()
+    are_entries(b, h) && all_zero(&b[4 + ENTRY_SIZE * h..TOTAL_AT]) && has_total(b, h)
 }
 
 // An area of n bytes.

@@ -12,6 +12,7 @@ ghost use Rattle.file_sample.specs.Peeks.{say_peek, peek_in, Peek};
 use crate::neighbours::word_of;
 use base_answers::err::{Answer, Refusal};
 use base_samples::integers::Sample;
+use base_signs::value;
 use file_open::head::head_in;
 use file_open::open::check_file;
 
@@ -29,11 +30,12 @@ fn number_of(s: &[u8], w: usize, levels: usize, n: usize, at: usize, j: usize) -
     requires j_lt_n { j < n }
     ensures { result ≡ val (256 ^ w) (word_in w s.now levels n at j) }
 {
-    match w {
-        1 => word_of::<u8>(s, levels, n, at, j).signed(),
-        2 => word_of::<u16>(s, levels, n, at, j).signed(),
-        _ => word_of::<u32>(s, levels, n, at, j).signed(),
-    }
+    let word = match w {
+        1 => word_of::<u8>(s, levels, n, at, j).to_word(),
+        2 => word_of::<u16>(s, levels, n, at, j).to_word(),
+        _ => word_of::<u32>(s, levels, n, at, j).to_word(),
+    };
+    value(w, word)
 }
 
 // The sample at a place of what opening the file for the width and the point would give back.

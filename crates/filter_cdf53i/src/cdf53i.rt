@@ -104,7 +104,8 @@ fn approximate_end<S: Sample>(x: &[u8], a: &mut [u8], last: usize, e: S)
     }
 }
 
-// The approximations of the samples in x alone, into a.
+// The approximations of the samples in x alone, into a. Not inlined, nor is `inverse`: the float filters beside them would reserve their arrays too.
+#[inline(never)]
 pub fn approximate<S: Sample>(x: &[u8], a: &mut [u8])
     requires input { Input S.bytes x.now }
     requires holds { Holds S.bytes (approx_length (length x.now / S.bytes)) a.old }
@@ -209,6 +210,7 @@ fn restore_end<S: Sample>(a: &[u8], d: &[u8], x: &mut [u8], last: usize, e: S)
 }
 
 // The samples whose approximations are in a and details in d, into x.
+#[inline(never)]
 pub fn inverse<S: Sample>(a: &[u8], d: &[u8], x: &mut [u8])
     requires { InputBands S.bytes x.old a.now d.now }
     ensures { x.new ≡ back S.bytes a.now d.now }

@@ -191,6 +191,8 @@ fn restore_block<F: Look>(
 }
 
 // The samples whose approximations are in a and details in d, into x. A block of small floats is read and written without tests.
+// Not inlined: the rows are 10 KB of stack at f64, which every filter's way back would reserve with it.
+#[inline(never)]
 fn restore_all<F: Look>(t: Factors<F>, a: &[u8], d: &[u8], x: &mut [u8])
     requires bands97 { Bands97 F.format (set_of F.float t) a.now d.now }
     requires restoring { Restoring F.format (set_of F.float t) a.now d.now x.old 0 }
