@@ -127,4 +127,4 @@ could_be b =
     eqb (le_at 4 b 0) most
     && (are_entries (entries_in b)
     && (all_zero (unused_in b)
-    && (eqb (le_at 4 b total_at) (total_in b) && leb (data_at + total_in b) (length b))))
+    && has_total b))
